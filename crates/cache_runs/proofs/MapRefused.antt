@@ -8,7 +8,7 @@ use Rattle.std.specs.Map.{keys_of}
 use Rattle.std.specs.Prelude.{not}
 use Rattle.glyph_map.specs.Retaining.{Answers, Retains, refused_keys, without_keys}
 use Rattle.glyph_map.specs.State.{Held, MapState, pairs_of}
-use Rattle.cache_runs.specs.Dropping.{is_among}
+use Rattle.cache_runs.specs.Dropping.{is_one_of}
 use Rattle.cache_runs.specs.MapRuns.{DropsKeys}
 use Rattle.cache_runs.proofs.Refused.{answered, kept-in_order, map-reversed, map-twice}
 
@@ -27,10 +27,10 @@ module _ {K : Type 0} where
   pub drops-keys : {F V : Type 0} (eq : K → K → Bool) (calls : Mut F (Bor K × (Bor V × Unit {0})) Bool) (test : F) (old new : MapState K V)
       → Retains calls eq test old new → (gone : List K) (stays : F → Type 0)
       → ((before : F) (key : Bor K) (value : Bor V) (answer : Bool) (after : F) → stays before → Called calls before (key, (value, tt)) answer after
-      → (answer ≡ not (is_among eq gone key.now)) × stays after)
+      → (answer ≡ not (is_one_of eq gone key.now)) × stays after)
       → stays test → DropsKeys eq old gone new
   drops-keys {F} {V} eq calls test old new retains gone stays tells at =
-      let p : K → Bool = is_among eq gone in
+      let p : K → Bool = is_one_of eq gone in
       let es : List (K × Held V) = old.entries in
       let key_of : K × Held V → K = λ e. e.0 in
       let pair_of : K × Held V → K × V = λ e. (e.0, e.1.value) in

@@ -21,7 +21,7 @@ use Rattle.cache_runs.specs.declared.map_calls.MapCall.{MapCall}
 use Rattle.cache_runs.specs.declared.map_calls.MapCall.TheVariants.{Place, UseKey, Remove, Retain, BeginFrame, Grow, SetCapacity, Clear}
 use Rattle.cache_runs.specs.declared.map_calls.MapReply.{MapReply}
 use Rattle.cache_runs.specs.declared.map_calls.MapReply.TheVariants as reply
-use Rattle.cache_runs.specs.Dropping.{is_among}
+use Rattle.cache_runs.specs.Dropping.{is_one_of}
 use Rattle.cache_runs.specs.MapRuns.{MayAnswer, PlacesAgain, PlacesNew}
 use Rattle.cache_runs.specs.MapTold.{Told, entries_seen, told_after, with_first_value, without_evicted, without_last}
 use Rattle.cache_runs.proofs.MapLeft.{left-listed, placed-listed, promoted-shown, removed-shown, revalued-listed, shown}
@@ -100,7 +100,7 @@ module _ {K V : Type 0} where
     told-step old new (Remove key) (reply.Removed rectangle value) (there, after) = ap entries_seen after ∙ removed-shown (eq key) old.entries
     told-step old new (Remove key) reply.NotThere (is_new, same) = ap entries_seen same
     told-step old new (Retain gone) reply.Retained drops =
-        ap (map shown) drops.order ∙ kept-shown seen (λ key. not (is_among eq gone.items key)) old.entries
+        ap (map shown) drops.order ∙ kept-shown seen (λ key. not (is_one_of eq gone.items key)) old.entries
     told-step old new (Retain gone) reply.NoMemory same = ap entries_seen same
     told-step old new BeginFrame reply.Begun after = ap entries_seen after
     told-step old new (Grow size) reply.Grown (none, after) = ap entries_seen after

@@ -11,7 +11,7 @@ use Rattle.glyph_shelf.proofs.Callers.{keeps-used}
 use Rattle.padding.specs.Padding.{padded, with_padding}
 use Rattle.padded_cache.specs.Padded.{KeepsCachePadding, PaddedCacheState, trimmed_list}
 use Rattle.padded_cache.proofs.PaddedLemmas.{keeps-padding}
-use Rattle.cache_runs.specs.Dropping.{is_among}
+use Rattle.cache_runs.specs.Dropping.{is_one_of}
 use Rattle.cache_runs.specs.declared.padded_calls.PaddedCall.{PaddedCall}
 use Rattle.cache_runs.specs.declared.padded_calls.PaddedCall.TheVariants.{Place, Get, Remove, Retain, BeginFrame, Grow, SetCapacity, Clear}
 use Rattle.cache_runs.specs.declared.padded_calls.PaddedReply.{PaddedReply}
@@ -40,7 +40,7 @@ kept-step old new (Remove key) (reply.Removed rectangle) was atlas (there, after
     kept-as new _ (ap (λ (s : PaddedCacheState). s.cache) after) (keeps-without_key old.cache key was)
 kept-step old new (Remove key) reply.NotThere was atlas (is_new, same) = kept-as new _ (ap (λ (s : PaddedCacheState). s.cache) same) was
 kept-step old new (Retain gone) reply.Retained was atlas (drops, same) =
-    kept-as new _ drops.left (keeps-without_keys old.cache (filter (is_among nat_eq gone.items) (reverse (keys_of old.cache.entries))) was)
+    kept-as new _ drops.left (keeps-without_keys old.cache (filter (is_one_of nat_eq gone.items) (reverse (keys_of old.cache.entries))) was)
 kept-step old new BeginFrame reply.Begun was atlas after = kept-as new _ (ap (λ (s : PaddedCacheState). s.cache) after) (keeps-framed old.cache was)
 kept-step old new (Grow size) reply.Grown was atlas (none, after) =
     kept-as new _ (ap (λ (s : PaddedCacheState). s.cache) after) (keeps-larger old.cache size none was)

@@ -20,7 +20,7 @@ use Rattle.glyph_shelf.specs.declared.cache.Placed.{Placed}
 use Rattle.glyph_shelf.proofs.Callers.{entries-after_dropping}
 use Rattle.used_keys.proofs.Entries.{removed-unknown}
 use Rattle.padded_cache.specs.Padded.{PaddedCacheState, trimmed_entry, trimmed_list}
-use Rattle.cache_runs.specs.Dropping.{is_among}
+use Rattle.cache_runs.specs.Dropping.{is_one_of}
 use Rattle.cache_runs.specs.declared.padded_calls.PaddedCall.{PaddedCall}
 use Rattle.cache_runs.specs.declared.padded_calls.PaddedCall.TheVariants.{Place, Get, Remove, Retain, BeginFrame, Grow, SetCapacity, Clear}
 use Rattle.cache_runs.specs.declared.padded_calls.PaddedReply.{PaddedReply}
@@ -155,8 +155,8 @@ seen-step old new (Remove key) (reply.Removed rectangle) (there, after) =
     ∙ removed-shown (seen old.padding) (nat_eq key) old.cache.entries
 seen-step old new (Remove key) reply.NotThere (is_new, same) = ap (λ (s : PaddedCacheState). told_of s.padding s.cache.entries) same
 seen-step old new (Retain gone) reply.Retained (drops, same) =
-    told-entries old new (filter (λ (e : ℕ × Allocation). not (is_among nat_eq gone.items e.0)) old.cache.entries) same drops.order
-    ∙ kept-shown (seen old.padding) (λ key. not (is_among nat_eq gone.items key)) old.cache.entries
+    told-entries old new (filter (λ (e : ℕ × Allocation). not (is_one_of nat_eq gone.items e.0)) old.cache.entries) same drops.order
+    ∙ kept-shown (seen old.padding) (λ key. not (is_one_of nat_eq gone.items key)) old.cache.entries
 seen-step old new BeginFrame reply.Begun after = ap (λ (s : PaddedCacheState). told_of s.padding s.cache.entries) after
 seen-step old new (Grow size) reply.Grown (none, after) = ap (λ (s : PaddedCacheState). told_of s.padding s.cache.entries) after
 seen-step old new (Grow size) (reply.NotGrown fault) (is_fault, same) = ap (λ (s : PaddedCacheState). told_of s.padding s.cache.entries) same

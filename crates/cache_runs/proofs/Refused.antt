@@ -10,7 +10,7 @@ use Rattle.etagere_base.specs.declared.geometry.Rectangle.{Rectangle}
 use Rattle.etagere_base.specs.declared.ids.Allocation.{Allocation}
 use Rattle.glyph_shelf.specs.Cache.{CacheState, listed}
 use Rattle.glyph_shelf.specs.Retaining.{Retains, refused_keys, without_keys}
-use Rattle.cache_runs.specs.Dropping.{is_among}
+use Rattle.cache_runs.specs.Dropping.{is_one_of}
 use Rattle.cache_runs.specs.PaddedRuns.{DropsKeys}
 
 module _ {X : Type 0} where
@@ -87,10 +87,10 @@ refused-among p (key ∷ keys) = here (p key) (refused-among p keys)
 pub drops-keys : {F : Type 0} (says : F → ℕ → Rectangle → Bool → F → Type 0) (test : F) (old new : CacheState) → Retains says test old new
     → (gone : List ℕ) (stays : F → Type 0)
     → ((before : F) (key : ℕ) (rectangle : Rectangle) (answer : Bool) (after : F) → stays before → says before key rectangle answer after
-    → (answer ≡ not (is_among nat_eq gone key)) × stays after)
+    → (answer ≡ not (is_one_of nat_eq gone key)) × stays after)
     → stays test → DropsKeys old gone new
 drops-keys {F} says test old new retains gone stays tells at =
-    let p : ℕ → Bool = is_among nat_eq gone in
+    let p : ℕ → Bool = is_one_of nat_eq gone in
     let es : List (ℕ × Allocation) = old.entries in
     let key_of : ℕ × Allocation → ℕ = λ e. e.0 in
     let shown : ℕ × Allocation → ℕ × Rectangle = λ e. (e.0, e.1.rectangle) in

@@ -10,7 +10,7 @@ use Rattle.glyph_map.specs.Placing.{IsFrameFull, IsLeft, IsNew, IsTooLarge, Plac
 use Rattle.glyph_map.specs.Promises.{KeepsMapPromises}
 use Rattle.glyph_map.specs.Retaining.{without_keys}
 use Rattle.glyph_map.specs.State.{Held, MapState}
-use Rattle.cache_runs.specs.Dropping.{is_among}
+use Rattle.cache_runs.specs.Dropping.{is_one_of}
 use Rattle.cache_runs.specs.Grows.{IsNotGrown}
 use Rattle.cache_runs.specs.MapTold.{entries_seen, told_from}
 use Rattle.cache_runs.specs.declared.map_calls.MapCall.{MapCall}
@@ -62,8 +62,8 @@ module _ {K V : Type 0} (eq : K → K → Bool) where
 
   -- these keys go, one after another, the least recently used first; the others stand in the order of use
   pub record DropsKeys (old : MapState K V) (gone : List K) (new : MapState K V) : Type 0 where
-    pub left : new ≡ without_keys eq old (filter (is_among eq gone) (reverse (keys_of old.entries)))
-    pub order : new.entries ≡ filter (λ (entry : K × Held V). not (is_among eq gone entry.0)) old.entries
+    pub left : new ≡ without_keys eq old (filter (is_one_of eq gone) (reverse (keys_of old.entries)))
+    pub order : new.entries ≡ filter (λ (entry : K × Held V). not (is_one_of eq gone entry.0)) old.entries
 
   -- a map may give this reply to a call, and become the new one
   abbrev pub MayAnswer : MapState K V → MapCall K V → MapReply K V → MapState K V → Type 0

@@ -6,7 +6,7 @@ use Rattle.lru.specs.LruCache.{promoted}
 use Rattle.etagere_base.specs.declared.geometry.Rectangle.{Rectangle}
 use Rattle.glyph_map.specs.Calls.{seen}
 use Rattle.glyph_map.specs.State.{Held, MapState}
-use Rattle.cache_runs.specs.Dropping.{is_among}
+use Rattle.cache_runs.specs.Dropping.{is_one_of}
 use Rattle.cache_runs.specs.declared.map_calls.MapCall.{MapCall}
 use Rattle.cache_runs.specs.declared.map_calls.MapCall.TheVariants.{Place, UseKey, Remove, Retain}
 use Rattle.cache_runs.specs.declared.map_calls.MapReply.{MapReply}
@@ -47,7 +47,7 @@ module _ {K V : Type 0} where
     told_after (UseKey key) (At rectangle) told = promoted (eq key) told
     told_after (Remove key) (Removed rectangle value) told = remove_entry (eq key) told
     told_after (Retain gone) Retained told =
-        filter (λ (entry : K × (Rectangle × V)). not (is_among eq gone.items entry.0)) told
+        filter (λ (entry : K × (Rectangle × V)). not (is_one_of eq gone.items entry.0)) told
     told_after call (Evicted evicted) told = without_last (length evicted.items) told
     told_after call Cleared told = []
     told_after call answer told = told

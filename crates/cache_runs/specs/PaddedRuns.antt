@@ -18,7 +18,7 @@ use Rattle.glyph_shelf.specs.declared.faults.GlyphFault.TheVariants.{TooLarge, M
 use Rattle.glyph_shelf.specs.declared.cache.Placed.{Placed}
 use Rattle.padding.specs.Padding.{HasSize, padded}
 use Rattle.padded_cache.specs.Padded.{KeepsCachePadding, PaddedCacheState, PlacesPadded, trimmed_at, trimmed_list}
-use Rattle.cache_runs.specs.Dropping.{is_among}
+use Rattle.cache_runs.specs.Dropping.{is_one_of}
 use Rattle.cache_runs.specs.Grows.{IsNotGrown}
 use Rattle.cache_runs.specs.declared.padded_calls.PaddedCall.{PaddedCall}
 use Rattle.cache_runs.specs.declared.padded_calls.PaddedCall.TheVariants.{Place, Get, Remove, Retain, BeginFrame, Grow, SetCapacity, Clear}
@@ -62,8 +62,8 @@ pub record RefusesNew (old : PaddedCacheState) (key : ℕ) (size : Size) (fault 
 
 -- these keys go, one after another, the least recently used first; the others stand in the order of use
 pub record DropsKeys (old : CacheState) (gone : List ℕ) (new : CacheState) : Type 0 where
-  pub left : new ≡ without_keys old (filter (is_among nat_eq gone) (reverse (keys_of old.entries)))
-  pub order : new.entries ≡ filter (λ (entry : ℕ × Allocation). not (is_among nat_eq gone entry.0)) old.entries
+  pub left : new ≡ without_keys old (filter (is_one_of nat_eq gone) (reverse (keys_of old.entries)))
+  pub order : new.entries ≡ filter (λ (entry : ℕ × Allocation). not (is_one_of nat_eq gone entry.0)) old.entries
 
 -- a cache may give this reply to a call, and become the new one
 abbrev pub MayAnswer : PaddedCacheState → PaddedCall → PaddedReply → PaddedCacheState → Type 0
@@ -119,7 +119,7 @@ told_after call (reply.Refused (Memory evicted)) told = without_last (length evi
 told_after (Get key) (reply.At rectangle) told = promoted (nat_eq key) told
 told_after (Remove key) (reply.Removed rectangle) told = remove_entry (nat_eq key) told
 told_after (Retain gone) reply.Retained told =
-    filter (λ (entry : ℕ × Rectangle). not (is_among nat_eq gone.items entry.0)) told
+    filter (λ (entry : ℕ × Rectangle). not (is_one_of nat_eq gone.items entry.0)) told
 told_after call (reply.Evicted evicted) told = without_last (length evicted.items) told
 told_after call reply.Cleared told = []
 told_after call answer told = told

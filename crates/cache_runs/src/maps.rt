@@ -3,7 +3,7 @@
 //! Definitions: `MapRuns` for what a call does and what holds, `MapTold` for what replies tell.
 
 ghost use Rattle.std.specs.Prelude.{◌≡◌, not};
-ghost use Rattle.cache_runs.specs.Dropping.{is_among};
+ghost use Rattle.cache_runs.specs.Dropping.{is_one_of};
 ghost use Rattle.cache_runs.specs.MapRuns.{EveryRunKeepsPromises, NeedsNoClone, Step};
 ghost use Rattle.glyph_map.specs.Promises.{KeepsMapPromises};
 ghost use Rattle.glyph_map.specs.Retaining.{AreClonesEqual};
@@ -55,7 +55,7 @@ pub fn retain_on_map<K: Eq + Hash + Clone, V: Drop>(
     ensures promises { KeepsMapPromises K.eq map.new }
 {
     let stays = |key: &K, _: &V|
-        ensures { result ≡ not (is_among K.eq gone.items key.now) }
+        ensures { result ≡ not (is_one_of K.eq gone.items key.now) }
     { !gone.contains(key) };
     match map.retain(stays) {
         Ok(()) => MapReply::Retained,

@@ -3,7 +3,7 @@
 //! Definition: `PaddedRuns`.
 
 ghost use Rattle.std.specs.Prelude.{◌≡◌, nat_eq, not};
-ghost use Rattle.cache_runs.specs.Dropping.{is_among};
+ghost use Rattle.cache_runs.specs.Dropping.{is_one_of};
 ghost use Rattle.cache_runs.specs.PaddedRuns.{EveryRunKeepsPromises, Step};
 
 use crate::padded_calls::{PaddedCall, PaddedReply};
@@ -66,7 +66,7 @@ fn retain(cache: &mut PaddedCache, gone: Vec<u64>) -> PaddedReply
     ensures { Step cache.old (PaddedCall.Retain gone) result cache.new }
 {
     let stays = |key: u64, _: Rectangle|
-        ensures { result ≡ not (is_among nat_eq gone.items key) }
+        ensures { result ≡ not (is_one_of nat_eq gone.items key) }
     { !gone.contains(&key) };
     cache.retain(stays);
     PaddedReply::Retained

@@ -12,7 +12,7 @@ use Rattle.etagere_base.specs.declared.ids.Allocation.{Allocation}
 use Rattle.shelf_model.specs.Choice.{placement_of}
 use Rattle.shelf_model.specs.Returning.{returned}
 use Rattle.shelf_model.specs.State.{AtlasState}
-use Rattle.used_keys.specs.Keys.{stands_among, uses_left, uses_with, uses_without}
+use Rattle.used_keys.specs.Keys.{stands_first, uses_left, uses_with, uses_without}
 use Rattle.glyph_shelf.specs.Cache.{CacheState, after_dropping, dropped_keys, rectangle_at, used, without_key, without_last}
 use Rattle.glyph_shelf.specs.Placing.{has_room}
 use Rattle.glyph_run.proofs.EntriesTold.{held_by, removed-held}
@@ -94,7 +94,7 @@ module _ (name : ℕ → ℕ) where
   known-renamed test es = ap is_some (lookup-renamed test es) ∙ is_some-map (renamed_allocation name) (lookup test es)
 
   -- a key stands among the first alike
-  among-renamed : (key : ℕ) (es : List (ℕ × Allocation)) (n : ℕ) → stands_among key (renamed_entries name es) n ≡ stands_among key es n
+  among-renamed : (key : ℕ) (es : List (ℕ × Allocation)) (n : ℕ) → stands_first key (renamed_entries name es) n ≡ stands_first key es n
   among-renamed key es n =
       ap (λ (l : List (ℕ × Allocation)). is_some (lookup (nat_eq key) l)) (take-map (held_by (renamed_allocation name)) n es) ∙ known-renamed (nat_eq key) (take n es)
 

@@ -14,7 +14,7 @@ use Rattle.etagere_base.specs.declared.geometry.Rectangle.{Rectangle}
 use Rattle.etagere_base.specs.declared.ids.Allocation.{Allocation}
 use Rattle.shelf_model.specs.Returning.{returned}
 use Rattle.shelf_model.specs.State.{AtlasState}
-use Rattle.used_keys.specs.Keys.{stands_among, uses_in, uses_left, uses_with, uses_without}
+use Rattle.used_keys.specs.Keys.{stands_first, uses_in, uses_left, uses_with, uses_without}
 use Rattle.glyph_shelf.specs.Cache.{CacheState, frame_uses, in_new_frame, listed, used, without_key, without_last}
 use Rattle.glyph_shelf.specs.Private.Asking.{Asks, AsksInTurn, turned}
 use Rattle.glyph_shelf.specs.Retaining.{Retains, refused_keys, without_keys}
@@ -283,7 +283,7 @@ uses-behind : (front back : Entries) (e : ℕ × Allocation) (uses : Option ℕ)
     → uses_in uses ≤ length front → option_map (uses_without e.0 (front ++ back)) uses ≡ uses
 uses-behind front back e None unknown few = refl
 uses-behind front back e (Some n) unknown few =
-    let among : stands_among e.0 (front ++ back) n ≡ false =
+    let among : stands_first e.0 (front ++ back) n ≡ false =
     ap (λ (l : Entries). is_some (lookup (nat_eq e.0) l)) (take-append-le n front back few) ∙ ap is_some (unknown-take (nat_eq e.0) n front unknown) in
     rw among refl
 
@@ -291,7 +291,7 @@ uses-here : (front back : Entries) (e : ℕ × Allocation) (n : ℕ) → lookup 
     → uses_without e.0 (front ++ e ∷ back) (suc n) ≡ n
 uses-here front back e n unknown less =
     let own : nat_eq e.0 e.0 ≡ true = grind (arith, nat_tests) in
-    let among : stands_among e.0 (front ++ e ∷ back) (suc n) ≡ true = among-middle (nat_eq e.0) e own front back (suc n) (omega arith) in
+    let among : stands_first e.0 (front ++ e ∷ back) (suc n) ≡ true = among-middle (nat_eq e.0) e own front back (suc n) (omega arith) in
     rw among (omega arith)
 
 uses-more : (front : Entries) (e : ℕ × Allocation) (n : ℕ) → lookup (nat_eq e.0) front ≡ None → n ≤ length front
@@ -299,7 +299,7 @@ uses-more : (front : Entries) (e : ℕ × Allocation) (n : ℕ) → lookup (nat_
 uses-more front e n unknown few =
     let own : nat_eq e.0 e.0 ≡ true = grind (arith, nat_tests) in
     let there : lookup (nat_eq e.0) (front ++ e ∷ []) ≡ Some e.1 = known-middle (nat_eq e.0) e own front [] unknown in
-    let among : stands_among e.0 (front ++ e ∷ []) n ≡ false =
+    let among : stands_first e.0 (front ++ e ∷ []) n ≡ false =
     ap (λ (l : Entries). is_some (lookup (nat_eq e.0) l)) (take-append-le n front (e ∷ []) few) ∙ ap is_some (unknown-take (nat_eq e.0) n front unknown) in
     rw (among, there) refl
 

@@ -7,11 +7,11 @@ use Rattle.std.specs.Map.{lookup, remove_entry}
 use Rattle.std.specs.Option.{option_map_or}
 use Rattle.std.specs.Prelude.{cond, is_some, nat_eq, nat_lt, option_map}
 use Rattle.etagere_base.specs.declared.ids.Allocation.{Allocation}
-use Rattle.used_keys.specs.Keys.{KeysState, stands_among, uses_in, uses_left, uses_with, uses_without, without}
+use Rattle.used_keys.specs.Keys.{KeysState, stands_first, uses_in, uses_left, uses_with, uses_without, without}
 
 -- a key that is there, and not among the first, stands behind them
 behind : (key : ℕ) (es : List (ℕ × Allocation)) (a : Allocation) (count : ℕ) → lookup (nat_eq key) es ≡ Some a
-    → stands_among key es count ≡ false → count < length es
+    → stands_first key es count ≡ false → count < length es
 behind key es a count found among = elim (nat_lt count (length es)) as (λ b. nat_lt count (length es) ≡ b → count < length es) [
   | true ↦ λ is. grind (arith, nat_tests)
   | false ↦ λ is.
@@ -24,9 +24,9 @@ behind key es a count found among = elim (nat_lt count (length es)) as (λ b. na
 pub few-with : (key : ℕ) (es : List (ℕ × Allocation)) (a : Allocation) (uses : Option ℕ) → lookup (nat_eq key) es ≡ Some a
     → uses_in uses ≤ length es → uses_in (option_map (uses_with key es) uses) ≤ length es
 few-with key es a None found few = omega arith
-few-with key es a (Some count) found few = by_place (stands_among key es count) refl
+few-with key es a (Some count) found few = by_place (stands_first key es count) refl
   where
-    by_place : (b : Bool) → stands_among key es count ≡ b
+    by_place : (b : Bool) → stands_first key es count ≡ b
         → cond b count (cond (is_some (lookup (nat_eq key) es)) (suc count) count) ≤ length es
     by_place true among = few
     by_place false among =
@@ -37,9 +37,9 @@ few-with key es a (Some count) found few = by_place (stands_among key es count) 
 pub few-without : (key : ℕ) (es : List (ℕ × Allocation)) (a : Allocation) (uses : Option ℕ) → lookup (nat_eq key) es ≡ Some a
     → uses_in uses ≤ length es → uses_in (option_map (uses_without key es) uses) ≤ length es - 1
 few-without key es a None found few = omega arith
-few-without key es a (Some count) found few = by_place (stands_among key es count) refl
+few-without key es a (Some count) found few = by_place (stands_first key es count) refl
   where
-    by_place : (b : Bool) → stands_among key es count ≡ b → cond b (count - 1) count ≤ length es - 1
+    by_place : (b : Bool) → stands_first key es count ≡ b → cond b (count - 1) count ≤ length es - 1
     by_place true among = omega arith
     by_place false among = let less = behind key es a count found among in omega arith
 
@@ -58,7 +58,7 @@ pub with-unknown : (key : ℕ) (es : List (ℕ × Allocation)) (uses : Option �
     → ((n : ℕ) → lookup (nat_eq key) (take n es) ≡ None) → option_map (uses_with key es) uses ≡ uses
 with-unknown key es None unknown first = refl
 with-unknown key es (Some count) unknown first =
-    let among : stands_among key es count ≡ false = ap is_some (first count) in
+    let among : stands_first key es count ≡ false = ap is_some (first count) in
     rw (among, unknown) refl
 
 -- what becomes of keys when one goes

@@ -6,7 +6,7 @@ use Rattle.std.specs.Option.{option_map_or}
 use Rattle.std.specs.Prelude.{is_some, min, nat_eq, option_map}
 use Rattle.etagere_base.specs.declared.ids.Allocation.{Allocation}
 use Rattle.used_keys.specs.declared.stamps.Entry.{Entry}
-use Rattle.used_keys.specs.Keys.{KeysState, entered, framed, looked, stands_among, uses_with, uses_without, without, without_last}
+use Rattle.used_keys.specs.Keys.{KeysState, entered, framed, looked, stands_first, uses_with, uses_without, without, without_last}
 use Rattle.used_keys.specs.Private.Stamps.{AreFalling, stamped_first, unstamped, used_in, with_stamp}
 use Rattle.used_keys.proofs.BareEntries.{length-bare, lookup-bare, promoted-bare, removed-bare, take-bare}
 use Rattle.used_keys.proofs.Entries.{lookup-entry, promoted-unknown, removed-unknown, unknown-take}
@@ -37,11 +37,11 @@ uses-used frame key es e falling found =
     by_stamp (e.frame == frame) (stamped-found (nat_eq key) frame es e falling found)
     (stamped-removed (nat_eq key) frame es e falling found) (is_some (lookup (nat_eq key) (unstamped es))) there
   where
-    by_stamp : (b : Bool) → stands_among key (unstamped es) (stamped_first frame es) ≡ b
+    by_stamp : (b : Bool) → stands_first key (unstamped es) (stamped_first frame es) ≡ b
         → stamped_first frame es ≡ stamped_first frame (remove_entry (nat_eq key) es) + cond b 1 0
         → (there : Bool) → there ≡ true
         → suc (stamped_first frame (remove_entry (nat_eq key) es))
-        ≡ cond (stands_among key (unstamped es) (stamped_first frame es)) (stamped_first frame es) (cond there (suc (stamped_first frame es)) (stamped_first frame es))
+        ≡ cond (stands_first key (unstamped es) (stamped_first frame es)) (stamped_first frame es) (cond there (suc (stamped_first frame es)) (stamped_first frame es))
     by_stamp true among counted there is = rw among (omega arith)
     by_stamp false among counted true is = rw among (omega arith)
     by_stamp false among counted false is = absurd (cc)
@@ -51,7 +51,7 @@ uses-unknown : (frame key : ℕ) (es : List (ℕ × Entry)) → lookup (nat_eq k
     → uses_with key (unstamped es) (stamped_first frame es) ≡ stamped_first frame es
 uses-unknown frame key es unknown =
     let bare_unknown : lookup (nat_eq key) (unstamped es) ≡ None = lookup-bare (nat_eq key) es ∙ ap (option_map (λ (x : Entry). x.allocation)) unknown in
-    let among : stands_among key (unstamped es) (stamped_first frame es) ≡ false =
+    let among : stands_first key (unstamped es) (stamped_first frame es) ≡ false =
     ap is_some (unknown-take (nat_eq key) (stamped_first frame es) (unstamped es) bare_unknown) in
     rw (among, bare_unknown) refl
 
@@ -99,7 +99,7 @@ removed-without frame key cap es e falling found =
     (λ (a : Allocation). record { entries = remove_entry (nat_eq key) (unstamped es); cap = cap; uses = option_map (uses_without key (unstamped es)) (uses_of frame (stamped_first frame es)) })
     o (state_of es cap frame)) there)
   where
-    by_stamp : (b : Bool) → stands_among key (unstamped es) (stamped_first frame es) ≡ b
+    by_stamp : (b : Bool) → stands_first key (unstamped es) (stamped_first frame es) ≡ b
         → stamped_first frame es ≡ stamped_first frame (remove_entry (nat_eq key) es) + cond b 1 0
         → stamped_first frame (remove_entry (nat_eq key) es) ≡ uses_without key (unstamped es) (stamped_first frame es)
     by_stamp true among counted = rw among (omega arith)

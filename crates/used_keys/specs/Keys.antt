@@ -27,18 +27,18 @@ abbrev pub frame_uses : KeysState → ℕ
 frame_uses state = uses_in state.uses
 
 -- a key stands among the first entries
-abbrev pub stands_among : ℕ → List (ℕ × Allocation) → ℕ → Bool
-stands_among key entries count = is_some (lookup (nat_eq key) (take count entries))
+abbrev pub stands_first : ℕ → List (ℕ × Allocation) → ℕ → Bool
+stands_first key entries count = is_some (lookup (nat_eq key) (take count entries))
 
 -- the uses when a key is used: it is one of them, or one more, or isn't there
 abbrev pub uses_with : ℕ → List (ℕ × Allocation) → ℕ → ℕ
 uses_with key entries uses =
-    cond (stands_among key entries uses) uses
+    cond (stands_first key entries uses) uses
     (cond (is_some (lookup (nat_eq key) entries)) (suc uses) uses)
 
 -- the uses when a key that is there goes
 abbrev pub uses_without : ℕ → List (ℕ × Allocation) → ℕ → ℕ
-uses_without key entries uses = cond (stands_among key entries uses) (uses - 1) uses
+uses_without key entries uses = cond (stands_first key entries uses) (uses - 1) uses
 
 -- the uses when only so many entries are left
 abbrev pub uses_left : ℕ → Option ℕ → Option ℕ

@@ -23,7 +23,7 @@ use Rattle.shelf_store.proofs.ByHeight.MergedByHeight.{HoldsByHeight, raised-by_
 use Rattle.shelf_store.proofs.Spelled.ItemMerged.{MergesItem}
 use Rattle.shelf_store.proofs.Spelled.ItemsAround.{map-parts}
 use Rattle.shelf_store.proofs.Spelled.ReturnedLengths.{SameLengths, emptied-lengths}
-use Rattle.shelf_store.proofs.Spelled.SpelledLists.{with_lists, IsSpelled}
+use Rattle.shelf_store.proofs.Spelled.SpelledLists.{with_records, IsSpelled}
 
 -- what an item that became free leaves of shelves by height, and of those whose bound was raised once its shelf says
 -- whether it is empty
@@ -32,15 +32,15 @@ pub record FreesByHeight (atlas new : AtlasRecords) (merged : List LinkedShelf) 
   pub in_list : (by_height : List BoundedShelf) → HoldsByHeight atlas entries by_height → HoldsByHeight new edited (raised shelf width by_height)
 
 -- an item became free, and its shelf says whether it is empty
-pub frees-by_height : (atlas : AtlasRecords) (around : Around) (shelf number : ℕ) (front back free : List ℕ) → IsShelf atlas.frame (spelled_shelf atlas (entry_of shelf (front ++ number ∷ back) free)) → IsSpelled atlas (with_entry around (entry_of shelf (front ++ number ∷ back) free)) → (merges : MergesItem atlas (item_merged shelf number atlas.records) around shelf number front back free) → map (spelled_shelf (with_lists atlas (emptiness_said shelf (item_merged shelf number atlas.records).records))) (around.before ++ entry_of shelf merges.numbers merges.free_list ∷ around.after) ≡ map (spelled_shelf (with_lists atlas (item_merged shelf number atlas.records).records)) (around.before ++ entry_of shelf merges.numbers merges.free_list ∷ around.after) → FreesByHeight atlas (with_lists atlas (emptiness_said shelf (item_merged shelf number atlas.records).records)) (item_merged shelf number atlas.records).records.shelves (around.before ++ entry_of shelf (front ++ number ∷ back) free ∷ around.after) (around.before ++ entry_of shelf merges.numbers merges.free_list ∷ around.after) shelf (freed_width atlas.records.items number)
+pub frees-by_height : (atlas : AtlasRecords) (around : Around) (shelf number : ℕ) (front back free : List ℕ) → IsShelf atlas.frame (spelled_shelf atlas (entry_of shelf (front ++ number ∷ back) free)) → IsSpelled atlas (with_entry around (entry_of shelf (front ++ number ∷ back) free)) → (merges : MergesItem atlas (item_merged shelf number atlas.records) around shelf number front back free) → map (spelled_shelf (with_records atlas (emptiness_said shelf (item_merged shelf number atlas.records).records))) (around.before ++ entry_of shelf merges.numbers merges.free_list ∷ around.after) ≡ map (spelled_shelf (with_records atlas (item_merged shelf number atlas.records).records)) (around.before ++ entry_of shelf merges.numbers merges.free_list ∷ around.after) → FreesByHeight atlas (with_records atlas (emptiness_said shelf (item_merged shelf number atlas.records).records)) (item_merged shelf number atlas.records).records.shelves (around.before ++ entry_of shelf (front ++ number ∷ back) free ∷ around.after) (around.before ++ entry_of shelf merges.numbers merges.free_list ∷ around.after) shelf (freed_width atlas.records.items number)
 frees-by_height atlas around shelf number front back free valid spelled merges said =
     let old : List LinkedShelf = atlas.records.shelves in
     let entry : Entry = entry_of shelf (front ++ number ∷ back) free in
     let edited : Entry = entry_of shelf merges.numbers merges.free_list in
     let one : Records = (item_merged shelf number atlas.records).records in
     let two : Records = emptiness_said shelf one in
-    let middle : AtlasRecords = with_lists atlas one in
-    let new : AtlasRecords = with_lists atlas two in
+    let middle : AtlasRecords = with_records atlas one in
+    let new : AtlasRecords = with_records atlas two in
     let change : LinkedShelf → LinkedShelf = λ x. record x { is_empty = names_one_free one.items (first_item_of one.shelves shelf) } in
     let along : (k : ℕ) → along_of two.shelves k ≡ along_of old k = λ k. field_at-kept (λ (x : LinkedShelf). x.x) 0 change one.shelves shelf k (λ x. refl) ∙ (merges.same k).along in
     let across : (k : ℕ) → across_of two.shelves k ≡ across_of old k = λ k. field_at-kept (λ (x : LinkedShelf). x.y) 0 change one.shelves shelf k (λ x. refl) ∙ (merges.same k).across in

@@ -10,7 +10,7 @@ use Rattle.shelf_heights.proofs.ByHeight.Edited.{by_height-in_order}
 use Rattle.shelf_store.proofs.ByHeight.MergedByHeight.{HaveOwnPlaces, HoldsByHeight}
 use Rattle.shelf_store.proofs.ByHeight.PlacesRise.{LiesWithin, kept-within, places-rise}
 use Rattle.shelf_store.proofs.ByHeight.RisingNumbers.{rise-same}
-use Rattle.shelf_store.proofs.Spelled.SpelledLists.{with_lists}
+use Rattle.shelf_store.proofs.Spelled.SpelledLists.{with_records}
 use Rattle.shelf_records.proofs.Recorded.Members.{Each-member}
 
 -- the shelves of kept records begin at places of their own
@@ -31,7 +31,7 @@ kept-by_height frame records by_height kept are =
     record { once = are.once; order = by_height-in_order frame records by_height kept are; bounds = are.bounds; few = kept.counts.shelves.1; places = kept-places frame records kept }
 
 -- the shelves of records that spell some lists, by height
-pub by_height-kept : (frame : Frame) (records new : Records) (lists : Lists) (by_height : List BoundedShelf) → walked_lists new ≡ lists → HoldsByHeight (with_lists (atlas_of frame records) new) lists.entries by_height → AreByHeight frame new by_height
+pub by_height-kept : (frame : Frame) (records new : Records) (lists : Lists) (by_height : List BoundedShelf) → walked_lists new ≡ lists → HoldsByHeight (with_records (atlas_of frame records) new) lists.entries by_height → AreByHeight frame new by_height
 by_height-kept frame records new lists by_height walked in_list =
     subst (λ (l : Lists). IsByHeight (bare frame new) l.entries by_height) (sym walked)
     (record { once = in_list.once; rising = in_list.order.rising; bounds = in_list.bounds })

@@ -19,7 +19,7 @@ use Rattle.shelf_heights.specs.declared.by_height.BoundedShelf.{BoundedShelf}
 use Rattle.shelf_heights.proofs.ByHeight.Edited.{Each-put_in, Each-raised, Each-taken_out, bound_of-each, in_order-kept, in_order-once, in_order-put_in, in_order-raised, in_order-taken_out, numbers-raised, numbers-taken_out, bounded_as, times-put_in}
 use Rattle.shelf_store.proofs.ByHeight.FreedBounds.{IsWithin, within-more}
 use Rattle.shelf_records.proofs.Spelled.RecordValues.{SameShelf, map-agrees}
-use Rattle.shelf_store.proofs.Spelled.SpelledLists.{with_lists}
+use Rattle.shelf_store.proofs.Spelled.SpelledLists.{with_records}
 use Rattle.shelf_store.proofs.Spelled.SpelledShelves.{IsTaller, shelf_absorbed-values}
 use Rattle.shelf_heights.proofs.ByHeight.Positions.{stands-within}
 
@@ -174,12 +174,12 @@ by_height-pair atlas before after entry gone by_height in_list =
     }
 
 -- shelves by height, after one of them took the place of the next one
-module _ (atlas : AtlasRecords) (lists : Records) (before after : List Entry) (entry gone : Entry) (height : ℕ) (by_height : List BoundedShelf) (taller : IsTaller atlas.records lists entry.number height) (in_list : HoldsByHeight atlas (before ++ entry ∷ gone ∷ after) by_height) where
+module _ (atlas : AtlasRecords) (records : Records) (before after : List Entry) (entry gone : Entry) (height : ℕ) (by_height : List BoundedShelf) (taller : IsTaller atlas.records records entry.number height) (in_list : HoldsByHeight atlas (before ++ entry ∷ gone ∷ after) by_height) where
   abbrev Others : List BoundedShelf
   Others = taken_out entry.number (taken_out gone.number by_height)
 
   abbrev pub new : AtlasRecords
-  new = with_lists atlas lists
+  new = with_records atlas records
 
   abbrev Bounds : BoundedShelf → Type 0
   Bounds one = AllByRecursion (IsBoundOf new one.shelf one.widest) (before ++ entry ∷ after)
@@ -188,15 +188,15 @@ module _ (atlas : AtlasRecords) (lists : Records) (before after : List Entry) (e
   bounds-kept one bounds =
       Each-weaken (IsBoundOf atlas one.shelf one.widest) (IsBoundOf new one.shelf one.widest) (before ++ entry ∷ after)
       (λ (e : Entry) bound named.
-      let items : map (item_at lists.items) e.items ≡ map (item_at atlas.records.items) e.items = map-agrees (item_at lists.items) (item_at atlas.records.items) e.items (λ k stands. (taller.items k).item) in
+      let items : map (item_at records.items) e.items ≡ map (item_at atlas.records.items) e.items = map-agrees (item_at records.items) (item_at atlas.records.items) e.items (λ k stands. (taller.items k).item) in
       subst (λ (is : List Item). AllByRecursion (IsWithin one.widest) is) (sym items) (bound named))
       (fewer-bounds atlas one.shelf one.widest before after entry gone bounds)
 
-  fewer-places : HaveOwnPlaces lists.shelves (shelf_numbers (before ++ entry ∷ after))
+  fewer-places : HaveOwnPlaces records.shelves (shelf_numbers (before ++ entry ∷ after))
   fewer-places =
-      places-fewer atlas.records.shelves lists.shelves (shelf_numbers (before ++ entry ∷ gone ∷ after)) (shelf_numbers (before ++ entry ∷ after)) (λ k. omega (arith, taller.along k, taller.across k)) (λ k. omega (arith, all-count before after entry gone k, fewer-count before after entry k)) in_list.places
+      places-fewer atlas.records.shelves records.shelves (shelf_numbers (before ++ entry ∷ gone ∷ after)) (shelf_numbers (before ++ entry ∷ after)) (λ k. omega (arith, taller.along k, taller.across k)) (λ k. omega (arith, all-count before after entry gone k, fewer-count before after entry k)) in_list.places
 
-  pub absorbed-by_height : entry.number < length atlas.records.shelves → HoldsByHeight new (before ++ entry ∷ after) (shelf_absorbed_by_height lists.shelves entry.number gone.number by_height)
+  pub absorbed-by_height : entry.number < length atlas.records.shelves → HoldsByHeight new (before ++ entry ∷ after) (shelf_absorbed_by_height records.shelves entry.number gone.number by_height)
   absorbed-by_height within =
       let pair : IsPair entry.number gone.number by_height = by_height-pair atlas before after entry gone by_height in_list in
       let one : BoundedShelf = record { widest = bound_of entry.number (taken_out gone.number by_height); shelf = entry.number } in
@@ -204,16 +204,16 @@ module _ (atlas : AtlasRecords) (lists : Records) (before after : List Entry) (e
       let each : AllByRecursion Bounds by_height = Each-weaken (λ (other : BoundedShelf). AllByRecursion (IsBoundOf atlas other.shelf other.widest) (before ++ entry ∷ gone ∷ after)) Bounds by_height bounds-kept in_list.bounds in
       let without : AllByRecursion Bounds (taken_out gone.number by_height) = Each-taken_out Bounds Bounds gone.number by_height (λ (other : BoundedShelf) _ bounds. bounds) each in
       record {
-        once = λ k. times-put_in k lists.shelves one Others ∙ omega (arith, numbers k, in_list.once k, all-count before after entry gone k, fewer-count before after entry k);
-        order = in_order-put_in lists.shelves one Others (omega (arith, within, taller.as_many))
+        once = λ k. times-put_in k records.shelves one Others ∙ omega (arith, numbers k, in_list.once k, all-count before after entry gone k, fewer-count before after entry k);
+        order = in_order-put_in records.shelves one Others (omega (arith, within, taller.as_many))
             (λ k stands same.
             let listed : 1 ≤ times k (shelf_numbers (before ++ entry ∷ after)) = omega (arith, stands, numbers k, in_list.once k, all-count before after entry gone k, fewer-count before after entry k) in
             let own : 1 ≤ times entry.number (shelf_numbers (before ++ entry ∷ after)) = omega (arith, hit-own entry.number, fewer-count before after entry entry.number) in
-            let equal : k ≡ entry.number = orders-apart lists.shelves (shelf_numbers (before ++ entry ∷ after)) k entry.number fewer-places listed own same in
+            let equal : k ≡ entry.number = orders-apart records.shelves (shelf_numbers (before ++ entry ∷ after)) k entry.number fewer-places listed own same in
             let again : 1 ≤ times entry.number (numbers_by_height Others) = subst (λ (n : ℕ). 1 ≤ times n (numbers_by_height Others)) equal stands in
             omega (arith, again, numbers entry.number, hit-own entry.number, pair.own))
-            (others-in_order entry.number gone.number by_height pair atlas.records.shelves lists.shelves (omega (arith, taller.as_many)) taller.others in_list.order);
-        bounds = Each-put_in Bounds lists.shelves one Others
+            (others-in_order entry.number gone.number by_height pair atlas.records.shelves records.shelves (omega (arith, taller.as_many)) taller.others in_list.order);
+        bounds = Each-put_in Bounds records.shelves one Others
             (bound_of-each Bounds entry.number (taken_out gone.number by_height) (omega (arith, still-there entry.number gone.number by_height pair)) without)
             (Each-taken_out Bounds Bounds entry.number (taken_out gone.number by_height) (λ (other : BoundedShelf) _ bounds. bounds) without);
         few = omega (arith, taller.as_many, in_list.few);

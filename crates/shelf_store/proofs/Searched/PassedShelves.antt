@@ -8,7 +8,7 @@ use Rattle.shelf_links.specs.declared.records.LinkedItem.{LinkedItem}
 use Rattle.shelf_links.specs.RecordLists.{Records}
 use Rattle.shelf_records.specs.AtlasRecords.{height_of, is_empty_at, width_of}
 use Rattle.shelf_model.specs.Widest.{greatest}
-use Rattle.shelf_store.specs.Private.Asking.{free_among, free_of, is_as_wide_at, tallest, tally_of, tally_with}
+use Rattle.shelf_store.specs.Private.Asking.{free_items_at, free_of, is_as_wide_at, tallest, tally_of, tally_with}
 use Rattle.shelf_store.specs.Private.Opening.{widest_of}
 use Rattle.shelf_store.specs.Private.Searching.{better, lowest}
 use Rattle.shelf_store.specs.declared.choosing.Candidate.{Candidate}
@@ -84,7 +84,7 @@ lowest-more offers (m ∷ ns) n = ap (better (offers m)) (lowest-more offers ns 
 
 -- one more free item
 pub free-more : (items : List LinkedItem) (passed : List ℕ) (n count widest : ℕ) → count ≡ length passed + 1 → widest ≡ max (widest_of items passed) (width_of items n)
-    → record { count = count; widest = widest } ≡ free_among items (passed ++ n ∷ [])
+    → record { count = count; widest = widest } ≡ free_items_at items (passed ++ n ∷ [])
 free-more items passed n count widest counts is =
     let long : count ≡ length (passed ++ n ∷ []) = omega (arith, counts, length-append passed (n ∷ [])) in
     let wide : widest ≡ widest_of items (passed ++ n ∷ []) = is ∙ sym (widest-more items passed n) in

@@ -20,7 +20,7 @@ use Rattle.shelf_records.specs.StandsFor.{AreStacked, height_before}
 use Rattle.shelf_model.specs.State.{Item, Shelf, is_empty, is_one_free}
 use Rattle.shelf_store.proofs.Spelled.ItemsAround.{free-item}
 use Rattle.shelf_records.proofs.Spelled.RecordValues.{SameItem, items-same, map-agrees}
-use Rattle.shelf_store.proofs.Spelled.SpelledLists.{with_lists, IsSpelled}
+use Rattle.shelf_store.proofs.Spelled.SpelledLists.{with_records, IsSpelled}
 use Rattle.shelf_store.proofs.Spelled.SpelledShelves.{still-placed}
 
 -- records that spell lists, and whose shelves say whether they are empty
@@ -39,13 +39,13 @@ flags-same atlas new (entry ∷ entries) same spelled flags =
     )
 
 -- a shelf with the same place and items, and of this height
-pub shelf-is : (atlas : AtlasRecords) (lists : Records) (entry : Entry) (height : ℕ) → along_of lists.shelves entry.number ≡ along_of atlas.records.shelves entry.number → height_of lists.shelves entry.number ≡ height → ((k : ℕ) → SameItem atlas.records.items lists.items k) → spelled_shelf (with_lists atlas lists) entry ≡ record { column = (spelled_shelf atlas entry).column; height = height; items = (spelled_shelf atlas entry).items; free_list = (spelled_shelf atlas entry).free_list }
-shelf-is atlas lists entry height along tall same =
-    let items : map (item_at lists.items) entry.items ≡ map (item_at atlas.records.items) entry.items = map-agrees (item_at lists.items) (item_at atlas.records.items) entry.items (λ k stands. (same k).item) in
-    let places : map (item_place_of lists.items) entry.free_list ≡ map (item_place_of atlas.records.items) entry.free_list = map-agrees (item_place_of lists.items) (item_place_of atlas.records.items) entry.free_list (λ k stands. (same k).place) in
-    ap (λ a. record { column = a / atlas.frame.column_width; height = height_of lists.shelves entry.number; items = map (item_at lists.items) entry.items; free_list = map (item_place_of lists.items) entry.free_list }) along
-    ∙ ap (λ h. record { column = (spelled_shelf atlas entry).column; height = h; items = map (item_at lists.items) entry.items; free_list = map (item_place_of lists.items) entry.free_list }) tall
-    ∙ ap (λ (is : List Item). record { column = (spelled_shelf atlas entry).column; height = height; items = is; free_list = map (item_place_of lists.items) entry.free_list }) items
+pub shelf-is : (atlas : AtlasRecords) (records : Records) (entry : Entry) (height : ℕ) → along_of records.shelves entry.number ≡ along_of atlas.records.shelves entry.number → height_of records.shelves entry.number ≡ height → ((k : ℕ) → SameItem atlas.records.items records.items k) → spelled_shelf (with_records atlas records) entry ≡ record { column = (spelled_shelf atlas entry).column; height = height; items = (spelled_shelf atlas entry).items; free_list = (spelled_shelf atlas entry).free_list }
+shelf-is atlas records entry height along tall same =
+    let items : map (item_at records.items) entry.items ≡ map (item_at atlas.records.items) entry.items = map-agrees (item_at records.items) (item_at atlas.records.items) entry.items (λ k stands. (same k).item) in
+    let places : map (item_place_of records.items) entry.free_list ≡ map (item_place_of atlas.records.items) entry.free_list = map-agrees (item_place_of records.items) (item_place_of atlas.records.items) entry.free_list (λ k stands. (same k).place) in
+    ap (λ a. record { column = a / atlas.frame.column_width; height = height_of records.shelves entry.number; items = map (item_at records.items) entry.items; free_list = map (item_place_of records.items) entry.free_list }) along
+    ∙ ap (λ h. record { column = (spelled_shelf atlas entry).column; height = h; items = map (item_at records.items) entry.items; free_list = map (item_place_of records.items) entry.free_list }) tall
+    ∙ ap (λ (is : List Item). record { column = (spelled_shelf atlas entry).column; height = height; items = is; free_list = map (item_place_of records.items) entry.free_list }) items
     ∙ ap (λ (ps : List ℕ). record { column = (spelled_shelf atlas entry).column; height = height; items = (spelled_shelf atlas entry).items; free_list = ps }) places
 
 -- shelves that begin where they began and are as tall stand where they stood
@@ -84,30 +84,30 @@ keeps-emptiness : (is_empty : Bool) → KeepsShelfLinks (λ (shelf : LinkedShelf
 keeps-emptiness is_empty = record { next = λ x. refl; prev = λ x. refl; first_item = λ x. refl; first_unallocated = λ x. refl }
 
 -- the records after a shelf was made to say whether it is empty: they spell the same, and every shelf says it
-pub emptiness_said-flagged : {atlas : AtlasRecords} (around : Around) (entry : Entry) → AllByRecursion (HasFlag atlas) around.before → AllByRecursion (HasFlag atlas) around.after → IsSpelled atlas (with_entry around entry) → IsFlagged (with_lists atlas (emptiness_said entry.number atlas.records)) (with_entry around entry) × (map (spelled_shelf (with_lists atlas (emptiness_said entry.number atlas.records))) (around.before ++ entry ∷ around.after) ≡ map (spelled_shelf atlas) (around.before ++ entry ∷ around.after))
+pub emptiness_said-flagged : {atlas : AtlasRecords} (around : Around) (entry : Entry) → AllByRecursion (HasFlag atlas) around.before → AllByRecursion (HasFlag atlas) around.after → IsSpelled atlas (with_entry around entry) → IsFlagged (with_records atlas (emptiness_said entry.number atlas.records)) (with_entry around entry) × (map (spelled_shelf (with_records atlas (emptiness_said entry.number atlas.records))) (around.before ++ entry ∷ around.after) ≡ map (spelled_shelf atlas) (around.before ++ entry ∷ around.after))
 emptiness_said-flagged {atlas} around entry flags_before flags_after spelled =
     let old : List LinkedShelf = atlas.records.shelves in
     let items : List LinkedItem = atlas.records.items in
     let entries : List Entry = around.before ++ entry ∷ around.after in
     let value : Bool = names_one_free items (first_item_of old entry.number) in
     let change : LinkedShelf → LinkedShelf = λ x. record x { is_empty = value } in
-    let lists : Records = emptiness_said entry.number atlas.records in
-    let new : AtlasRecords = with_lists atlas lists in
+    let records : Records = emptiness_said entry.number atlas.records in
+    let new : AtlasRecords = with_records atlas records in
     let apart = linked-apart around entry spelled.linked in
-    let along : (k : ℕ) → along_of lists.shelves k ≡ along_of old k = λ k. field_at-kept (λ (x : LinkedShelf). x.x) 0 change old entry.number k (λ x. refl) in
-    let across : (k : ℕ) → across_of lists.shelves k ≡ across_of old k = λ k. field_at-kept (λ (x : LinkedShelf). x.y) 0 change old entry.number k (λ x. refl) in
-    let height : (k : ℕ) → height_of lists.shelves k ≡ height_of old k = λ k. field_at-kept (λ (x : LinkedShelf). x.height) 0 change old entry.number k (λ x. refl) in
-    let same : (k : ℕ) → SameItem items lists.items k = λ k. items-same items lists.items k refl in
-    let each : (es : List Entry) → map (spelled_shelf new) es ≡ map (spelled_shelf atlas) es = λ es. shelves-stay atlas lists along height same es in
+    let along : (k : ℕ) → along_of records.shelves k ≡ along_of old k = λ k. field_at-kept (λ (x : LinkedShelf). x.x) 0 change old entry.number k (λ x. refl) in
+    let across : (k : ℕ) → across_of records.shelves k ≡ across_of old k = λ k. field_at-kept (λ (x : LinkedShelf). x.y) 0 change old entry.number k (λ x. refl) in
+    let height : (k : ℕ) → height_of records.shelves k ≡ height_of old k = λ k. field_at-kept (λ (x : LinkedShelf). x.height) 0 change old entry.number k (λ x. refl) in
+    let same : (k : ℕ) → SameItem items records.items k = λ k. items-same items records.items k refl in
+    let each : (es : List Entry) → map (spelled_shelf new) es ≡ map (spelled_shelf atlas) es = λ es. shelves-stay atlas records along height same es in
     let is : IsEntry atlas.records entry = Each-middle (IsEntry atlas.records) around.before entry around.after spelled.linked.entries in
-    let other : (k : ℕ) → Some entry.number ≢ Some k → is_empty_at lists.shelves k ≡ is_empty_at old k = λ k stranger. field_at-other (λ (x : LinkedShelf). x.is_empty) false change old (Some entry.number) k stranger in
-    let own : is_empty_at lists.shelves entry.number ≡ value = field_at-changed (λ (x : LinkedShelf). x.is_empty) false change old entry.number value apart.number (λ x. refl) in (
+    let other : (k : ℕ) → Some entry.number ≢ Some k → is_empty_at records.shelves k ≡ is_empty_at old k = λ k stranger. field_at-other (λ (x : LinkedShelf). x.is_empty) false change old (Some entry.number) k stranger in
+    let own : is_empty_at records.shelves entry.number ≡ value = field_at-changed (λ (x : LinkedShelf). x.is_empty) false change old entry.number value apart.number (λ x. refl) in (
       record {
         spelled =
             record {
               linked = shelf_changed-linked entry.number change (keeps-emptiness value) spelled.linked;
-              placed = still-placed atlas lists entries along same spelled.placed;
-              stacked = stacked-stay old lists.shelves atlas.frame.column_width along across height [] (shelf_numbers entries) spelled.stacked;
+              placed = still-placed atlas records entries along same spelled.placed;
+              stacked = stacked-stay old records.shelves atlas.frame.column_width along across height [] (shelf_numbers entries) spelled.stacked;
               unused = spelled.unused;
             };
         flags = Each-append (HasFlag new) around.before (entry ∷ around.after)
@@ -119,8 +119,8 @@ emptiness_said-flagged {atlas} around entry flags_before flags_after spelled =
       each entries,
     )
   where
-    shelves-stay : (atlas : AtlasRecords) (lists : Records) → ((k : ℕ) → along_of lists.shelves k ≡ along_of atlas.records.shelves k) → ((k : ℕ) → height_of lists.shelves k ≡ height_of atlas.records.shelves k) → ((k : ℕ) → SameItem atlas.records.items lists.items k) → (es : List Entry) → map (spelled_shelf (with_lists atlas lists)) es ≡ map (spelled_shelf atlas) es
-    shelves-stay atlas lists along height same [] = refl
-    shelves-stay atlas lists along height same (e ∷ es) =
-        ap (λ (s : Shelf). s ∷ map (spelled_shelf (with_lists atlas lists)) es) (shelf-is atlas lists e (height_of atlas.records.shelves e.number) (along e.number) (height e.number) same)
-        ∙ ap (λ (ss : List Shelf). spelled_shelf atlas e ∷ ss) (shelves-stay atlas lists along height same es)
+    shelves-stay : (atlas : AtlasRecords) (records : Records) → ((k : ℕ) → along_of records.shelves k ≡ along_of atlas.records.shelves k) → ((k : ℕ) → height_of records.shelves k ≡ height_of atlas.records.shelves k) → ((k : ℕ) → SameItem atlas.records.items records.items k) → (es : List Entry) → map (spelled_shelf (with_records atlas records)) es ≡ map (spelled_shelf atlas) es
+    shelves-stay atlas records along height same [] = refl
+    shelves-stay atlas records along height same (e ∷ es) =
+        ap (λ (s : Shelf). s ∷ map (spelled_shelf (with_records atlas records)) es) (shelf-is atlas records e (height_of atlas.records.shelves e.number) (along e.number) (height e.number) same)
+        ∙ ap (λ (ss : List Shelf). spelled_shelf atlas e ∷ ss) (shelves-stay atlas records along height same es)

@@ -28,7 +28,7 @@ use Rattle.shelf_model.specs.State.{Item, Shelf}
 use Rattle.shelf_store.proofs.Spelled.EntryValues.{IsGiven, id_at}
 use Rattle.shelf_records.proofs.Spelled.RecordValues.{SameItem, SameItem-then, item-same}
 use Rattle.shelf_store.proofs.Spelled.SpelledFronts.{IsFront, IsRestItem, front-values, front_given-spelled}
-use Rattle.shelf_store.proofs.Spelled.SpelledLists.{with_lists, IsSpelled, EditsItems, items-edited-but}
+use Rattle.shelf_store.proofs.Spelled.SpelledLists.{with_records, IsSpelled, EditsItems, items-edited-but}
 use Rattle.shelf_store.proofs.Spelled.SpelledMerges.{given-values, item_given-spelled, before-other, after-other}
 use Rattle.shelf_store.proofs.Spelled.SpelledSplits.{HasShelfSplit, split-written, read-record}
 use Rattle.shelf_store.proofs.Spelled.SpelledUses.{SameEntries, same-entries}
@@ -38,20 +38,20 @@ use Rattle.shelf_store.proofs.Spelled.TakenItemSpelled.{taken_from, IsPlacedAt, 
 pub record IsItemGiven (atlas : AtlasRecords) (new : Records) (around : Around) (added : List Entry) (entry : Entry) (shelf : Shelf) (rests : List Shelf) : Type 0 where
   pub edited : Entry
   pub number : edited.number ≡ entry.number
-  pub spelled : IsSpelled (with_lists atlas new) (lists_of (around.before ++ edited ∷ (added ++ around.after)) around.unused_items around.unused_shelves)
-  pub shelves : map (spelled_shelf (with_lists atlas new)) (around.before ++ edited ∷ (added ++ around.after)) ≡ map (spelled_shelf atlas) around.before ++ shelf ∷ (rests ++ map (spelled_shelf atlas) around.after)
-  pub own : spelled_shelf (with_lists atlas new) edited ≡ shelf
-  pub flags_before : AllByRecursion (HasFlag atlas) around.before → AllByRecursion (HasFlag (with_lists atlas new)) around.before
-  pub flags_after : AllByRecursion (HasFlag atlas) around.after → AllByRecursion (HasFlag (with_lists atlas new)) (added ++ around.after)
+  pub spelled : IsSpelled (with_records atlas new) (lists_of (around.before ++ edited ∷ (added ++ around.after)) around.unused_items around.unused_shelves)
+  pub shelves : map (spelled_shelf (with_records atlas new)) (around.before ++ edited ∷ (added ++ around.after)) ≡ map (spelled_shelf atlas) around.before ++ shelf ∷ (rests ++ map (spelled_shelf atlas) around.after)
+  pub own : spelled_shelf (with_records atlas new) edited ≡ shelf
+  pub flags_before : AllByRecursion (HasFlag atlas) around.before → AllByRecursion (HasFlag (with_records atlas new)) around.before
+  pub flags_after : AllByRecursion (HasFlag atlas) around.after → AllByRecursion (HasFlag (with_records atlas new)) (added ++ around.after)
   pub more : length atlas.records.items ≤ length new.items
   pub made : 1 ≤ length around.unused_items → length new.items ≡ length atlas.records.items
   pub few : length new.shelves ≤ no_link
 
 -- from what an edit of the items of the shelf says: the other shelves are those that they were, and the edited one is this
-given-after : {atlas : AtlasRecords} (split_records new : Records) (around : Around) (added : List Entry) (entry edited : Entry) (loose : List ℕ) (tall : ℕ) (rests : List Shelf) (shelf : Shelf) → AllByRecursion (IsEntry atlas.records) (around.before ++ entry ∷ around.after) → HasShelfSplit atlas split_records around added entry loose tall rests → EditsItems (with_lists atlas split_records) new (record around { after = added ++ around.after }) around.unused_items entry edited → spelled_shelf (with_lists atlas new) edited ≡ shelf → length new.items ≡ length split_records.items → length new.shelves ≡ length split_records.shelves → IsItemGiven atlas new around added entry shelf rests
+given-after : {atlas : AtlasRecords} (split_records new : Records) (around : Around) (added : List Entry) (entry edited : Entry) (loose : List ℕ) (tall : ℕ) (rests : List Shelf) (shelf : Shelf) → AllByRecursion (IsEntry atlas.records) (around.before ++ entry ∷ around.after) → HasShelfSplit atlas split_records around added entry loose tall rests → EditsItems (with_records atlas split_records) new (record around { after = added ++ around.after }) around.unused_items entry edited → spelled_shelf (with_records atlas new) edited ≡ shelf → length new.items ≡ length split_records.items → length new.shelves ≡ length split_records.shelves → IsItemGiven atlas new around added entry shelf rests
 given-after {atlas} split_records new around added entry edited loose tall rests shelf are_old is_split edits spelled long long_shelves =
-    let base : AtlasRecords = with_lists atlas split_records in
-    let last : AtlasRecords = with_lists atlas new in
+    let base : AtlasRecords = with_records atlas split_records in
+    let last : AtlasRecords = with_records atlas new in
     let entries : List Entry = around.before ++ entry ∷ (added ++ around.after) in
     let are : AllByRecursion (IsEntry split_records) entries = is_split.spelled.linked.entries in
     let done = items-edited-but new (record around { after = added ++ around.after }) around.unused_items loose entry edited is_split.spelled edits in
@@ -156,7 +156,7 @@ item-whole {atlas} split_records around added spot placement rests within is no_
     let own : slice_get split_records.items spot.number ≡ slice_get old spot.number =
     is_split.items spot.number (omega (arith, item_numbers-append around.before (entry ∷ around.after) spot.number, times-append spot.number numbers (item_numbers around.after), stands)) in
     let same : SameItem old split_records.items spot.number = item-same old split_records.items spot.number own in
-    let edits : EditsItems (with_lists atlas split_records) new (record around { after = added ++ around.after }) around.unused_items entry edited =
+    let edits : EditsItems (with_records atlas split_records) new (record around { after = added ++ around.after }) around.unused_items entry edited =
     item_given-spelled (record around { after = added ++ around.after }) spot.shelf spot.number spot.front spot.back spot.free_front spot.free_back (same.allocated ∙ is.free) is_split.spelled in
     let given : IsGiven split_records.items new.items spot.number = given-values split_records spot.shelf spot.number (apart.within spot.number stands) in
     let item : item_at new.items spot.number ≡ record { width = placement.width; id = Some id } =
@@ -213,7 +213,7 @@ item-front {atlas} split_records around added spot rest generation placement res
       shelf = field_at-changed (λ (x : LinkedItem). x.shelf) 0 (λ _. item) split_records.items rest spot.shelf rest_within (λ x. refl);
       free = field_at-changed (λ (x : LinkedItem). x.allocated) false (λ _. item) split_records.items rest false rest_within (λ x. refl);
     } in
-    let edits : EditsItems (with_lists atlas written) new (record around { after = added ++ around.after }) around.unused_items entry edited =
+    let edits : EditsItems (with_records atlas written) new (record around { after = added ++ around.after }) around.unused_items entry edited =
     front_given-spelled (record around { after = added ++ around.after }) spot.shelf spot.number rest width spot.front spot.back spot.free_front spot.free_back (same.allocated ∙ is.free) is_rest is_written.spelled in
     let given : IsFront written.items new.items spot.number width = front-values written spot.shelf spot.number rest width (apart.within spot.number stands) in
     let own_item : item_at new.items spot.number ≡ record { width = width; id = Some id } =

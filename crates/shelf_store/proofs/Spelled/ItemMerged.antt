@@ -28,7 +28,7 @@ use Rattle.shelf_store.proofs.Spelled.NextMerged.{MergesNext, merges-next}
 use Rattle.shelf_store.proofs.Spelled.PreviousMerged.{FreesItem, frees-item}
 use Rattle.shelf_records.proofs.Spelled.RecordValues.{SameShelf, SameShelf-then}
 use Rattle.shelf_records.proofs.Spelled.Witnesses.{Each-unmap}
-use Rattle.shelf_store.proofs.Spelled.SpelledLists.{with_lists, IsSpelled}
+use Rattle.shelf_store.proofs.Spelled.SpelledLists.{with_records, IsSpelled}
 use Rattle.shelf_records.proofs.Recorded.Members.{Each-member}
 
 -- what a step that frees an item and merges it makes of its shelf's lists, and what these spell
@@ -36,12 +36,12 @@ pub record MergesItem (atlas : AtlasRecords) (step : Step) (around : Around) (sh
   pub numbers : List ℕ
   pub free_list : List ℕ
   pub left_unused : List ℕ
-  pub spelled : IsSpelled (with_lists atlas step.records) (with_entry (record around { unused_items = left_unused }) (entry_of shelf numbers free_list))
-  pub before_same : map (spelled_shelf (with_lists atlas step.records)) around.before ≡ map (spelled_shelf atlas) around.before
-  pub after_same : map (spelled_shelf (with_lists atlas step.records)) around.after ≡ map (spelled_shelf atlas) around.after
+  pub spelled : IsSpelled (with_records atlas step.records) (with_entry (record around { unused_items = left_unused }) (entry_of shelf numbers free_list))
+  pub before_same : map (spelled_shelf (with_records atlas step.records)) around.before ≡ map (spelled_shelf atlas) around.before
+  pub after_same : map (spelled_shelf (with_records atlas step.records)) around.after ≡ map (spelled_shelf atlas) around.after
   pub same : (k : ℕ) → SameShelf atlas.records.shelves step.records.shelves k
   pub returned :
-      spelled_shelf (with_lists atlas step.records) (entry_of shelf numbers free_list)
+      spelled_shelf (with_records atlas step.records) (entry_of shelf numbers free_list)
       ≡ merged_shelf (freed_shelf atlas.frame (length front) (spelled_shelf atlas (entry_of shelf (front ++ number ∷ back) free)))
   pub counted : length left_unused ≡ step.made_unused + length around.unused_items
 
@@ -79,11 +79,11 @@ merges-item {atlas} around shelf number front back free valid allocated spelled 
     let one : Step = next_absorbed shelf number (free_next items number) atlas.records in
     let next : MergesNext atlas one around shelf number front back free =
     merges-next around shelf number front back free (wide-items atlas shelf (front ++ number ∷ back) free valid) allocated spelled in
-    let middle : AtlasRecords = with_lists atlas one.records in
+    let middle : AtlasRecords = with_records atlas one.records in
     let two : Step = freed_after shelf number (free_previous one.records.items number) one.records in
     let own : FreesItem middle two (record around { unused_items = next.left_unused }) shelf number front next.rest next.free_list =
     frees-item (record around { unused_items = next.left_unused }) shelf number front next.rest next.free_list next.allocated next.spelled in
-    let new : AtlasRecords = with_lists atlas two.records in
+    let new : AtlasRecords = with_records atlas two.records in
     let placed : IsPlaced atlas entry = Each-middle (IsPlaced atlas) around.before entry around.after spelled.placed in
     let along : ℕ = along_of atlas.records.shelves shelf in
     let here : along ≡ column_place atlas.frame old = multiple along atlas.frame.column_width placed.along in

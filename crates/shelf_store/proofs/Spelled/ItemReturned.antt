@@ -44,7 +44,7 @@ use Rattle.shelf_store.proofs.Spelled.ItemMerged.{MergesItem, merges-item}
 use Rattle.shelf_store.proofs.Spelled.NeighboursMerged.{AreLow, MergesShelves, can-merge-all-by_height, can-merge-shelves, merges-shelves, shelf-before}
 use Rattle.shelf_store.proofs.Spelled.ReturnedAt.{returned-at}
 use Rattle.shelf_store.proofs.Spelled.ReturnedLengths.{SameLengths, returned-lengths, counts-same}
-use Rattle.shelf_store.proofs.Spelled.SpelledLists.{with_lists}
+use Rattle.shelf_store.proofs.Spelled.SpelledLists.{with_records}
 use Rattle.shelf_records.proofs.Spelled.Witnesses.{witnessed-kept}
 
 -- records of a shelf whose item was freed and merged, and that says whether it is empty
@@ -52,12 +52,12 @@ record IsFreed (atlas : AtlasRecords) (records : Records) (made_unused : ℕ) (a
   numbers : List ℕ
   free_list : List ℕ
   left_unused : List ℕ
-  flagged : IsFlagged (with_lists atlas records) (with_entry (record around { unused_items = left_unused }) (entry_of shelf numbers free_list))
+  flagged : IsFlagged (with_records atlas records) (with_entry (record around { unused_items = left_unused }) (entry_of shelf numbers free_list))
   spelled :
-      map (spelled_shelf (with_lists atlas records)) (around.before ++ entry_of shelf numbers free_list ∷ around.after)
+      map (spelled_shelf (with_records atlas records)) (around.before ++ entry_of shelf numbers free_list ∷ around.after)
       ≡ map (spelled_shelf atlas) around.before ++ merged_shelf (freed_shelf atlas.frame (length front) (spelled_shelf atlas (entry_of shelf (front ++ number ∷ back) free))) ∷ map (spelled_shelf atlas) around.after
   counted : length left_unused ≡ made_unused + length around.unused_items
-  in_list : FreesByHeight atlas (with_lists atlas records) (item_merged shelf number atlas.records).records.shelves (around.before ++ entry_of shelf (front ++ number ∷ back) free ∷ around.after) (around.before ++ entry_of shelf numbers free_list ∷ around.after) shelf (freed_width atlas.records.items number)
+  in_list : FreesByHeight atlas (with_records atlas records) (item_merged shelf number atlas.records).records.shelves (around.before ++ entry_of shelf (front ++ number ∷ back) free ∷ around.after) (around.before ++ entry_of shelf numbers free_list ∷ around.after) shelf (freed_width atlas.records.items number)
 
 -- an item was freed and merged, and its shelf says whether it is empty
 freed-flagged : {atlas : AtlasRecords} (around : Around) (shelf number : ℕ) (front back free : List ℕ) → IsShelf atlas.frame (spelled_shelf atlas (entry_of shelf (front ++ number ∷ back) free)) → is_allocated_at atlas.records.items number ≡ true → IsFlagged atlas (with_entry around (entry_of shelf (front ++ number ∷ back) free)) → IsFreed atlas (emptiness_said shelf (item_merged shelf number atlas.records).records) (item_merged shelf number atlas.records).made_unused around shelf number front back free
@@ -66,7 +66,7 @@ freed-flagged {atlas} around shelf number front back free valid allocated flagge
     let one : Step = item_merged shelf number atlas.records in
     let merges : MergesItem atlas one around shelf number front back free =
     merges-item around shelf number front back free valid allocated flagged.spelled in
-    let middle : AtlasRecords = with_lists atlas one.records in
+    let middle : AtlasRecords = with_records atlas one.records in
     let new : Entry = entry_of shelf merges.numbers merges.free_list in
     let said = emptiness_said-flagged (record around { unused_items = merges.left_unused }) new
     (flags-same atlas middle around.before (λ k stands. (merges.same k).is_empty) merges.before_same (Each-front (HasFlag atlas) around.before (entry ∷ around.after) flagged.flags))
@@ -108,10 +108,10 @@ pub record ReturnsItem (frame : Frame) (records : Records) (number : ℕ) : Type
 -- records after a return, by the lists that they spell
 record IsReturned (atlas : AtlasRecords) (step : Step) (old : List Entry) (change : List BoundedShelf → List BoundedShelf) (state : AtlasState) (unused : List ℕ) : Type 0 where
   lists : Lists
-  flagged : IsFlagged (with_lists atlas step.records) lists
-  spelled : map (spelled_shelf (with_lists atlas step.records)) lists.entries ≡ state.shelves
+  flagged : IsFlagged (with_records atlas step.records) lists
+  spelled : map (spelled_shelf (with_records atlas step.records)) lists.entries ≡ state.shelves
   counted : length lists.unused_items ≡ step.made_unused + length unused
-  in_list : (by_height : List BoundedShelf) → HoldsByHeight atlas old by_height → HoldsByHeight (with_lists atlas step.records) lists.entries (change by_height)
+  in_list : (by_height : List BoundedShelf) → HoldsByHeight atlas old by_height → HoldsByHeight (with_records atlas step.records) lists.entries (change by_height)
 
 -- records that spell lists keep every rule again where what they spell is valid
 kept-again : (frame : Frame) (records new : Records) (id left_unused : ℕ) (change : List BoundedShelf → List BoundedShelf) → AreKept frame records → SameLengths records new → IsReturned (atlas_of frame records) (record { records = new; made_unused = left_unused }) (walked_lists records).entries change (returned (state_of frame records) id) (walked_lists records).unused_items → (AreKept frame new × (state_of frame new ≡ returned (state_of frame records) id)) × (items_in_use (state_of frame new).shelves + left_unused ≡ items_in_use (state_of frame records).shelves) × ((by_height : List BoundedShelf) → AreByHeight frame records by_height → AreByHeight frame new (change by_height))
@@ -135,8 +135,8 @@ kept-again frame records new id left_unused change kept lengths is =
               spelled = spelled;
               counts = counts;
               linked = linked;
-              placed = Each-weaken (IsPlaced (with_lists (atlas_of frame records) new)) (IsPlaced (atlas_of frame new)) lists.entries
-                  (λ (entry : Entry) (p : IsPlaced (with_lists (atlas_of frame records) new) entry). record { owners = p.owners; along = p.along; places = p.places; free_list = p.free_list }) is.flagged.spelled.placed;
+              placed = Each-weaken (IsPlaced (with_records (atlas_of frame records) new)) (IsPlaced (atlas_of frame new)) lists.entries
+                  (λ (entry : Entry) (p : IsPlaced (with_records (atlas_of frame records) new) entry). record { owners = p.owners; along = p.along; places = p.places; free_list = p.free_list }) is.flagged.spelled.placed;
               flags = is.flagged.flags;
               stacked = is.flagged.spelled.stacked;
               valid = subst IsValid (sym state) (returned-valid (state_of frame records) id kept.valid);
@@ -198,7 +198,7 @@ returned-there frame records number has kept allocated flagged =
     let three : Records = emptiness_said shelf (item_merged shelf number records).records in
     let freed : IsFreed atlas three (item_merged shelf number records).made_unused (around_of has.before has.after unused gone) shelf number has.front has.back has.free =
     freed-flagged (around_of has.before has.after unused gone) shelf number has.front has.back has.free valid allocated flagged in
-    let middle : AtlasRecords = with_lists atlas three in
+    let middle : AtlasRecords = with_records atlas three in
     let edited : Entry = entry_of shelf freed.numbers freed.free_list in
     let two : Step = shelves_merged shelf three in
     let merges : MergesShelves middle two (shelves_merged_by_height shelf three) (around_of has.before has.after freed.left_unused gone) edited = merges-shelves (around_of has.before has.after freed.left_unused gone) edited freed.flagged in
@@ -218,7 +218,7 @@ returned-there frame records number has kept allocated flagged =
             lists = lists_of merges.entries merges.left_unused merges.gone;
             flagged = merges.flagged;
             spelled = shelves-after frame state.peak_items (length has.before) (returned state (id_at records.items number)) (map (spelled_shelf middle) (has.before ++ edited ∷ has.after)) (front ++ new ∷ back)
-                (map (spelled_shelf (with_lists atlas two.records)) merges.entries) at freed.spelled merges.merged;
+                (map (spelled_shelf (with_records atlas two.records)) merges.entries) at freed.spelled merges.merged;
             counted = omega (arith, merges.counted, freed.counted);
             in_list = λ by_height in_list. merges.in_list (raised shelf (freed_width records.items number) by_height) (freed.in_list.in_list by_height (start by_height in_list));
           };

@@ -25,20 +25,20 @@ use Rattle.shelf_model.proofs.Places.Heights.{column_height-merged_at, heights-l
 use Rattle.shelf_store.proofs.Spelled.EmptinessSaid.{IsFlagged}
 use Rattle.shelf_store.proofs.Spelled.ItemsAround.{by_end}
 use Rattle.shelf_store.proofs.Spelled.ShelvesMerged.{AreNeighbours, MergesShelf, merges-shelf, neighbours, next-link, previous-link}
-use Rattle.shelf_store.proofs.Spelled.SpelledLists.{with_lists}
+use Rattle.shelf_store.proofs.Spelled.SpelledLists.{with_records}
 
 -- what a step that merges a shelf with its neighbours makes of the lists of shelves, and what these spell
 pub record MergesShelves (atlas : AtlasRecords) (step : Step) (change : List BoundedShelf → List BoundedShelf) (around : Around) (entry : Entry) : Type 0 where
   pub entries : List Entry
   pub left_unused : List ℕ
   pub gone : List ℕ
-  pub flagged : IsFlagged (with_lists atlas step.records) (lists_of entries left_unused gone)
+  pub flagged : IsFlagged (with_records atlas step.records) (lists_of entries left_unused gone)
   pub merged :
-      map (spelled_shelf (with_lists atlas step.records)) entries
+      map (spelled_shelf (with_records atlas step.records)) entries
       ≡ merged_before both_empty combined_shelves (length around.before)
       (merged_at both_empty combined_shelves (length around.before) (map (spelled_shelf atlas) (around.before ++ entry ∷ around.after)))
   pub counted : length left_unused ≡ step.made_unused + length around.unused_items
-  pub in_list : (by_height : List BoundedShelf) → HoldsByHeight atlas (around.before ++ entry ∷ around.after) by_height → HoldsByHeight (with_lists atlas step.records) entries (change by_height)
+  pub in_list : (by_height : List BoundedShelf) → HoldsByHeight atlas (around.before ++ entry ∷ around.after) by_height → HoldsByHeight (with_records atlas step.records) entries (change by_height)
 
 -- one more than the elements of a front
 one-more : {X : Type 0} (front : List X) (x : X) → length (front ++ x ∷ []) ≡ suc (length front)
@@ -61,7 +61,7 @@ merges-shelves {atlas} around entry flagged =
     one = shelf_merged entry.number atlas.records
 
     middle : AtlasRecords
-    middle = with_lists atlas one.records
+    middle = with_records atlas one.records
 
     link : Option ℕ
     link = link_at shelf_chain.previous one.records.shelves entry.number
@@ -167,7 +167,7 @@ can-merge-shelves {atlas} around entry low flagged =
     one = shelf_merged entry.number atlas.records
 
     middle : AtlasRecords
-    middle = with_lists atlas one.records
+    middle = with_records atlas one.records
 
     link : Option ℕ
     link = link_at shelf_chain.previous one.records.shelves entry.number
@@ -231,7 +231,7 @@ can-merge-all-by_height {atlas} around entry by_height flagged in_list =
     one = shelf_merged entry.number atlas.records
 
     middle : AtlasRecords
-    middle = with_lists atlas one.records
+    middle = with_records atlas one.records
 
     link : Option ℕ
     link = link_at shelf_chain.previous one.records.shelves entry.number

@@ -24,7 +24,7 @@ use Rattle.shelf_store.proofs.Spelled.EntryValues.{IsWidened, LieFrom-back, free
 use Rattle.shelf_store.proofs.Spelled.ItemsAround.{free-item, map-parts, next-merged, next-stays, place-apart, widths-append}
 use Rattle.shelf_store.proofs.Spelled.MergedAround.{free_item, is_first_free, remove-mapped}
 use Rattle.shelf_records.proofs.Spelled.RecordValues.{SameItem, SameShelf, items-same, map-agrees, shelves-same}
-use Rattle.shelf_store.proofs.Spelled.SpelledLists.{with_lists, IsSpelled, EditsItems, items-edited}
+use Rattle.shelf_store.proofs.Spelled.SpelledLists.{with_records, IsSpelled, EditsItems, items-edited}
 use Rattle.shelf_store.proofs.Spelled.SpelledMerges.{free_absorbed-spelled}
 use Rattle.shelf_records.proofs.Recorded.Members.{IsAmong, among}
 
@@ -33,9 +33,9 @@ pub record MergesNext (atlas : AtlasRecords) (step : Step) (around : Around) (sh
   pub rest : List ℕ
   pub free_list : List ℕ
   pub left_unused : List ℕ
-  pub spelled : IsSpelled (with_lists atlas step.records) (with_entry (record around { unused_items = left_unused }) (entry_of shelf (front ++ number ∷ rest) free_list))
-  pub before_same : map (spelled_shelf (with_lists atlas step.records)) around.before ≡ map (spelled_shelf atlas) around.before
-  pub after_same : map (spelled_shelf (with_lists atlas step.records)) around.after ≡ map (spelled_shelf atlas) around.after
+  pub spelled : IsSpelled (with_records atlas step.records) (with_entry (record around { unused_items = left_unused }) (entry_of shelf (front ++ number ∷ rest) free_list))
+  pub before_same : map (spelled_shelf (with_records atlas step.records)) around.before ≡ map (spelled_shelf atlas) around.before
+  pub after_same : map (spelled_shelf (with_records atlas step.records)) around.after ≡ map (spelled_shelf atlas) around.after
   pub same : (k : ℕ) → SameShelf atlas.records.shelves step.records.shelves k
   pub allocated : is_allocated_at step.records.items number ≡ true
   pub place : item_place_of step.records.items number ≡ item_place_of atlas.records.items number
@@ -94,8 +94,8 @@ next-taken {atlas} around shelf number next front back free_front free_back wide
     let edits : EditsItems atlas new around (next ∷ around.unused_items) entry (entry_of shelf (front ++ number ∷ back) (free_front ++ free_back)) =
     free_absorbed-spelled around shelf number next front back free_front free_back is_free spelled in
     let edited = items-edited new around (next ∷ around.unused_items) entry (entry_of shelf (front ++ number ∷ back) (free_front ++ free_back)) spelled edits in
-    let others = map-parts (spelled_shelf (with_lists atlas new)) (spelled_shelf atlas) around.before (entry_of shelf (front ++ number ∷ back) (free_front ++ free_back))
-    (spelled_shelf (with_lists atlas new) (entry_of shelf (front ++ number ∷ back) (free_front ++ free_back))) around.after edited.1 in
+    let others = map-parts (spelled_shelf (with_records atlas new)) (spelled_shelf atlas) around.before (entry_of shelf (front ++ number ∷ back) (free_front ++ free_back))
+    (spelled_shelf (with_records atlas new) (entry_of shelf (front ++ number ∷ back) (free_front ++ free_back))) around.after edited.1 in
     let apart = linked-apart around entry spelled.linked in
     let placed : IsPlaced atlas entry = Each-middle (IsPlaced atlas) around.before entry around.after spelled.placed in
     let is : IsEntry atlas.records entry = Each-middle (IsEntry atlas.records) around.before entry around.after spelled.linked.entries in

@@ -28,7 +28,7 @@ use Rattle.shelf_store.proofs.Spelled.EntryValues.{IsFreed, free_count-none}
 use Rattle.shelf_store.proofs.Spelled.ItemsAround.{by_end, free-before, free-item, free-none, map-parts, previous-merged, previous-stays}
 use Rattle.shelf_store.proofs.Spelled.MergedAround.{free_item}
 use Rattle.shelf_records.proofs.Spelled.RecordValues.{SameShelf, map-agrees}
-use Rattle.shelf_store.proofs.Spelled.SpelledLists.{with_lists, IsSpelled, EditsItems, items-edited}
+use Rattle.shelf_store.proofs.Spelled.SpelledLists.{with_records, IsSpelled, EditsItems, items-edited}
 use Rattle.shelf_store.proofs.Spelled.SpelledMerges.{allocated_absorbed-spelled, item_freed-spelled, freed-values}
 
 -- what a step that frees an item, and merges it with the previous one, makes of its shelf's lists, and what these spell;
@@ -37,9 +37,9 @@ pub record FreesItem (atlas : AtlasRecords) (step : Step) (around : Around) (she
   pub numbers : List ℕ
   pub free_list : List ℕ
   pub left_unused : List ℕ
-  pub spelled : IsSpelled (with_lists atlas step.records) (with_entry (record around { unused_items = left_unused }) (entry_of shelf numbers free_list))
-  pub before_same : map (spelled_shelf (with_lists atlas step.records)) around.before ≡ map (spelled_shelf atlas) around.before
-  pub after_same : map (spelled_shelf (with_lists atlas step.records)) around.after ≡ map (spelled_shelf atlas) around.after
+  pub spelled : IsSpelled (with_records atlas step.records) (with_entry (record around { unused_items = left_unused }) (entry_of shelf numbers free_list))
+  pub before_same : map (spelled_shelf (with_records atlas step.records)) around.before ≡ map (spelled_shelf atlas) around.before
+  pub after_same : map (spelled_shelf (with_records atlas step.records)) around.after ≡ map (spelled_shelf atlas) around.after
   pub same : (k : ℕ) → SameShelf atlas.records.shelves step.records.shelves k
   pub items :
       map (item_at step.records.items) numbers
@@ -76,7 +76,7 @@ item-freed {atlas} around shelf number front back free allocated stays none unna
     let edits : EditsItems atlas new around around.unused_items entry edited_entry =
     item_freed-spelled around shelf number front back free allocated spelled in
     let edited = items-edited new around around.unused_items entry edited_entry spelled edits in
-    let others = map-parts (spelled_shelf (with_lists atlas new)) (spelled_shelf atlas) around.before edited_entry (spelled_shelf (with_lists atlas new) edited_entry) around.after edited.1 in
+    let others = map-parts (spelled_shelf (with_records atlas new)) (spelled_shelf atlas) around.before edited_entry (spelled_shelf (with_records atlas new) edited_entry) around.after edited.1 in
     let apart = linked-apart around entry spelled.linked in
     let placed : IsPlaced atlas entry = Each-middle (IsPlaced atlas) around.before entry around.after spelled.placed in
     let freed : IsFreed items new.items number = freed-values atlas.records shelf number (apart.within number (omega (arith, times-append number front (number ∷ back), times-here number back))) in
@@ -119,7 +119,7 @@ item-taken {atlas} around shelf number previous front back free allocated is_fre
     let edits : EditsItems atlas new around (number ∷ around.unused_items) entry edited_entry =
     allocated_absorbed-spelled around shelf previous number front back free allocated spelled in
     let edited = items-edited new around (number ∷ around.unused_items) entry edited_entry spelled edits in
-    let others = map-parts (spelled_shelf (with_lists atlas new)) (spelled_shelf atlas) around.before edited_entry (spelled_shelf (with_lists atlas new) edited_entry) around.after edited.1 in
+    let others = map-parts (spelled_shelf (with_records atlas new)) (spelled_shelf atlas) around.before edited_entry (spelled_shelf (with_records atlas new) edited_entry) around.after edited.1 in
     let apart = linked-apart around entry spelled.linked in
     let placed : IsPlaced atlas entry = Each-middle (IsPlaced atlas) around.before entry around.after spelled.placed in
     let rest : IsRest front back previous number = rest-of front back previous number apart.once in

@@ -28,7 +28,7 @@ use Rattle.shelf_store.proofs.Spelled.ItemsAround.{free-item}
 use Rattle.shelf_store.proofs.Spelled.NextMerged.{MergesNext, merges-next}
 use Rattle.shelf_store.proofs.Spelled.PreviousMerged.{FreesItem, frees-item}
 use Rattle.shelf_records.proofs.Spelled.RecordValues.{SameItem}
-use Rattle.shelf_store.proofs.Spelled.SpelledLists.{with_lists, IsSpelled}
+use Rattle.shelf_store.proofs.Spelled.SpelledLists.{with_records, IsSpelled}
 use Rattle.shelf_model.proofs.Taken.TakenPieces.{allocated-not_empty}
 
 -- the last of a list with a member is some
@@ -80,7 +80,7 @@ item-remaining {atlas} around shelf number front back free valid allocated flagg
     let one : Step = next_absorbed shelf number (free_next items number) atlas.records in
     let next : MergesNext atlas one around shelf number front back free =
     merges-next around shelf number front back free (wide-items atlas shelf (front ++ number ∷ back) free valid) allocated spelled in
-    let middle : AtlasRecords = with_lists atlas one.records in
+    let middle : AtlasRecords = with_records atlas one.records in
     let two : Step = freed_after shelf number (free_previous one.records.items number) one.records in
     let own : FreesItem middle two (record around { unused_items = next.left_unused }) shelf number front next.rest next.free_list =
     frees-item (record around { unused_items = next.left_unused }) shelf number front next.rest next.free_list next.allocated next.spelled in

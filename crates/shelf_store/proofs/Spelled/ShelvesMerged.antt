@@ -30,7 +30,7 @@ use Rattle.shelf_store.proofs.ByHeight.MergedByHeight.{HoldsByHeight, absorbed-b
 use Rattle.shelf_store.proofs.Spelled.EmptinessSaid.{IsFlagged, flags-same, shelf-is}
 use Rattle.shelf_store.proofs.Spelled.ItemsAround.{free-item}
 use Rattle.shelf_records.proofs.Spelled.RecordValues.{SameItem}
-use Rattle.shelf_store.proofs.Spelled.SpelledLists.{with_lists, IsSpelled}
+use Rattle.shelf_store.proofs.Spelled.SpelledLists.{with_records, IsSpelled}
 use Rattle.shelf_store.proofs.Spelled.SpelledShelves.{IsTaller, shelf_absorbed-spelled, shelf_absorbed-values}
 
 module _ {X Y : Type 0} (f : Y → X) (touch : X → X → Bool) (combine : X → X → X) where
@@ -54,12 +54,12 @@ pub record MergesShelf (atlas : AtlasRecords) (step : Step) (change : List Bound
   pub rest : List Entry
   pub left_unused : List ℕ
   pub gone : List ℕ
-  pub flagged : IsFlagged (with_lists atlas step.records) (lists_of (around.before ++ entry ∷ rest) left_unused gone)
+  pub flagged : IsFlagged (with_records atlas step.records) (lists_of (around.before ++ entry ∷ rest) left_unused gone)
   pub merged :
-      map (spelled_shelf (with_lists atlas step.records)) (around.before ++ entry ∷ rest)
+      map (spelled_shelf (with_records atlas step.records)) (around.before ++ entry ∷ rest)
       ≡ merged_at both_empty combined_shelves (length around.before) (map (spelled_shelf atlas) (around.before ++ entry ∷ around.after))
   pub counted : length left_unused ≡ step.made_unused + length around.unused_items
-  pub in_list : (by_height : List BoundedShelf) → HoldsByHeight atlas (around.before ++ entry ∷ around.after) by_height → HoldsByHeight (with_lists atlas step.records) (around.before ++ entry ∷ rest) (change by_height)
+  pub in_list : (by_height : List BoundedShelf) → HoldsByHeight atlas (around.before ++ entry ∷ around.after) by_height → HoldsByHeight (with_records atlas step.records) (around.before ++ entry ∷ rest) (change by_height)
 
 -- nothing is merged
 shelf-kept : {atlas : AtlasRecords} (around : Around) (entry : Entry) → merged_at both_empty combined_shelves (length around.before) (map (spelled_shelf atlas) around.before ++ map (spelled_shelf atlas) (entry ∷ around.after)) ≡ map (spelled_shelf atlas) around.before ++ map (spelled_shelf atlas) (entry ∷ around.after) → IsFlagged atlas (with_entry around entry) → MergesShelf atlas (record { records = atlas.records; made_unused = 0 }) (λ by_height. by_height) around entry
@@ -114,15 +114,15 @@ shelf-taken {atlas} around entry next item free touch column is_free flagged =
     let spelled = flagged.spelled in
     let gone : Entry = entry_of next (item ∷ []) free in
     let height : ℕ = height_of old entry.number + height_of old next in
-    let lists : Records = (shelf_of_item_absorbed entry.number next (Some item) atlas.records).records in
-    let new : AtlasRecords = with_lists atlas lists in
+    let records : Records = (shelf_of_item_absorbed entry.number next (Some item) atlas.records).records in
+    let new : AtlasRecords = with_records atlas records in
     let apart = linked-apart (record around { after = gone ∷ around.after }) entry spelled.linked in
-    let taller : IsTaller atlas.records lists entry.number height = shelf_absorbed-values atlas.records entry.number next item height apart.number in
+    let taller : IsTaller atlas.records records entry.number height = shelf_absorbed-values atlas.records entry.number next item height apart.number in
     let before_same : map (spelled_shelf new) around.before ≡ map (spelled_shelf atlas) around.before =
-    others-spelled atlas lists around.before taller.along (λ k stands. (taller.others k (apart.numbers k (omega (arith, stands)))).height) taller.items in
+    others-spelled atlas records around.before taller.along (λ k stands. (taller.others k (apart.numbers k (omega (arith, stands)))).height) taller.items in
     let after_same : map (spelled_shelf new) around.after ≡ map (spelled_shelf atlas) around.after =
-    others-spelled atlas lists around.after taller.along (λ k stands. (taller.others k (apart.numbers k (omega (arith, stands)))).height) taller.items in
-    let own : spelled_shelf new entry ≡ combined_shelves (spelled_shelf atlas entry) (spelled_shelf atlas gone) = shelf-is atlas lists entry height (taller.along entry.number) taller.own taller.items in
+    others-spelled atlas records around.after taller.along (λ k stands. (taller.others k (apart.numbers k (omega (arith, stands)))).height) taller.items in
+    let own : spelled_shelf new entry ≡ combined_shelves (spelled_shelf atlas entry) (spelled_shelf atlas gone) = shelf-is atlas records entry height (taller.along entry.number) taller.own taller.items in
     let tail = Each-back (HasFlag atlas) around.before (entry ∷ gone ∷ around.after) flagged.flags in
     record {
       rest = around.after;
@@ -142,14 +142,14 @@ shelf-taken {atlas} around entry next item free touch column is_free flagged =
           ∙ sym (merged-touching (spelled_shelf atlas) both_empty combined_shelves around.before (spelled_shelf atlas entry) (spelled_shelf atlas gone) (map (spelled_shelf atlas) around.after) touch)
           ∙ ap (merged_at both_empty combined_shelves (length around.before)) (sym (map-append (spelled_shelf atlas) around.before (entry ∷ gone ∷ around.after)));
       counted = omega arith;
-      in_list = λ by_height in_list. absorbed-by_height atlas lists around.before around.after entry gone height by_height taller in_list apart.number;
+      in_list = λ by_height in_list. absorbed-by_height atlas records around.before around.after entry gone height by_height taller in_list apart.number;
     }
   where
-    others-spelled : (atlas : AtlasRecords) (lists : Records) (es : List Entry) → ((k : ℕ) → along_of lists.shelves k ≡ along_of atlas.records.shelves k) → ((k : ℕ) → 1 ≤ times k (shelf_numbers es) → height_of lists.shelves k ≡ height_of atlas.records.shelves k) → ((k : ℕ) → SameItem atlas.records.items lists.items k) → map (spelled_shelf (with_lists atlas lists)) es ≡ map (spelled_shelf atlas) es
-    others-spelled atlas lists [] along height same = refl
-    others-spelled atlas lists (e ∷ es) along height same =
-        ap (λ (s : Shelf). s ∷ map (spelled_shelf (with_lists atlas lists)) es) (shelf-is atlas lists e (height_of atlas.records.shelves e.number) (along e.number) (height e.number (omega (arith, times-here e.number (shelf_numbers es)))) same)
-        ∙ ap (λ (ss : List Shelf). spelled_shelf atlas e ∷ ss) (others-spelled atlas lists es along (λ k stands. height k (omega (arith, stands))) same)
+    others-spelled : (atlas : AtlasRecords) (records : Records) (es : List Entry) → ((k : ℕ) → along_of records.shelves k ≡ along_of atlas.records.shelves k) → ((k : ℕ) → 1 ≤ times k (shelf_numbers es) → height_of records.shelves k ≡ height_of atlas.records.shelves k) → ((k : ℕ) → SameItem atlas.records.items records.items k) → map (spelled_shelf (with_records atlas records)) es ≡ map (spelled_shelf atlas) es
+    others-spelled atlas records [] along height same = refl
+    others-spelled atlas records (e ∷ es) along height same =
+        ap (λ (s : Shelf). s ∷ map (spelled_shelf (with_records atlas records)) es) (shelf-is atlas records e (height_of atlas.records.shelves e.number) (along e.number) (height e.number (omega (arith, times-here e.number (shelf_numbers es)))) same)
+        ∙ ap (λ (ss : List Shelf). spelled_shelf atlas e ∷ ss) (others-spelled atlas records es along (λ k stands. height k (omega (arith, stands))) same)
 
 -- the link from a shelf to the next one
 pub next-link : {atlas : AtlasRecords} (around : Around) (entry : Entry) → IsSpelled atlas (with_entry around entry) → link_at shelf_chain.next atlas.records.shelves entry.number ≡ first_or None (shelf_numbers around.after)

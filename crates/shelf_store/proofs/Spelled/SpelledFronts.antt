@@ -96,7 +96,7 @@ front-places items new here front back shelf number rest width apart same_front 
 pub front_given-spelled : {atlas : AtlasRecords} (around : Around) (shelf number rest width : ℕ) (front back free_front free_back : List ℕ) → is_allocated_at atlas.records.items number ≡ false → IsRestItem atlas.records.items shelf number rest width → IsSpelledBut atlas (with_entry around (entry_of shelf (front ++ number ∷ back) (free_front ++ number ∷ free_back))) (rest ∷ []) [] → EditsItems atlas (front_given shelf number rest width atlas.records) around around.unused_items (entry_of shelf (front ++ number ∷ back) (free_front ++ number ∷ free_back)) (entry_of shelf (front ++ number ∷ rest ∷ back) (free_front ++ rest ∷ free_back))
 front_given-spelled {atlas} around shelf number rest width front back free_front free_back is_free is_rest spelled =
     let items : List LinkedItem = atlas.records.items in
-    let lists : Records = front_given shelf number rest width atlas.records in
+    let records : Records = front_given shelf number rest width atlas.records in
     let numbers : List ℕ = front ++ number ∷ back in
     let free : List ℕ = free_front ++ number ∷ free_back in
     let entry : Entry = entry_of shelf numbers free in
@@ -106,25 +106,25 @@ front_given-spelled {atlas} around shelf number rest width front back free_front
     let within : number < length items = apart.within number own_stands in
     let rest_absent : times rest numbers ≡ 0 = apart.loose_items rest (omega (arith, times-here rest [])) in
     let differ : number ≢ rest = λ e. let again : 1 ≤ times rest numbers = rw (← e) own_stands in omega (arith, again, rest_absent) in
-    let given : IsFront items lists.items number width = front-values atlas.records shelf number rest width within in
-    let same : (k : ℕ) → SameShelf atlas.records.shelves lists.shelves k = λ k.
-    shelves-same atlas.records.shelves lists.shelves k (first-kept) in
-    let same_front : (k : ℕ) → 1 ≤ times k front → SameItem items lists.items k = λ k stands. given.others k (before-other front back number k (apart.once k) stands) in
-    let same_back : (k : ℕ) → 1 ≤ times k back → SameItem items lists.items k = λ k stands. given.others k (after-other front back number k (apart.once k) stands) in
-    let rest_same : SameItem items lists.items rest = given.others rest differ in
+    let given : IsFront items records.items number width = front-values atlas.records shelf number rest width within in
+    let same : (k : ℕ) → SameShelf atlas.records.shelves records.shelves k = λ k.
+    shelves-same atlas.records.shelves records.shelves k (first-kept) in
+    let same_front : (k : ℕ) → 1 ≤ times k front → SameItem items records.items k = λ k stands. given.others k (before-other front back number k (apart.once k) stands) in
+    let same_back : (k : ℕ) → 1 ≤ times k back → SameItem items records.items k = λ k stands. given.others k (after-other front back number k (apart.once k) stands) in
+    let rest_same : SameItem items records.items rest = given.others rest differ in
     let owned = Each-back (λ item. shelf_of items item ≡ shelf) front (number ∷ back) placed.owners in
-    let kept_front : (k : ℕ) → free_count lists.items k front ≡ free_count items k front = λ k. free_count-same items lists.items k front (λ n stands. (same_front n stands).allocated) in
-    let kept_back : (k : ℕ) → free_count lists.items k back ≡ free_count items k back = λ k. free_count-same items lists.items k back (λ n stands. (same_back n stands).allocated) in
+    let kept_front : (k : ℕ) → free_count records.items k front ≡ free_count items k front = λ k. free_count-same items records.items k front (λ n stands. (same_front n stands).allocated) in
+    let kept_back : (k : ℕ) → free_count records.items k back ≡ free_count items k back = λ k. free_count-same items records.items k back (λ n stands. (same_back n stands).allocated) in
     record {
       number = refl;
       linked = front_given-linked around shelf number rest width front back free_front free_back spelled.linked;
       placed =
           record {
-            owners = Each-append (λ item. shelf_of lists.items item ≡ shelf) front (number ∷ rest ∷ back)
-                (owners-same items lists.items shelf front same_front (Each-front (λ item. shelf_of items item ≡ shelf) front (number ∷ back) placed.owners))
-                (given.shelf ∙ owned.0, (rest_same.shelf ∙ is_rest.shelf, owners-same items lists.items shelf back same_back owned.1));
+            owners = Each-append (λ item. shelf_of records.items item ≡ shelf) front (number ∷ rest ∷ back)
+                (owners-same items records.items shelf front same_front (Each-front (λ item. shelf_of items item ≡ shelf) front (number ∷ back) placed.owners))
+                (given.shelf ∙ owned.0, (rest_same.shelf ∙ is_rest.shelf, owners-same items records.items shelf back same_back owned.1));
             along = ap (λ a. a % atlas.frame.column_width) (same shelf).along ∙ placed.along;
-            places = rw (same shelf).along (front-places items lists.items (along_of atlas.records.shelves shelf) front back shelf number rest width differ same_front same_back is_rest given placed.places);
+            places = rw (same shelf).along (front-places items records.items (along_of atlas.records.shelves shelf) front back shelf number rest width differ same_front same_back is_rest given placed.places);
             free_list = λ k. omega (
               arith,
               placed.free_list k,
@@ -132,16 +132,16 @@ front_given-spelled {atlas} around shelf number rest width front back free_front
               kept_back k,
               times-append k free_front (number ∷ free_back),
               times-append k free_front (rest ∷ free_back),
-              free_count-append lists.items k front (number ∷ rest ∷ back),
+              free_count-append records.items k front (number ∷ rest ∷ back),
               free_count-append items k front (number ∷ back),
-              free_count-allocated lists.items k number (rest ∷ back) given.allocated,
-              free_count-free lists.items k rest back (rest_same.allocated ∙ is_rest.free),
+              free_count-allocated records.items k number (rest ∷ back) given.allocated,
+              free_count-free records.items k rest back (rest_same.allocated ∙ is_rest.free),
               free_count-free items k number back is_free,
             );
           };
       items = λ k gone. given.others k (not-member front back number k gone);
       shelf = same;
-      left_unused = unmarked-same items lists.items around.unused_items
+      left_unused = unmarked-same items records.items around.unused_items
           (λ k stands. given.others k (not-member front back number k (omega (arith, apart.others k (omega (arith, stands)))))) spelled.unused;
     }
   where

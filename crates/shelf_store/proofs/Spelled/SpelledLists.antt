@@ -17,25 +17,25 @@ use Rattle.shelf_records.specs.Private.Kept.{IsPlaced}
 use Rattle.shelf_store.proofs.Spelled.StackedEdits.{stacked-same}
 
 -- the atlas with other records
-abbrev pub with_lists : AtlasRecords → Records → AtlasRecords
-with_lists atlas lists = record { frame = atlas.frame; records = lists; allocated_space = atlas.allocated_space }
+abbrev pub with_records : AtlasRecords → Records → AtlasRecords
+with_records atlas lists = record { frame = atlas.frame; records = lists; allocated_space = atlas.allocated_space }
 
 -- a shelf whose record and items say the same is spelled as before
-pub shelf-same : (atlas : AtlasRecords) (lists : Records) (entry : Entry) → SameShelf atlas.records.shelves lists.shelves entry.number → ((k : ℕ) → 1 ≤ times k entry.items → SameItem atlas.records.items lists.items k) → ((k : ℕ) → times k entry.free_list ≤ times k entry.items) → spelled_shelf (with_lists atlas lists) entry ≡ spelled_shelf atlas entry
-shelf-same atlas lists entry shelf items members =
-    ap (λ a. record { column = a / atlas.frame.column_width; height = height_of lists.shelves entry.number; items = map (item_at lists.items) entry.items; free_list = map (item_place_of lists.items) entry.free_list }) shelf.along
-    ∙ ap (λ h. record { column = along_of atlas.records.shelves entry.number / atlas.frame.column_width; height = h; items = map (item_at lists.items) entry.items; free_list = map (item_place_of lists.items) entry.free_list }) shelf.height
-    ∙ ap (λ is. record { column = along_of atlas.records.shelves entry.number / atlas.frame.column_width; height = height_of atlas.records.shelves entry.number; items = is; free_list = map (item_place_of lists.items) entry.free_list }) (map-agrees (item_at lists.items) (item_at atlas.records.items) entry.items (λ k stands. (items k stands).item))
-    ∙ ap (λ ps. record { column = along_of atlas.records.shelves entry.number / atlas.frame.column_width; height = height_of atlas.records.shelves entry.number; items = map (item_at atlas.records.items) entry.items; free_list = ps }) (map-agrees (item_place_of lists.items) (item_place_of atlas.records.items) entry.free_list (λ k stands. (items k (omega (arith, stands, members k))).place))
+pub shelf-same : (atlas : AtlasRecords) (records : Records) (entry : Entry) → SameShelf atlas.records.shelves records.shelves entry.number → ((k : ℕ) → 1 ≤ times k entry.items → SameItem atlas.records.items records.items k) → ((k : ℕ) → times k entry.free_list ≤ times k entry.items) → spelled_shelf (with_records atlas records) entry ≡ spelled_shelf atlas entry
+shelf-same atlas records entry shelf items members =
+    ap (λ a. record { column = a / atlas.frame.column_width; height = height_of records.shelves entry.number; items = map (item_at records.items) entry.items; free_list = map (item_place_of records.items) entry.free_list }) shelf.along
+    ∙ ap (λ h. record { column = along_of atlas.records.shelves entry.number / atlas.frame.column_width; height = h; items = map (item_at records.items) entry.items; free_list = map (item_place_of records.items) entry.free_list }) shelf.height
+    ∙ ap (λ is. record { column = along_of atlas.records.shelves entry.number / atlas.frame.column_width; height = height_of atlas.records.shelves entry.number; items = is; free_list = map (item_place_of records.items) entry.free_list }) (map-agrees (item_at records.items) (item_at atlas.records.items) entry.items (λ k stands. (items k stands).item))
+    ∙ ap (λ ps. record { column = along_of atlas.records.shelves entry.number / atlas.frame.column_width; height = height_of atlas.records.shelves entry.number; items = map (item_at atlas.records.items) entry.items; free_list = ps }) (map-agrees (item_place_of records.items) (item_place_of atlas.records.items) entry.free_list (λ k stands. (items k (omega (arith, stands, members k))).place))
 
 -- a shelf whose record and items say the same is placed as before
-pub placed-same : (atlas : AtlasRecords) (lists : Records) (entry : Entry) → along_of lists.shelves entry.number ≡ along_of atlas.records.shelves entry.number → ((k : ℕ) → 1 ≤ times k entry.items → SameItem atlas.records.items lists.items k) → IsPlaced atlas entry → IsPlaced (with_lists atlas lists) entry
-placed-same atlas lists entry along items placed =
+pub placed-same : (atlas : AtlasRecords) (records : Records) (entry : Entry) → along_of records.shelves entry.number ≡ along_of atlas.records.shelves entry.number → ((k : ℕ) → 1 ≤ times k entry.items → SameItem atlas.records.items records.items k) → IsPlaced atlas entry → IsPlaced (with_records atlas records) entry
+placed-same atlas records entry along items placed =
     record {
-      owners = owners-same atlas.records.items lists.items entry.number entry.items items placed.owners;
+      owners = owners-same atlas.records.items records.items entry.number entry.items items placed.owners;
       along = ap (λ a. a % atlas.frame.column_width) along ∙ placed.along;
-      places = rw along (LieFrom-same atlas.records.items lists.items (along_of atlas.records.shelves entry.number) entry.items items placed.places);
-      free_list = λ k. placed.free_list k ∙ sym (free_count-same atlas.records.items lists.items k entry.items (λ n stands. (items n stands).allocated));
+      places = rw along (LieFrom-same atlas.records.items records.items (along_of atlas.records.shelves entry.number) entry.items items placed.places);
+      free_list = λ k. placed.free_list k ∙ sym (free_count-same atlas.records.items records.items k entry.items (λ n stands. (items n stands).allocated));
     }
 
 -- records that spell lists, while an edit goes on, but for those that stand in no list: no more is known of the state
@@ -51,36 +51,36 @@ abbrev pub IsSpelled : AtlasRecords → Lists → Type 0
 IsSpelled atlas lists = IsSpelledBut atlas lists [] []
 
 -- an edit of the items of one shelf: what the records of other items and of all shelves say stays
-pub record EditsItems (atlas : AtlasRecords) (lists : Records) (around : Around) (unused' : List ℕ) (entry edited : Entry) : Type 0 where
+pub record EditsItems (atlas : AtlasRecords) (records : Records) (around : Around) (unused' : List ℕ) (entry edited : Entry) : Type 0 where
   pub number : edited.number ≡ entry.number
-  pub linked : IsLinkedExcept lists (with_entry (record around { unused_items = unused' }) edited) [] []
-  pub placed : IsPlaced (with_lists atlas lists) edited
-  pub items : (k : ℕ) → times k entry.items ≡ 0 → SameItem atlas.records.items lists.items k
-  pub shelf : (k : ℕ) → SameShelf atlas.records.shelves lists.shelves k
-  pub left_unused : AllByRecursion (λ item. is_allocated_at lists.items item ≡ false) unused'
+  pub linked : IsLinkedExcept records (with_entry (record around { unused_items = unused' }) edited) [] []
+  pub placed : IsPlaced (with_records atlas records) edited
+  pub items : (k : ℕ) → times k entry.items ≡ 0 → SameItem atlas.records.items records.items k
+  pub shelf : (k : ℕ) → SameShelf atlas.records.shelves records.shelves k
+  pub left_unused : AllByRecursion (λ item. is_allocated_at records.items item ≡ false) unused'
 
 -- shelves whose items are untouched are placed and spelled as before
-untouched : (atlas : AtlasRecords) (lists : Records) (entries : List Entry) → ((k : ℕ) → SameShelf atlas.records.shelves lists.shelves k) → ((k : ℕ) → 1 ≤ times k (item_numbers entries) → SameItem atlas.records.items lists.items k) → AllByRecursion (IsEntry atlas.records) entries → AllByRecursion (IsPlaced atlas) entries → AllByRecursion (IsPlaced (with_lists atlas lists)) entries × (map (spelled_shelf (with_lists atlas lists)) entries ≡ map (spelled_shelf atlas) entries)
-untouched atlas lists [] shelf items are placed = (tt, refl)
-untouched atlas lists (entry ∷ entries) shelf items are placed =
-    let own : (k : ℕ) → 1 ≤ times k entry.items → SameItem atlas.records.items lists.items k = λ k stands. items k (omega (arith, stands, times-append k entry.items (item_numbers entries))) in
-    let rest = untouched atlas lists entries shelf (λ k stands. items k (omega (arith, stands, times-append k entry.items (item_numbers entries)))) are.1 placed.1 in (
-      (placed-same atlas lists entry (shelf entry.number).along own placed.0, rest.0),
-      ap (λ (s : Shelf). s ∷ map (spelled_shelf (with_lists atlas lists)) entries) (shelf-same atlas lists entry (shelf entry.number) own are.0.members)
+untouched : (atlas : AtlasRecords) (records : Records) (entries : List Entry) → ((k : ℕ) → SameShelf atlas.records.shelves records.shelves k) → ((k : ℕ) → 1 ≤ times k (item_numbers entries) → SameItem atlas.records.items records.items k) → AllByRecursion (IsEntry atlas.records) entries → AllByRecursion (IsPlaced atlas) entries → AllByRecursion (IsPlaced (with_records atlas records)) entries × (map (spelled_shelf (with_records atlas records)) entries ≡ map (spelled_shelf atlas) entries)
+untouched atlas records [] shelf items are placed = (tt, refl)
+untouched atlas records (entry ∷ entries) shelf items are placed =
+    let own : (k : ℕ) → 1 ≤ times k entry.items → SameItem atlas.records.items records.items k = λ k stands. items k (omega (arith, stands, times-append k entry.items (item_numbers entries))) in
+    let rest = untouched atlas records entries shelf (λ k stands. items k (omega (arith, stands, times-append k entry.items (item_numbers entries)))) are.1 placed.1 in (
+      (placed-same atlas records entry (shelf entry.number).along own placed.0, rest.0),
+      ap (λ (s : Shelf). s ∷ map (spelled_shelf (with_records atlas records)) entries) (shelf-same atlas records entry (shelf entry.number) own are.0.members)
           ∙ ap (λ (ss : List Shelf). spelled_shelf atlas entry ∷ ss) rest.1,
     )
 
 -- the records after an edit of the items of one shelf that puts all loose records into it spell the lists with that
 -- shelf edited, and the same other shelves
-pub items-edited-but : {atlas : AtlasRecords} (lists : Records) (around : Around) (unused' loose : List ℕ) (entry edited : Entry) → IsSpelledBut atlas (with_entry around entry) loose [] → EditsItems atlas lists around unused' entry edited → IsSpelled (with_lists atlas lists) (with_entry (record around { unused_items = unused' }) edited) × (map (spelled_shelf (with_lists atlas lists)) (around.before ++ edited ∷ around.after) ≡ map (spelled_shelf atlas) around.before ++ spelled_shelf (with_lists atlas lists) edited ∷ map (spelled_shelf atlas) around.after)
-items-edited-but {atlas} lists around unused' loose entry edited spelled edits =
-    let new : AtlasRecords = with_lists atlas lists in
+pub items-edited-but : {atlas : AtlasRecords} (records : Records) (around : Around) (unused' loose : List ℕ) (entry edited : Entry) → IsSpelledBut atlas (with_entry around entry) loose [] → EditsItems atlas records around unused' entry edited → IsSpelled (with_records atlas records) (with_entry (record around { unused_items = unused' }) edited) × (map (spelled_shelf (with_records atlas records)) (around.before ++ edited ∷ around.after) ≡ map (spelled_shelf atlas) around.before ++ spelled_shelf (with_records atlas records) edited ∷ map (spelled_shelf atlas) around.after)
+items-edited-but {atlas} records around unused' loose entry edited spelled edits =
+    let new : AtlasRecords = with_records atlas records in
     let apart = linked-apart around entry spelled.linked in
-    let front = untouched atlas lists around.before edits.shelf
+    let front = untouched atlas records around.before edits.shelf
     (λ k stands. edits.items k (omega (arith, apart.others k (omega (arith, stands)))))
     (Each-front (IsEntry atlas.records) around.before (entry ∷ around.after) spelled.linked.entries)
     (Each-front (IsPlaced atlas) around.before (entry ∷ around.after) spelled.placed) in
-    let back = untouched atlas lists around.after edits.shelf
+    let back = untouched atlas records around.after edits.shelf
     (λ k stands. edits.items k (omega (arith, apart.others k (omega (arith, stands)))))
     (Each-back (IsEntry atlas.records) around.before (entry ∷ around.after) spelled.linked.entries).1
     (Each-back (IsPlaced atlas) around.before (entry ∷ around.after) spelled.placed).1 in
@@ -88,7 +88,7 @@ items-edited-but {atlas} lists around unused' loose entry edited spelled edits =
       record {
         linked = edits.linked;
         placed = Each-append (IsPlaced new) around.before (edited ∷ around.after) front.0 (edits.placed, back.0);
-        stacked = rw numbers (stacked-same atlas.records.shelves lists.shelves atlas.frame.column_width edits.shelf (shelf_numbers (around.before ++ entry ∷ around.after)) spelled.stacked);
+        stacked = rw numbers (stacked-same atlas.records.shelves records.shelves atlas.frame.column_width edits.shelf (shelf_numbers (around.before ++ entry ∷ around.after)) spelled.stacked);
         unused = edits.left_unused;
       },
       map-append (spelled_shelf new) around.before (edited ∷ around.after)
@@ -97,6 +97,6 @@ items-edited-but {atlas} lists around unused' loose entry edited spelled edits =
     )
 
 -- the same of an edit that puts no other records into it
-pub items-edited : {atlas : AtlasRecords} (lists : Records) (around : Around) (unused' : List ℕ) (entry edited : Entry) → IsSpelled atlas (with_entry around entry) → EditsItems atlas lists around unused' entry edited → IsSpelled (with_lists atlas lists) (with_entry (record around { unused_items = unused' }) edited) × (map (spelled_shelf (with_lists atlas lists)) (around.before ++ edited ∷ around.after) ≡ map (spelled_shelf atlas) around.before ++ spelled_shelf (with_lists atlas lists) edited ∷ map (spelled_shelf atlas) around.after)
-items-edited {atlas} lists around unused' entry edited spelled edits =
-    items-edited-but lists around unused' [] entry edited spelled edits
+pub items-edited : {atlas : AtlasRecords} (records : Records) (around : Around) (unused' : List ℕ) (entry edited : Entry) → IsSpelled atlas (with_entry around entry) → EditsItems atlas records around unused' entry edited → IsSpelled (with_records atlas records) (with_entry (record around { unused_items = unused' }) edited) × (map (spelled_shelf (with_records atlas records)) (around.before ++ edited ∷ around.after) ≡ map (spelled_shelf atlas) around.before ++ spelled_shelf (with_records atlas records) edited ∷ map (spelled_shelf atlas) around.after)
+items-edited {atlas} records around unused' entry edited spelled edits =
+    items-edited-but records around unused' [] entry edited spelled edits

@@ -67,27 +67,27 @@ are-pair around shelf number next front back free spelled =
     }
 
 -- an item took the place of the next one, which became unused
-absorbed-spelled : {atlas : AtlasRecords} (around : Around) (shelf number next : ℕ) (front back free free' : List ℕ) (lists : Records) → IsSpelled atlas (with_entry around (entry_of shelf (front ++ number ∷ next ∷ back) free)) → Absorbs atlas.records.items lists.items number next → is_allocated_at lists.items next ≡ false → ((k : ℕ) → SameShelf atlas.records.shelves lists.shelves k) → IsLinkedExcept lists (with_entry (unused_too next around) (entry_of shelf (front ++ number ∷ back) free')) [] [] → ((k : ℕ) → times k free' + free_count atlas.records.items k (next ∷ []) ≡ times k free) → EditsItems atlas lists around (next ∷ around.unused_items) (entry_of shelf (front ++ number ∷ next ∷ back) free) (entry_of shelf (front ++ number ∷ back) free')
-absorbed-spelled {atlas} around shelf number next front back free free' lists spelled absorbs unmarked same linked listed =
+absorbed-spelled : {atlas : AtlasRecords} (around : Around) (shelf number next : ℕ) (front back free free' : List ℕ) (records : Records) → IsSpelled atlas (with_entry around (entry_of shelf (front ++ number ∷ next ∷ back) free)) → Absorbs atlas.records.items records.items number next → is_allocated_at records.items next ≡ false → ((k : ℕ) → SameShelf atlas.records.shelves records.shelves k) → IsLinkedExcept records (with_entry (unused_too next around) (entry_of shelf (front ++ number ∷ back) free')) [] [] → ((k : ℕ) → times k free' + free_count atlas.records.items k (next ∷ []) ≡ times k free) → EditsItems atlas records around (next ∷ around.unused_items) (entry_of shelf (front ++ number ∷ next ∷ back) free) (entry_of shelf (front ++ number ∷ back) free')
+absorbed-spelled {atlas} around shelf number next front back free free' records spelled absorbs unmarked same linked listed =
     let items : List LinkedItem = atlas.records.items in
     let entry : Entry = entry_of shelf (front ++ number ∷ next ∷ back) free in
     let apart = linked-apart around entry spelled.linked in
     let placed : IsPlaced atlas entry = Each-middle (IsPlaced atlas) around.before entry around.after spelled.placed in
     let rest : IsRest front back number next = rest-of front back number next apart.once in
-    let others : (k : ℕ) → times k entry.items ≡ 0 → SameItem items lists.items k = λ k absent.
+    let others : (k : ℕ) → times k entry.items ≡ 0 → SameItem items records.items k = λ k absent.
     absorbs.others k (neither front back number next k absent).0 (neither front back number next k absent).1 in
     record {
       number = refl;
       linked = linked;
       placed = record {
-        owners = absorbed-owners items lists.items shelf front back number next rest absorbs placed.owners;
+        owners = absorbed-owners items records.items shelf front back number next rest absorbs placed.owners;
         along = ap (λ a. a % atlas.frame.column_width) (same shelf).along ∙ placed.along;
-        places = rw (same shelf).along (absorbed-places items lists.items (along_of atlas.records.shelves shelf) front back number next rest absorbs placed.places);
-        free_list = λ k. omega (arith, placed.free_list k, listed k, absorbed-free items lists.items k front back number next rest absorbs);
+        places = rw (same shelf).along (absorbed-places items records.items (along_of atlas.records.shelves shelf) front back number next rest absorbs placed.places);
+        free_list = λ k. omega (arith, placed.free_list k, listed k, absorbed-free items records.items k front back number next rest absorbs);
       };
       items = others;
       shelf = same;
-      left_unused = (unmarked, unmarked-same items lists.items around.unused_items (λ k stands. others k (omega (arith, apart.others k (omega (arith, stands))))) spelled.unused);
+      left_unused = (unmarked, unmarked-same items records.items around.unused_items (λ k stands. others k (omega (arith, apart.others k (omega (arith, stands))))) spelled.unused);
     }
 
 -- the records after an item took the place of the free one after it
@@ -95,14 +95,14 @@ pub free_absorbed-spelled : {atlas : AtlasRecords} (around : Around) (shelf numb
 free_absorbed-spelled {atlas} around shelf number next front back free_front free_back is_free spelled =
     let items : List LinkedItem = atlas.records.items in
     let width : ℕ = (item_at items number).width + (item_at items next).width in
-    let lists : Records = free_absorbed shelf number next width atlas.records in
+    let records : Records = free_absorbed shelf number next width atlas.records in
     let free : List ℕ = free_front ++ next ∷ free_back in
     let pair : ArePair items number next = are-pair around shelf number next front back free spelled in
-    let wide : IsWidened items lists.items number width = free-widens atlas.records shelf number next pair.within in
+    let wide : IsWidened items records.items number width = free-widens atlas.records shelf number next pair.within in
     let one : Records = free_unlinked shelf next atlas.records in
-    absorbed-spelled around shelf number next front back free (free_front ++ free_back) lists spelled (widened-absorbs items lists.items number next wide)
+    absorbed-spelled around shelf number next front back free (free_front ++ free_back) records spelled (widened-absorbs items records.items number next wide)
     ((wide.others next pair.apart).allocated ∙ is_free)
-    (λ k. shelves-same atlas.records.shelves lists.shelves k
+    (λ k. shelves-same atlas.records.shelves records.shelves k
     (item-first shelf (first_without (link_at item_chain.previous one.items next) (link_at item_chain.next one.items next) (first_item_of one.shelves shelf)) one.shelves
     ∙ free-first shelf (first_without (link_at free_list.previous items next) (link_at free_list.next items next) (first_free_of atlas.records.shelves shelf)) atlas.records.shelves))
     (free_absorbed-linked around shelf number next width front back free_front free_back spelled.linked)
@@ -113,13 +113,13 @@ pub allocated_absorbed-spelled : {atlas : AtlasRecords} (around : Around) (shelf
 allocated_absorbed-spelled {atlas} around shelf number next front back free is_allocated spelled =
     let items : List LinkedItem = atlas.records.items in
     let width : ℕ = (item_at items number).width + (item_at items next).width in
-    let lists : Records = allocated_absorbed shelf number next width atlas.records in
+    let records : Records = allocated_absorbed shelf number next width atlas.records in
     let numbers : List ℕ = front ++ number ∷ next ∷ back in
     let placed : IsPlaced atlas (entry_of shelf numbers free) = Each-middle (IsPlaced atlas) around.before (entry_of shelf numbers free) around.after spelled.placed in
     let pair : ArePair items number next = are-pair around shelf number next front back free spelled in
-    absorbed-spelled around shelf number next front back free free lists spelled (allocated-absorbs atlas.records shelf number next pair.apart pair.within)
+    absorbed-spelled around shelf number next front back free free records spelled (allocated-absorbs atlas.records shelf number next pair.apart pair.within)
     (allocated-unmarked atlas.records shelf number next width pair.apart pair.next_within)
-    (λ k. shelves-same atlas.records.shelves lists.shelves k
+    (λ k. shelves-same atlas.records.shelves records.shelves k
     (item-first shelf (first_without (link_at item_chain.previous items next) (link_at item_chain.next items next) (first_item_of atlas.records.shelves shelf)) atlas.records.shelves))
     (allocated_absorbed-linked around shelf number next width front back free (placed.free_list next ∙ free_count-none items next numbers is_allocated) spelled.linked)
     (λ k. omega (arith, free_count-allocated items k next [] is_allocated))
@@ -159,34 +159,34 @@ after-other front back number k once stands e =
     omega (arith, once, stands, times-append k front (number ∷ back), here)
 
 -- an item of a shelf became free or allocated, and its free list was changed for that
-item_marked-spelled : {atlas : AtlasRecords} (around : Around) (shelf number : ℕ) (front back free free' : List ℕ) (lists : Records) {item : Item} {allocated : Bool} → IsSpelled atlas (with_entry around (entry_of shelf (front ++ number ∷ back) free)) → SaysNow atlas.records.items lists.items number item allocated → item.width ≡ (item_at atlas.records.items number).width → ((k : ℕ) → SameShelf atlas.records.shelves lists.shelves k) → IsLinkedExcept lists (with_entry around (entry_of shelf (front ++ number ∷ back) free')) [] [] → ((k : ℕ) → times k free' + free_count atlas.records.items k (number ∷ []) ≡ times k free + free_count lists.items k (number ∷ [])) → EditsItems atlas lists around around.unused_items (entry_of shelf (front ++ number ∷ back) free) (entry_of shelf (front ++ number ∷ back) free')
-item_marked-spelled {atlas} around shelf number front back free free' lists spelled says width same linked counts =
+item_marked-spelled : {atlas : AtlasRecords} (around : Around) (shelf number : ℕ) (front back free free' : List ℕ) (records : Records) {item : Item} {allocated : Bool} → IsSpelled atlas (with_entry around (entry_of shelf (front ++ number ∷ back) free)) → SaysNow atlas.records.items records.items number item allocated → item.width ≡ (item_at atlas.records.items number).width → ((k : ℕ) → SameShelf atlas.records.shelves records.shelves k) → IsLinkedExcept records (with_entry around (entry_of shelf (front ++ number ∷ back) free')) [] [] → ((k : ℕ) → times k free' + free_count atlas.records.items k (number ∷ []) ≡ times k free + free_count records.items k (number ∷ [])) → EditsItems atlas records around around.unused_items (entry_of shelf (front ++ number ∷ back) free) (entry_of shelf (front ++ number ∷ back) free')
+item_marked-spelled {atlas} around shelf number front back free free' records spelled says width same linked counts =
     let items : List LinkedItem = atlas.records.items in
     let entry : Entry = entry_of shelf (front ++ number ∷ back) free in
     let apart = linked-apart around entry spelled.linked in
     let placed : IsPlaced atlas entry = Each-middle (IsPlaced atlas) around.before entry around.after spelled.placed in
-    let same_front : (k : ℕ) → 1 ≤ times k front → SameItem items lists.items k = λ k stands. says.others k (before-other front back number k (apart.once k) stands) in
-    let same_back : (k : ℕ) → 1 ≤ times k back → SameItem items lists.items k = λ k stands. says.others k (after-other front back number k (apart.once k) stands) in
-    let own_width : (item_at lists.items number).width ≡ (item_at items number).width = ap (λ (i : Item). i.width) says.item ∙ width in
+    let same_front : (k : ℕ) → 1 ≤ times k front → SameItem items records.items k = λ k stands. says.others k (before-other front back number k (apart.once k) stands) in
+    let same_back : (k : ℕ) → 1 ≤ times k back → SameItem items records.items k = λ k stands. says.others k (after-other front back number k (apart.once k) stands) in
+    let own_width : (item_at records.items number).width ≡ (item_at items number).width = ap (λ (i : Item). i.width) says.item ∙ width in
     let owned = Each-back (λ item. shelf_of items item ≡ shelf) front (number ∷ back) placed.owners in
-    let kept_front : (k : ℕ) → free_count lists.items k front ≡ free_count items k front = λ k. free_count-same items lists.items k front (λ n stands. (same_front n stands).allocated) in
-    let kept_back : (k : ℕ) → free_count lists.items k back ≡ free_count items k back = λ k. free_count-same items lists.items k back (λ n stands. (same_back n stands).allocated) in
+    let kept_front : (k : ℕ) → free_count records.items k front ≡ free_count items k front = λ k. free_count-same items records.items k front (λ n stands. (same_front n stands).allocated) in
+    let kept_back : (k : ℕ) → free_count records.items k back ≡ free_count items k back = λ k. free_count-same items records.items k back (λ n stands. (same_back n stands).allocated) in
     let split : (is : List LinkedItem) (k : ℕ) → free_count is k (number ∷ back) ≡ free_count is k (number ∷ []) + free_count is k back = λ is k. free_count-append is k (number ∷ []) back in
     record {
       number = refl;
       linked = linked;
       placed =
           record {
-            owners = Each-append (λ item. shelf_of lists.items item ≡ shelf) front (number ∷ back)
-                (owners-same items lists.items shelf front same_front (Each-front (λ item. shelf_of items item ≡ shelf) front (number ∷ back) placed.owners))
-                (says.shelf ∙ owned.0, owners-same items lists.items shelf back same_back owned.1);
+            owners = Each-append (λ item. shelf_of records.items item ≡ shelf) front (number ∷ back)
+                (owners-same items records.items shelf front same_front (Each-front (λ item. shelf_of items item ≡ shelf) front (number ∷ back) placed.owners))
+                (says.shelf ∙ owned.0, owners-same items records.items shelf back same_back owned.1);
             along = ap (λ a. a % atlas.frame.column_width) (same shelf).along ∙ placed.along;
-            places = rw (same shelf).along (remarked-places items lists.items (along_of atlas.records.shelves shelf) front back number same_front same_back says.place own_width placed.places);
-            free_list = λ k. omega (arith, placed.free_list k, counts k, kept_front k, kept_back k, split items k, split lists.items k, free_count-append lists.items k front (number ∷ back), free_count-append items k front (number ∷ back));
+            places = rw (same shelf).along (remarked-places items records.items (along_of atlas.records.shelves shelf) front back number same_front same_back says.place own_width placed.places);
+            free_list = λ k. omega (arith, placed.free_list k, counts k, kept_front k, kept_back k, split items k, split records.items k, free_count-append records.items k front (number ∷ back), free_count-append items k front (number ∷ back));
           };
       items = λ k gone. says.others k (not-member front back number k gone);
       shelf = same;
-      left_unused = unmarked-same items lists.items around.unused_items
+      left_unused = unmarked-same items records.items around.unused_items
           (λ k stands. says.others k (not-member front back number k (omega (arith, apart.others k (omega (arith, stands)))))) spelled.unused;
     }
 
@@ -198,12 +198,12 @@ item_freed-spelled {atlas} around shelf number front back free is_allocated spel
     let within : number < length items = (linked-apart around entry spelled.linked).within number (omega (arith, times-append number front (number ∷ back), times-here number back)) in
     let placed : IsPlaced atlas entry = Each-middle (IsPlaced atlas) around.before entry around.after spelled.placed in
     let absent : times number free ≡ 0 = placed.free_list number ∙ free_count-none items number (front ++ number ∷ back) is_allocated in
-    let lists : Records = item_freed shelf number atlas.records in
-    let freed : IsFreed items lists.items number = freed-values atlas.records shelf number within in
-    item_marked-spelled around shelf number front back free (number ∷ free) lists spelled freed refl
-    (λ k. shelves-same atlas.records.shelves lists.shelves k (free-first shelf (Some number) atlas.records.shelves))
+    let records : Records = item_freed shelf number atlas.records in
+    let freed : IsFreed items records.items number = freed-values atlas.records shelf number within in
+    item_marked-spelled around shelf number front back free (number ∷ free) records spelled freed refl
+    (λ k. shelves-same atlas.records.shelves records.shelves k (free-first shelf (Some number) atlas.records.shelves))
     (item_freed-linked around shelf number front back free absent spelled.linked)
-    (λ k. omega (arith, free_count-free lists.items k number [] freed.allocated, free_count-allocated items k number [] is_allocated))
+    (λ k. omega (arith, free_count-free records.items k number [] freed.allocated, free_count-allocated items k number [] is_allocated))
 
 -- what an item says after it was given whole
 pub given-values : (records : Records) (shelf number : ℕ) → number < length records.items → IsGiven records.items (item_given shelf number records).items number
@@ -233,10 +233,10 @@ item_given-spelled {atlas} around shelf number front back free_front free_back i
     let numbers : List ℕ = front ++ number ∷ back in
     let free : List ℕ = free_front ++ number ∷ free_back in
     let within : number < length items = (linked-apart around (entry_of shelf numbers free) spelled.linked).within number (omega (arith, times-append number front (number ∷ back), times-here number back)) in
-    let lists : Records = item_given shelf number atlas.records in
-    let given : IsGiven items lists.items number = given-values atlas.records shelf number within in
-    item_marked-spelled around shelf number front back free (free_front ++ free_back) lists spelled given refl
-    (λ k. shelves-same atlas.records.shelves lists.shelves k
+    let records : Records = item_given shelf number atlas.records in
+    let given : IsGiven items records.items number = given-values atlas.records shelf number within in
+    item_marked-spelled around shelf number front back free (free_front ++ free_back) records spelled given refl
+    (λ k. shelves-same atlas.records.shelves records.shelves k
     (free-first shelf (first_without (link_at free_list.previous items number) (link_at free_list.next items number) (first_free_of atlas.records.shelves shelf)) atlas.records.shelves))
     (item_given-linked around shelf number numbers free_front free_back spelled.linked)
-    (λ k. omega (arith, times-append k free_front (number ∷ free_back), times-append k free_front free_back, free_count-allocated lists.items k number [] given.allocated, free_count-free items k number [] is_free))
+    (λ k. omega (arith, times-append k free_front (number ∷ free_back), times-append k free_front free_back, free_count-allocated records.items k number [] given.allocated, free_count-free items k number [] is_free))

@@ -20,7 +20,7 @@ use Rattle.etagere_links.proofs.RecordFrames.{map-unlinked, map-made_unused, len
 use Rattle.shelf_records.specs.AtlasRecords.{AtlasRecords, is_allocated_at, is_empty_at, along_of, across_of, height_of}
 use Rattle.shelf_store.proofs.Spelled.AbsorbedItems.{items-keep_values}
 use Rattle.shelf_records.proofs.Spelled.RecordValues.{item_values, shelf_values, SameItem, SameShelf, items-same, shelves-same, shelf-other}
-use Rattle.shelf_store.proofs.Spelled.SpelledLists.{with_lists, IsSpelled, placed-same}
+use Rattle.shelf_store.proofs.Spelled.SpelledLists.{with_records, IsSpelled, placed-same}
 use Rattle.shelf_store.proofs.Spelled.SpelledMerges.{unmarked-same}
 use Rattle.shelf_store.proofs.Spelled.StackedEdits.{AbsorbsShelf, stacked-absorbed}
 use Rattle.shelf_records.specs.Private.Kept.{IsPlaced}
@@ -30,10 +30,10 @@ pub shelves-keep_values : IsUnchanged shelf_chain shelf_values
 shelves-keep_values = record { next = λ link x. refl; previous = λ link x. refl }
 
 -- shelves whose items say the same, and that begin along where they began, are placed as before
-pub still-placed : (atlas : AtlasRecords) (lists : Records) (entries : List Entry) → ((k : ℕ) → along_of lists.shelves k ≡ along_of atlas.records.shelves k) → ((k : ℕ) → SameItem atlas.records.items lists.items k) → AllByRecursion (IsPlaced atlas) entries → AllByRecursion (IsPlaced (with_lists atlas lists)) entries
-still-placed atlas lists [] along items placed = tt
-still-placed atlas lists (entry ∷ entries) along items placed =
-    (placed-same atlas lists entry (along entry.number) (λ k stands. items k) placed.0, still-placed atlas lists entries along items placed.1)
+pub still-placed : (atlas : AtlasRecords) (records : Records) (entries : List Entry) → ((k : ℕ) → along_of records.shelves k ≡ along_of atlas.records.shelves k) → ((k : ℕ) → SameItem atlas.records.items records.items k) → AllByRecursion (IsPlaced atlas) entries → AllByRecursion (IsPlaced (with_records atlas records)) entries
+still-placed atlas records [] along items placed = tt
+still-placed atlas records (entry ∷ entries) along items placed =
+    (placed-same atlas records entry (along entry.number) (λ k stands. items k) placed.0, still-placed atlas records entries along items placed.1)
 
 -- what records say after an empty shelf took the place of the one after it: it is taller, and all else is as it was
 pub record IsTaller (old new : Records) (number height : ℕ) : Type 0 where
@@ -66,28 +66,28 @@ shelf_absorbed-values records number next item height within =
     }
 
 -- the records after an empty shelf took the place of the empty one after it in its column
-pub shelf_absorbed-spelled : {atlas : AtlasRecords} (around : Around) (entry : Entry) (next item : ℕ) (free : List ℕ) → along_of atlas.records.shelves next ≡ along_of atlas.records.shelves entry.number → is_allocated_at atlas.records.items item ≡ false → IsSpelled atlas (lists_of (around.before ++ entry ∷ entry_of next (item ∷ []) free ∷ around.after) around.unused_items around.unused_shelves) → IsSpelled (with_lists atlas (shelf_absorbed entry.number next item (height_of atlas.records.shelves entry.number + height_of atlas.records.shelves next) atlas.records)) (lists_of (around.before ++ entry ∷ around.after) (item ∷ around.unused_items) (next ∷ around.unused_shelves))
+pub shelf_absorbed-spelled : {atlas : AtlasRecords} (around : Around) (entry : Entry) (next item : ℕ) (free : List ℕ) → along_of atlas.records.shelves next ≡ along_of atlas.records.shelves entry.number → is_allocated_at atlas.records.items item ≡ false → IsSpelled atlas (lists_of (around.before ++ entry ∷ entry_of next (item ∷ []) free ∷ around.after) around.unused_items around.unused_shelves) → IsSpelled (with_records atlas (shelf_absorbed entry.number next item (height_of atlas.records.shelves entry.number + height_of atlas.records.shelves next) atlas.records)) (lists_of (around.before ++ entry ∷ around.after) (item ∷ around.unused_items) (next ∷ around.unused_shelves))
 shelf_absorbed-spelled {atlas} around entry next item free column is_free spelled =
     let old : List LinkedShelf = atlas.records.shelves in
     let items : List LinkedItem = atlas.records.items in
     let height : ℕ = height_of old entry.number + height_of old next in
-    let lists : Records = shelf_absorbed entry.number next item height atlas.records in
+    let records : Records = shelf_absorbed entry.number next item height atlas.records in
     let gone : Entry = entry_of next (item ∷ []) free in
     let apart = linked-apart (record around { after = gone ∷ around.after }) entry spelled.linked in
-    let taller : IsTaller atlas.records lists entry.number height = shelf_absorbed-values atlas.records entry.number next item height apart.number in
-    let absorbs : AbsorbsShelf old lists.shelves entry.number next =
+    let taller : IsTaller atlas.records records entry.number height = shelf_absorbed-values atlas.records entry.number next item height apart.number in
+    let absorbs : AbsorbsShelf old records.shelves entry.number next =
     record { along = taller.along entry.number; across = taller.across entry.number; height = taller.own; column = column } in
     let numbers : shelf_numbers (around.before ++ entry ∷ gone ∷ around.after) ≡ shelf_numbers around.before ++ entry.number ∷ next ∷ shelf_numbers around.after = shelf_numbers-append around.before (entry ∷ gone ∷ around.after) in
     let fewer : shelf_numbers (around.before ++ entry ∷ around.after) ≡ shelf_numbers around.before ++ entry.number ∷ shelf_numbers around.after = shelf_numbers-append around.before (entry ∷ around.after) in
     let tail = Each-back (IsPlaced atlas) around.before (entry ∷ gone ∷ around.after) spelled.placed in
     record {
       linked = shelf_absorbed-linked around entry next item height free spelled.linked;
-      placed = Each-append (IsPlaced (with_lists atlas lists)) around.before (entry ∷ around.after)
-          (still-placed atlas lists around.before taller.along taller.items (Each-front (IsPlaced atlas) around.before (entry ∷ gone ∷ around.after) spelled.placed))
-          (still-placed atlas lists (entry ∷ around.after) taller.along taller.items (tail.0, tail.1.1));
-      stacked = rw fewer (stacked-absorbed old lists.shelves atlas.frame.column_width (shelf_numbers around.before) (shelf_numbers around.after) entry.number next
+      placed = Each-append (IsPlaced (with_records atlas records)) around.before (entry ∷ around.after)
+          (still-placed atlas records around.before taller.along taller.items (Each-front (IsPlaced atlas) around.before (entry ∷ gone ∷ around.after) spelled.placed))
+          (still-placed atlas records (entry ∷ around.after) taller.along taller.items (tail.0, tail.1.1));
+      stacked = rw fewer (stacked-absorbed old records.shelves atlas.frame.column_width (shelf_numbers around.before) (shelf_numbers around.after) entry.number next
           (λ k stands. taller.others k (apart.numbers k (omega (arith, stands))))
           (λ k stands. taller.others k (apart.numbers k (omega (arith, stands)))) absorbs
           (rw (← numbers) spelled.stacked));
-      unused = ((taller.items item).allocated ∙ is_free, unmarked-same items lists.items around.unused_items (λ k stands. taller.items k) spelled.unused);
+      unused = ((taller.items item).allocated ∙ is_free, unmarked-same items records.items around.unused_items (λ k stands. taller.items k) spelled.unused);
     }

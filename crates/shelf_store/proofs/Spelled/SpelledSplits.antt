@@ -28,7 +28,7 @@ use Rattle.shelf_store.specs.Private.PlacementTaken.{free_item, item_record, res
 use Rattle.shelf_model.specs.State.{Item, Shelf, empty_shelf, is_empty}
 use Rattle.shelf_store.proofs.Spelled.EntryValues.{free_count-free}
 use Rattle.shelf_records.proofs.Spelled.RecordValues.{shelf_values, SameItem, SameShelf, item-same, shelves-same, shelf-other, SameShelf-then}
-use Rattle.shelf_store.proofs.Spelled.SpelledLists.{with_lists, IsSpelledBut, placed-same}
+use Rattle.shelf_store.proofs.Spelled.SpelledLists.{with_records, IsSpelledBut, placed-same}
 use Rattle.shelf_store.proofs.Spelled.SpelledMerges.{unmarked-same}
 use Rattle.shelf_store.proofs.Spelled.SpelledShelves.{shelves-keep_values}
 use Rattle.shelf_store.proofs.Spelled.SpelledUses.{IsUsed, SameEntries, same-entries, same-shelf, stranger}
@@ -42,11 +42,11 @@ read-record field other (x ∷ xs) zero = refl
 read-record field other (x ∷ xs) (suc k) = read-record field other xs k
 
 -- shelves that begin along where they began, of items that say the same, are placed as before
-placed-entries : (atlas : AtlasRecords) (lists : Records) (entries : List Entry) → ((k : ℕ) → 1 ≤ times k (shelf_numbers entries) → along_of lists.shelves k ≡ along_of atlas.records.shelves k) → ((k : ℕ) → 1 ≤ times k (item_numbers entries) → SameItem atlas.records.items lists.items k) → AllByRecursion (IsPlaced atlas) entries → AllByRecursion (IsPlaced (with_lists atlas lists)) entries
-placed-entries atlas lists [] along items placed = tt
-placed-entries atlas lists (entry ∷ entries) along items placed = (
-  placed-same atlas lists entry (along entry.number (grind arith)) (λ k stands. items k (omega (arith, stands, times-append k entry.items (item_numbers entries)))) placed.0,
-  placed-entries atlas lists entries (λ k stands. along k (omega (arith, stands))) (λ k stands. items k (omega (arith, stands, times-append k entry.items (item_numbers entries)))) placed.1,
+placed-entries : (atlas : AtlasRecords) (records : Records) (entries : List Entry) → ((k : ℕ) → 1 ≤ times k (shelf_numbers entries) → along_of records.shelves k ≡ along_of atlas.records.shelves k) → ((k : ℕ) → 1 ≤ times k (item_numbers entries) → SameItem atlas.records.items records.items k) → AllByRecursion (IsPlaced atlas) entries → AllByRecursion (IsPlaced (with_records atlas records)) entries
+placed-entries atlas records [] along items placed = tt
+placed-entries atlas records (entry ∷ entries) along items placed = (
+  placed-same atlas records entry (along entry.number (grind arith)) (λ k stands. items k (omega (arith, stands, times-append k entry.items (item_numbers entries)))) placed.0,
+  placed-entries atlas records entries (λ k stands. along k (omega (arith, stands))) (λ k stands. items k (omega (arith, stands, times-append k entry.items (item_numbers entries)))) placed.1,
 )
 
 -- a shelf by its parts
@@ -59,13 +59,13 @@ shelf-parts column column' height height' items items' free free' a b c d = rw (
 
 -- records of which a shelf was split where that was due: it is this tall, and these shelves stand after it
 pub record HasShelfSplit (atlas : AtlasRecords) (new : Records) (around : Around) (added : List Entry) (entry : Entry) (loose : List ℕ) (tall : ℕ) (pieces : List Shelf) : Type 0 where
-  pub spelled : IsSpelledBut (with_lists atlas new) (lists_of (around.before ++ entry ∷ (added ++ around.after)) around.unused_items around.unused_shelves) loose []
+  pub spelled : IsSpelledBut (with_records atlas new) (lists_of (around.before ++ entry ∷ (added ++ around.after)) around.unused_items around.unused_shelves) loose []
   pub items : (k : ℕ) → 1 ≤ times k (item_numbers (around.before ++ entry ∷ around.after)) → slice_get new.items k ≡ slice_get atlas.records.items k
   pub others : (k : ℕ) → 1 ≤ times k (shelf_numbers around.before) + times k (shelf_numbers around.after) → SameShelf atlas.records.shelves new.shelves k
   pub along : along_of new.shelves entry.number ≡ along_of atlas.records.shelves entry.number
   pub height : height_of new.shelves entry.number ≡ tall
-  pub rests : map (spelled_shelf (with_lists atlas new)) added ≡ pieces
-  pub flags : AllByRecursion (HasFlag (with_lists atlas new)) added
+  pub rests : map (spelled_shelf (with_records atlas new)) added ≡ pieces
+  pub flags : AllByRecursion (HasFlag (with_records atlas new)) added
   pub more : length atlas.records.items ≤ length new.items
   pub made : 1 ≤ length around.unused_items → length new.items ≡ length atlas.records.items
   pub few : length new.shelves ≤ no_link
@@ -146,7 +146,7 @@ rest-of records number rest rest_item height frame_width apart within rest_withi
 -- a shelf is split
 pub split-shelf : {atlas : AtlasRecords} (used : Records) (around : Around) (entry : Entry) (rest rest_item height : ℕ) (loose : List ℕ) → height ≤ height_of atlas.records.shelves entry.number → IsUsed atlas used (with_entry around entry) (rest_item ∷ loose) (rest ∷ []) → HasShelfSplit atlas (shelf_split entry.number rest rest_item height (rest_shelf (shelf_record used.shelves entry.number) height rest_item) (free_item (shelf_record used.shelves entry.number).x atlas.frame.column_width rest (item_record used.items rest_item).generation) used) around (entry_of rest (rest_item ∷ []) (rest_item ∷ []) ∷ []) entry loose height (empty_shelf atlas.frame (along_of atlas.records.shelves entry.number / atlas.frame.column_width) (height_of atlas.records.shelves entry.number - height) ∷ [])
 split-shelf {atlas} used around entry rest rest_item height loose tall is_used =
-    let middle : AtlasRecords = with_lists atlas used in
+    let middle : AtlasRecords = with_records atlas used in
     let entries : List Entry = around.before ++ entry ∷ around.after in
     let number : ℕ = entry.number in
     let cw : ℕ = atlas.frame.column_width in
@@ -177,10 +177,10 @@ split-shelf {atlas} used around entry rest rest_item height loose tall is_used =
     (field_at-kept (λ (x : LinkedShelf). x.x) 0 (λ (x : LinkedShelf). record x { height = height }) (linked_between shelf_chain (Some number) (link_at shelf_chain.next (changed_by (Some rest) (λ _. rest_record) used.shelves) number) rest (changed_by (Some rest) (λ _. rest_record) used.shelves)) number k (λ x. refl))
     ∙ (shelves-same (changed_by (Some rest) (λ _. rest_record) used.shelves) (linked_between shelf_chain (Some number) (link_at shelf_chain.next (changed_by (Some rest) (λ _. rest_record) used.shelves) number) rest (changed_by (Some rest) (λ _. rest_record) used.shelves)) k (map-linked_between shelf_chain shelf_values shelves-keep_values (changed_by (Some rest) (λ _. rest_record) used.shelves) (Some number) (link_at shelf_chain.next (changed_by (Some rest) (λ _. rest_record) used.shelves) number) rest)).along
     ∙ (shelf-other used.shelves used.shelves (λ _. rest_record) rest k (λ e. let same : rest ≡ k = cc in rest_other k stands same) (same-shelf used.shelves k)).along in
-    let all : AllByRecursion (IsPlaced (with_lists atlas new)) entries = placed-entries middle new entries along (λ k stands. item-same used.items new.items k (kept k stands)) spelled.placed in
+    let all : AllByRecursion (IsPlaced (with_records atlas new)) entries = placed-entries middle new entries along (λ k stands. item-same used.items new.items k (kept k stands)) spelled.placed in
     let own_column : along_of used.shelves number % cw ≡ 0 = (Each-middle (IsPlaced middle) around.before entry around.after spelled.placed).along in
     let rest_along : along_of new.shelves rest ≡ along_of used.shelves number = is.splits.rest_along in
-    let added_placed : IsPlaced (with_lists atlas new) added =
+    let added_placed : IsPlaced (with_records atlas new) added =
     record {
       owners = (is.owner, tt);
       along = ap (λ a. a % cw) rest_along ∙ own_column;
@@ -193,18 +193,18 @@ split-shelf {atlas} used around entry rest rest_item height loose tall is_used =
     is.place ∙ rest_along ∙ base ∙ multiple (along_of atlas.records.shelves number) cw (ap (λ a. a % cw) (sym base) ∙ own_column) in
     let rest_height : height_of new.shelves rest ≡ height_of atlas.records.shelves number - height =
     omega (arith, is.splits.height, is.height, (is_used.shelves number).height) in
-    let added_spelled : spelled_shelf (with_lists atlas new) added ≡ empty_shelf atlas.frame (along_of atlas.records.shelves number / cw) (height_of atlas.records.shelves number - height) =
+    let added_spelled : spelled_shelf (with_records atlas new) added ≡ empty_shelf atlas.frame (along_of atlas.records.shelves number / cw) (height_of atlas.records.shelves number - height) =
     shelf-parts (along_of new.shelves rest / cw) (along_of atlas.records.shelves number / cw) (height_of new.shelves rest) (height_of atlas.records.shelves number - height)
     (item_at new.items rest_item ∷ []) (record { width = cw; id = None } ∷ []) (item_place_of new.items rest_item ∷ []) (along_of atlas.records.shelves number / cw * cw ∷ [])
     column rest_height (ap (λ (i : Item). i ∷ []) is.item) (ap (λ p. p ∷ []) place) in
-    let tail = Each-back (IsPlaced (with_lists atlas new)) around.before (entry ∷ around.after) all in
+    let tail = Each-back (IsPlaced (with_records atlas new)) around.before (entry ∷ around.after) all in
     let more_numbers : shelf_numbers (around.before ++ entry ∷ added ∷ around.after) ≡ shelf_numbers around.before ++ number ∷ rest ∷ shelf_numbers around.after = shelf_numbers-append around.before (entry ∷ added ∷ around.after) in
     record {
       spelled =
           record {
             linked = shelf_split-linked around entry rest rest_item height rest_record item
                 (record { next = refl; prev = refl; next_unallocated = refl; prev_unallocated = refl; first_item = refl; first_unallocated = refl }) spelled.linked;
-            placed = Each-append (IsPlaced (with_lists atlas new)) around.before (entry ∷ added ∷ around.after) (Each-front (IsPlaced (with_lists atlas new)) around.before (entry ∷ around.after) all) (tail.0, (added_placed, tail.1));
+            placed = Each-append (IsPlaced (with_records atlas new)) around.before (entry ∷ added ∷ around.after) (Each-front (IsPlaced (with_records atlas new)) around.before (entry ∷ around.after) all) (tail.0, (added_placed, tail.1));
             stacked = rw more_numbers
                 (stacked-split used.shelves new.shelves cw (shelf_numbers around.before) (shelf_numbers around.after) number rest
                 (λ k stands. others k (omega (arith, stands))) (λ k stands. others k (omega (arith, stands))) is.splits
@@ -229,7 +229,7 @@ split-shelf {atlas} used around entry rest rest_item height loose tall is_used =
 -- the record of the rest of an item, which stands in no list, is written
 pub split-written : {atlas : AtlasRecords} (new : Records) (around : Around) (added : List Entry) (entry : Entry) (loose : List ℕ) (tall : ℕ) (pieces : List Shelf) (rest : ℕ) (item : LinkedItem) → HasShelfSplit atlas new around added entry (rest ∷ loose) tall pieces → HasShelfSplit atlas (item_changed rest (λ _. item) new) around added entry (rest ∷ loose) tall pieces
 split-written {atlas} new around added entry loose tall pieces rest item is_split =
-    let middle : AtlasRecords = with_lists atlas new in
+    let middle : AtlasRecords = with_records atlas new in
     let last : Records = item_changed rest (λ _. item) new in
     let entries : List Entry = around.before ++ entry ∷ (added ++ around.after) in
     let spelled : IsSpelledBut middle (lists_of entries around.unused_items around.unused_shelves) (rest ∷ loose) [] = is_split.spelled in

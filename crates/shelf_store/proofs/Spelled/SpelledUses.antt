@@ -16,28 +16,28 @@ use Rattle.shelf_records.specs.AtlasRecords.{AtlasRecords, is_allocated_at, spel
 use Rattle.shelf_records.specs.Private.Kept.{HasFlag, IsPlaced}
 use Rattle.shelf_model.specs.State.{Shelf, is_empty}
 use Rattle.shelf_records.proofs.Spelled.RecordValues.{SameItem, SameShelf, item-same, SameShelf-then}
-use Rattle.shelf_store.proofs.Spelled.SpelledLists.{with_lists, IsSpelledBut, shelf-same, placed-same}
+use Rattle.shelf_store.proofs.Spelled.SpelledLists.{with_records, IsSpelledBut, shelf-same, placed-same}
 use Rattle.shelf_store.proofs.Spelled.StackedEdits.{stacked-same}
 use Rattle.shelf_store.proofs.Spelled.SpelledMerges.{unmarked-same}
 
 -- shelves that say what they said
-pub record SameEntries (atlas : AtlasRecords) (lists : Records) (entries : List Entry) : Type 0 where
-  pub placed : AllByRecursion (IsPlaced atlas) entries → AllByRecursion (IsPlaced (with_lists atlas lists)) entries
-  pub spelled : map (spelled_shelf (with_lists atlas lists)) entries ≡ map (spelled_shelf atlas) entries
-  pub flags : AllByRecursion (HasFlag atlas) entries → AllByRecursion (HasFlag (with_lists atlas lists)) entries
+pub record SameEntries (atlas : AtlasRecords) (records : Records) (entries : List Entry) : Type 0 where
+  pub placed : AllByRecursion (IsPlaced atlas) entries → AllByRecursion (IsPlaced (with_records atlas records)) entries
+  pub spelled : map (spelled_shelf (with_records atlas records)) entries ≡ map (spelled_shelf atlas) entries
+  pub flags : AllByRecursion (HasFlag atlas) entries → AllByRecursion (HasFlag (with_records atlas records)) entries
 
 -- shelves whose records and items say the same
-pub same-entries : (atlas : AtlasRecords) (lists : Records) (entries : List Entry) → ((k : ℕ) → 1 ≤ times k (shelf_numbers entries) → SameShelf atlas.records.shelves lists.shelves k) → ((k : ℕ) → 1 ≤ times k (item_numbers entries) → SameItem atlas.records.items lists.items k) → AllByRecursion (IsEntry atlas.records) entries → SameEntries atlas lists entries
-same-entries atlas lists [] shelf items are = record { placed = λ p. tt; spelled = refl; flags = λ p. tt }
-same-entries atlas lists (entry ∷ entries) shelf items are =
-    let own_shelf : SameShelf atlas.records.shelves lists.shelves entry.number = shelf entry.number (grind arith) in
-    let own : (k : ℕ) → 1 ≤ times k entry.items → SameItem atlas.records.items lists.items k = λ k stands. items k (omega (arith, stands, times-append k entry.items (item_numbers entries))) in
-    let rest : SameEntries atlas lists entries =
-    same-entries atlas lists entries (λ k stands. shelf k (omega (arith, stands))) (λ k stands. items k (omega (arith, stands, times-append k entry.items (item_numbers entries)))) are.1 in
-    let here : spelled_shelf (with_lists atlas lists) entry ≡ spelled_shelf atlas entry = shelf-same atlas lists entry own_shelf own are.0.members in
+pub same-entries : (atlas : AtlasRecords) (records : Records) (entries : List Entry) → ((k : ℕ) → 1 ≤ times k (shelf_numbers entries) → SameShelf atlas.records.shelves records.shelves k) → ((k : ℕ) → 1 ≤ times k (item_numbers entries) → SameItem atlas.records.items records.items k) → AllByRecursion (IsEntry atlas.records) entries → SameEntries atlas records entries
+same-entries atlas records [] shelf items are = record { placed = λ p. tt; spelled = refl; flags = λ p. tt }
+same-entries atlas records (entry ∷ entries) shelf items are =
+    let own_shelf : SameShelf atlas.records.shelves records.shelves entry.number = shelf entry.number (grind arith) in
+    let own : (k : ℕ) → 1 ≤ times k entry.items → SameItem atlas.records.items records.items k = λ k stands. items k (omega (arith, stands, times-append k entry.items (item_numbers entries))) in
+    let rest : SameEntries atlas records entries =
+    same-entries atlas records entries (λ k stands. shelf k (omega (arith, stands))) (λ k stands. items k (omega (arith, stands, times-append k entry.items (item_numbers entries)))) are.1 in
+    let here : spelled_shelf (with_records atlas records) entry ≡ spelled_shelf atlas entry = shelf-same atlas records entry own_shelf own are.0.members in
     record {
-      placed = λ placed. (placed-same atlas lists entry own_shelf.along own placed.0, rest.placed placed.1);
-      spelled = ap (λ (s : Shelf). s ∷ map (spelled_shelf (with_lists atlas lists)) entries) here
+      placed = λ placed. (placed-same atlas records entry own_shelf.along own placed.0, rest.placed placed.1);
+      spelled = ap (λ (s : Shelf). s ∷ map (spelled_shelf (with_records atlas records)) entries) here
           ∙ ap (λ (ss : List Shelf). spelled_shelf atlas entry ∷ ss) rest.spelled;
       flags = λ flags. (own_shelf.is_empty ∙ flags.0 ∙ ap is_empty (sym here), rest.flags flags.1);
     }
@@ -81,7 +81,7 @@ stranger n k xs absent stands e = let again : 1 ≤ times n xs = rw e stands in 
 -- records of which some were put to use: the shelves and their items say the same; there are no fewer items, and as
 -- many where some are still unused
 pub record IsUsed (atlas : AtlasRecords) (new : Records) (lists : Lists) (loose_items loose_shelves : List ℕ) : Type 0 where
-  pub spelled : IsSpelledBut (with_lists atlas new) lists loose_items loose_shelves
+  pub spelled : IsSpelledBut (with_records atlas new) lists loose_items loose_shelves
   pub items : (k : ℕ) → 1 ≤ times k (item_numbers lists.entries) → slice_get new.items k ≡ slice_get atlas.records.items k
   pub shelves : (k : ℕ) → SameShelf atlas.records.shelves new.shelves k
   pub more : length atlas.records.items ≤ length new.items
@@ -96,7 +96,7 @@ pub record IsItemUsed (atlas : AtlasRecords) (new : Records) (lists : Lists) (lo
 
 pub used-item : {atlas : AtlasRecords} {new : Records} {lists : Lists} {loose loose_shelves : List ℕ} → IsUsed atlas new lists loose loose_shelves → IsItemUsed atlas new lists loose loose_shelves
 used-item {atlas} {new} {lists} {loose} {loose_shelves} used =
-    let middle : AtlasRecords = with_lists atlas new in
+    let middle : AtlasRecords = with_records atlas new in
     let last : Records = item_used true new in
     let uses = uses-item used.spelled.linked in
     let free : IsLoose (length last.items) (item_numbers lists.entries) (but_first lists.unused_items) uses.number =
@@ -149,7 +149,7 @@ pub record IsShelfUsed (atlas : AtlasRecords) (new : Records) (lists : Lists) (l
 -- the record is new only where none was unused
 pub used-shelf : {atlas : AtlasRecords} {new : Records} {lists : Lists} {loose loose_shelves : List ℕ} → IsUsed atlas new lists loose loose_shelves → (lists.unused_shelves ≡ [] → length new.shelves + 1 ≤ no_link) → IsShelfUsed atlas new lists loose loose_shelves
 used-shelf {atlas} {new} {lists} used room =
-    let middle : AtlasRecords = with_lists atlas new in
+    let middle : AtlasRecords = with_records atlas new in
     let last : Records = shelf_used true new in
     let uses = uses-shelf used.spelled.linked in
     let same_shelf : (k : ℕ) → SameShelf new.shelves last.shelves k = shelves-used new.unused_shelves new.shelves in

@@ -11,7 +11,7 @@ use Rattle.shelf_model.specs.Choice.{Placement}
 use Rattle.shelf_model.specs.State.{Item, Shelf}
 use Rattle.shelf_store.proofs.Spelled.MergedAround.{remove-mapped, replace-mapped}
 use Rattle.shelf_records.proofs.Spelled.RecordValues.{map-agrees}
-use Rattle.shelf_store.proofs.Spelled.SpelledLists.{with_lists}
+use Rattle.shelf_store.proofs.Spelled.SpelledLists.{with_records}
 use Rattle.shelf_store.proofs.Spelled.SpelledSplits.{shelf-parts}
 
 -- the shelf of a placement after it was taken, where this says whether its item is split
@@ -81,10 +81,10 @@ places-around items new front middle back same_front same_back =
     ∙ ap (λ (is : List ℕ). map (item_place_of items) front ++ (map (item_place_of new) middle ++ is)) (map-agrees (item_place_of new) (item_place_of items) back same_back)
 
 -- the shelf after an item was given whole
-pub whole-spelled : (atlas : AtlasRecords) (lists : Records) (placement : Placement) (spot : FreeSpot) (id : ℕ) → IsPlacedAt atlas.records.items placement spot → KeepsOthers atlas.records.items lists.items spot → along_of lists.shelves spot.shelf ≡ along_of atlas.records.shelves spot.shelf → height_of lists.shelves spot.shelf ≡ placement.height → item_at lists.items spot.number ≡ record { width = placement.width; id = Some id } → spelled_shelf (with_lists atlas lists) (entry_of spot.shelf (spot.front ++ spot.number ∷ spot.back) (spot.free_front ++ spot.free_back)) ≡ taken_from false placement id (spelled_shelf atlas (spot_entry spot))
-whole-spelled atlas lists placement spot id is keeps along height item =
+pub whole-spelled : (atlas : AtlasRecords) (records : Records) (placement : Placement) (spot : FreeSpot) (id : ℕ) → IsPlacedAt atlas.records.items placement spot → KeepsOthers atlas.records.items records.items spot → along_of records.shelves spot.shelf ≡ along_of atlas.records.shelves spot.shelf → height_of records.shelves spot.shelf ≡ placement.height → item_at records.items spot.number ≡ record { width = placement.width; id = Some id } → spelled_shelf (with_records atlas records) (entry_of spot.shelf (spot.front ++ spot.number ∷ spot.back) (spot.free_front ++ spot.free_back)) ≡ taken_from false placement id (spelled_shelf atlas (spot_entry spot))
+whole-spelled atlas records placement spot id is keeps along height item =
     let old : List LinkedItem = atlas.records.items in
-    let new : List LinkedItem = lists.items in
+    let new : List LinkedItem = records.items in
     let cw : ℕ = atlas.frame.column_width in
     let pieces : Item → List Item = λ i. record { width = placement.width; id = Some id } ∷ [] in
     let items : map (item_at new) (spot.front ++ spot.number ∷ spot.back) ≡ replaced_at placement.item pieces (map (item_at old) (spot.front ++ spot.number ∷ spot.back)) =
@@ -97,16 +97,16 @@ whole-spelled atlas lists placement spot id is keeps along height item =
     ∙ sym (map-append (item_place_of old) spot.free_front spot.free_back)
     ∙ sym (remove-mapped (item_place_of old) spot.free_front spot.free_back spot.number is.apart)
     ∙ ap (λ a. remove_place a (map (item_place_of old) (spot.free_front ++ spot.number ∷ spot.free_back))) (sym is.along) in
-    shelf-parts (along_of lists.shelves spot.shelf / cw) (along_of atlas.records.shelves spot.shelf / cw) (height_of lists.shelves spot.shelf) placement.height
+    shelf-parts (along_of records.shelves spot.shelf / cw) (along_of atlas.records.shelves spot.shelf / cw) (height_of records.shelves spot.shelf) placement.height
     (map (item_at new) (spot.front ++ spot.number ∷ spot.back)) (replaced_at placement.item pieces (map (item_at old) (spot.front ++ spot.number ∷ spot.back)))
     (map (item_place_of new) (spot.free_front ++ spot.free_back)) (remove_place placement.along (map (item_place_of old) (spot.free_front ++ spot.number ∷ spot.free_back)))
     (ap (λ a. a / cw) along) height items places
 
 -- the shelf after the front of an item was given
-pub front-spelled : (atlas : AtlasRecords) (lists : Records) (placement : Placement) (spot : FreeSpot) (id rest : ℕ) → IsPlacedAt atlas.records.items placement spot → KeepsOthers atlas.records.items lists.items spot → along_of lists.shelves spot.shelf ≡ along_of atlas.records.shelves spot.shelf → height_of lists.shelves spot.shelf ≡ placement.height → item_at lists.items spot.number ≡ record { width = placement.width; id = Some id } → item_at lists.items rest ≡ record { width = (item_at atlas.records.items spot.number).width - placement.width; id = None } → item_place_of lists.items rest ≡ placement.along + placement.width → spelled_shelf (with_lists atlas lists) (entry_of spot.shelf (spot.front ++ spot.number ∷ rest ∷ spot.back) (spot.free_front ++ rest ∷ spot.free_back)) ≡ taken_from true placement id (spelled_shelf atlas (spot_entry spot))
-front-spelled atlas lists placement spot id rest is keeps along height item rest_item rest_place =
+pub front-spelled : (atlas : AtlasRecords) (records : Records) (placement : Placement) (spot : FreeSpot) (id rest : ℕ) → IsPlacedAt atlas.records.items placement spot → KeepsOthers atlas.records.items records.items spot → along_of records.shelves spot.shelf ≡ along_of atlas.records.shelves spot.shelf → height_of records.shelves spot.shelf ≡ placement.height → item_at records.items spot.number ≡ record { width = placement.width; id = Some id } → item_at records.items rest ≡ record { width = (item_at atlas.records.items spot.number).width - placement.width; id = None } → item_place_of records.items rest ≡ placement.along + placement.width → spelled_shelf (with_records atlas records) (entry_of spot.shelf (spot.front ++ spot.number ∷ rest ∷ spot.back) (spot.free_front ++ rest ∷ spot.free_back)) ≡ taken_from true placement id (spelled_shelf atlas (spot_entry spot))
+front-spelled atlas records placement spot id rest is keeps along height item rest_item rest_place =
     let old : List LinkedItem = atlas.records.items in
-    let new : List LinkedItem = lists.items in
+    let new : List LinkedItem = records.items in
     let cw : ℕ = atlas.frame.column_width in
     let pieces : Item → List Item = λ i. record { width = placement.width; id = Some id } ∷ record { width = i.width - placement.width; id = None } ∷ [] in
     let items : map (item_at new) (spot.front ++ spot.number ∷ rest ∷ spot.back) ≡ replaced_at placement.item pieces (map (item_at old) (spot.front ++ spot.number ∷ spot.back)) =
@@ -120,7 +120,7 @@ front-spelled atlas lists placement spot id rest is keeps along height item rest
     ∙ ap (λ p. map (item_place_of old) spot.free_front ++ p ∷ map (item_place_of old) spot.free_back) rest_place
     ∙ sym (replace-mapped (item_place_of old) spot.free_front spot.free_back spot.number (placement.along + placement.width) is.apart)
     ∙ ap (λ a. replace_place a (placement.along + placement.width) (map (item_place_of old) (spot.free_front ++ spot.number ∷ spot.free_back))) (sym is.along) in
-    shelf-parts (along_of lists.shelves spot.shelf / cw) (along_of atlas.records.shelves spot.shelf / cw) (height_of lists.shelves spot.shelf) placement.height
+    shelf-parts (along_of records.shelves spot.shelf / cw) (along_of atlas.records.shelves spot.shelf / cw) (height_of records.shelves spot.shelf) placement.height
     (map (item_at new) (spot.front ++ spot.number ∷ rest ∷ spot.back)) (replaced_at placement.item pieces (map (item_at old) (spot.front ++ spot.number ∷ spot.back)))
     (map (item_place_of new) (spot.free_front ++ rest ∷ spot.free_back)) (replace_place placement.along (placement.along + placement.width) (map (item_place_of old) (spot.free_front ++ spot.number ∷ spot.free_back)))
     (ap (λ a. a / cw) along) height items places

@@ -24,7 +24,7 @@ use Rattle.shelf_model.specs.State.{Shelf, AtlasState, items_in_use}
 use Rattle.shelf_model.specs.Taking.{shelf_pieces, taken}
 use Rattle.shelf_model.specs.Valid.{IsValid}
 use Rattle.shelf_store.proofs.Spelled.LocatedPlacements.{IsLocated}
-use Rattle.shelf_store.proofs.Spelled.SpelledLists.{with_lists}
+use Rattle.shelf_store.proofs.Spelled.SpelledLists.{with_records}
 use Rattle.shelf_records.proofs.Spelled.SpelledNumbers.{items_in_use-spelled, new-number, number-of_record}
 use Rattle.shelf_store.proofs.Spelled.TakenRests.{link_where, list_where}
 use Rattle.shelf_store.proofs.Spelled.TakenReady.{IsReady, each-length, ready}
@@ -96,7 +96,7 @@ placement-kept frame records size placement found kept h locates =
     let entries : List Entry = is.before ++ entry ∷ is.after in
     let place : Placement = record placement { shelf = shelf; item = number } in
     let new : Records = placement_taken frame.column_width place records in
-    let last : AtlasRecords = with_lists atlas new in
+    let last : AtlasRecords = with_records atlas new in
     let flags : AllByRecursion (HasFlag atlas) entries =
     subst (AllByRecursion (HasFlag atlas)) is.entries (Each-weaken (HasFlag (atlas_of frame records)) (HasFlag atlas) lists.entries (λ entry flag. flag) kept.flags) in
     let within : number < length records.items = is_ready.within in

@@ -21,7 +21,7 @@ use Rattle.shelf_model.specs.State.{Shelf, empty_shelf, is_empty}
 use Rattle.shelf_model.specs.Taking.{shelf_pieces}
 use Rattle.shelf_store.proofs.Spelled.EmptinessSaid.{IsFlagged, emptiness_said-flagged, one-free}
 use Rattle.shelf_store.proofs.Spelled.GivenItems.{IsItemGiven, item-whole, item-front}
-use Rattle.shelf_store.proofs.Spelled.SpelledLists.{with_lists, IsSpelled}
+use Rattle.shelf_store.proofs.Spelled.SpelledLists.{with_records, IsSpelled}
 use Rattle.shelf_store.proofs.Spelled.SpelledSplits.{HasShelfSplit}
 use Rattle.shelf_store.proofs.Spelled.TakenItemSpelled.{IsPlacedAt, taken_from, FreeSpot, spot_entry}
 use Rattle.shelf_store.proofs.Spelled.TakenRests.{AreRests, added_where, are-rests, split-where, link_where, list_where}
@@ -38,14 +38,14 @@ abbrev cleared : ℕ → Bool → Records → Records
 cleared shelf value records = shelf_changed shelf (λ (here : LinkedShelf). record here { is_empty = value }) records
 
 -- a shelf that is not empty was marked so
-flag-cleared : (atlas : AtlasRecords) (given : Records) (around : Around) (edited : Entry) (shelf : ℕ) → edited.number ≡ shelf → AllByRecursion (HasFlag (with_lists atlas given)) around.before → AllByRecursion (HasFlag (with_lists atlas given)) around.after → IsSpelled (with_lists atlas given) (with_entry around edited) → is_empty (spelled_shelf (with_lists atlas given) edited) ≡ false → IsFlagged (with_lists atlas (cleared shelf false given)) (with_entry around edited) × (map (spelled_shelf (with_lists atlas (cleared shelf false given))) (around.before ++ edited ∷ around.after) ≡ map (spelled_shelf (with_lists atlas given)) (around.before ++ edited ∷ around.after))
+flag-cleared : (atlas : AtlasRecords) (given : Records) (around : Around) (edited : Entry) (shelf : ℕ) → edited.number ≡ shelf → AllByRecursion (HasFlag (with_records atlas given)) around.before → AllByRecursion (HasFlag (with_records atlas given)) around.after → IsSpelled (with_records atlas given) (with_entry around edited) → is_empty (spelled_shelf (with_records atlas given) edited) ≡ false → IsFlagged (with_records atlas (cleared shelf false given)) (with_entry around edited) × (map (spelled_shelf (with_records atlas (cleared shelf false given))) (around.before ++ edited ∷ around.after) ≡ map (spelled_shelf (with_records atlas given)) (around.before ++ edited ∷ around.after))
 flag-cleared atlas given around edited shelf number flags_before flags_after spelled full =
     let is : IsEntry given edited = Each-middle (IsEntry given) around.before edited around.after spelled.linked.entries in
     let value : names_one_free given.items (first_item_of given.shelves edited.number) ≡ false =
     one-free given.items (first_item_of given.shelves edited.number) edited.items is.items ∙ full in
     let P : ℕ → Bool → Type 0 = λ n v.
-    IsFlagged (with_lists atlas (cleared n v given)) (with_entry around edited)
-    × (map (spelled_shelf (with_lists atlas (cleared n v given))) (around.before ++ edited ∷ around.after) ≡ map (spelled_shelf (with_lists atlas given)) (around.before ++ edited ∷ around.after)) in
+    IsFlagged (with_records atlas (cleared n v given)) (with_entry around edited)
+    × (map (spelled_shelf (with_records atlas (cleared n v given))) (around.before ++ edited ∷ around.after) ≡ map (spelled_shelf (with_records atlas given)) (around.before ++ edited ∷ around.after)) in
     subst (λ (n : ℕ). P n false) number
     (subst (P edited.number) value (emptiness_said-flagged around edited flags_before flags_after spelled))
 
@@ -62,8 +62,8 @@ pub record IsTakenBy (atlas : AtlasRecords) (new : Records) (before after : List
   pub rest_is : number_used placement.splits_shelf atlas.records.unused_shelves atlas.records.shelves ≡ link_where placement.splits_shelf rest
   pub item_is : number_used placement.splits_shelf atlas.records.unused_items atlas.records.items ≡ link_where placement.splits_shelf item
   pub numbers : shelf_numbers lists.entries ≡ shelf_numbers before ++ number ∷ (list_where placement.splits_shelf rest ++ shelf_numbers after)
-  pub flagged : IsFlagged (with_lists atlas new) lists
-  pub shelves : map (spelled_shelf (with_lists atlas new)) lists.entries ≡ map (spelled_shelf atlas) before ++ (shelf_pieces atlas.frame placement id shelf ++ map (spelled_shelf atlas) after)
+  pub flagged : IsFlagged (with_records atlas new) lists
+  pub shelves : map (spelled_shelf (with_records atlas new)) lists.entries ≡ map (spelled_shelf atlas) before ++ (shelf_pieces atlas.frame placement id shelf ++ map (spelled_shelf atlas) after)
   pub more : length atlas.records.items ≤ length new.items
   pub made : 1 ≤ length lists.unused_items → length new.items ≡ length atlas.records.items
   pub few : length new.shelves ≤ no_link

@@ -10,12 +10,12 @@ use Rattle.shelf_store.specs.declared.free_items.FreeItems.{FreeItems}
 use Rattle.shelf_store.specs.declared.tallying.Tally.{Tally}
 
 -- the free items of these numbers: how many, and how wide the widest is
-abbrev pub free_among : List LinkedItem → List ℕ → FreeItems
-free_among items numbers = record { count = length numbers; widest = widest_of items numbers }
+abbrev pub free_items_at : List LinkedItem → List ℕ → FreeItems
+free_items_at items numbers = record { count = length numbers; widest = widest_of items numbers }
 
 -- those of a shelf
 abbrev pub free_of : Records → ℕ → FreeItems
-free_of records shelf = free_among records.items (free_walk records shelf).met
+free_of records shelf = free_items_at records.items (free_walk records shelf).met
 
 -- the width of the widest free item of a shelf, where it is at least this tall; else 0
 abbrev pub widest_at : Records → ℕ → ℕ → ℕ

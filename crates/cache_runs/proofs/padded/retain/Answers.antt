@@ -1,6 +1,6 @@
 use Rattle.std.proofs.Common.{◌≡◌, refl, rules, ◌∙◌}
 use Rattle.std.specs.Prelude.{nat_eq, not}
-use Rattle.cache_runs.specs.Dropping.{is_among}
+use Rattle.cache_runs.specs.Dropping.{is_one_of}
 use Rattle.cache_runs.proofs.Refused.{drops-keys}
 use Rattle.cache_runs.proofs.padded.retain.Goals as goal
 
@@ -11,7 +11,7 @@ returns c =
       answers = (
         drops-keys _ _ c.args.cache.now.cache c.retain.new.self.cache kept.retains c.args.gone.items (λ s. s.0.now.items ≡ c.args.gone.items)
             (λ before key rectangle answer after s h.
-            let said : answer ≡ not (is_among nat_eq before.0.now.items key) = search (rules, h.met) in
+            let said : answer ≡ not (is_one_of nat_eq before.0.now.items key) = search (rules, h.met) in
             let same : after.0.now.items ≡ before.0.now.items = search (rules, h.met) in
             (rw s at said, same ∙ s)) refl,
         kept.padding,
