@@ -2,6 +2,7 @@
 
 ghost use Rattle.std.specs.Prelude.{◌≤◌};
 
+use crate::axes::{lengths, step};
 use crate::broken_records::{Breach, breach_at};
 use crate::record_walks::{End, Record};
 use bucketed_snapshots::BucketedSnapshot;
@@ -114,11 +115,7 @@ struct Column {
 }
 
 fn breach_of_shelves(snapshot: &BucketedSnapshot) -> Option<Breach> {
-    let across = if snapshot.vertical_shelves {
-        snapshot.width.unsigned_abs()
-    } else {
-        snapshot.height.unsigned_abs()
-    };
+    let sides = lengths(snapshot.vertical_shelves, snapshot.width, snapshot.height);
     let width = u32::from(snapshot.column_width).max(1);
     let mut column = Column {
         number: 0,
@@ -141,11 +138,11 @@ fn breach_of_shelves(snapshot: &BucketedSnapshot) -> Option<Breach> {
             return breach_at(here, "it doesn't begin where the one before it ends");
         }
         column.height = column.height.saturating_add(u32::from(shelf.height));
-        if column.height > across {
+        if column.height > sides.across {
             return breach_at(here, "it ends past its column");
         }
     }
-    breach_of_totals(snapshot, column, across)
+    breach_of_totals(snapshot, column, sides.across)
 }
 
 /// What is wrong with what a snapshot says of its last column.
@@ -184,12 +181,11 @@ fn breach_of_lists(snapshot: &BucketedSnapshot, lists: &[Buckets]) -> Option<Bre
 fn step_of(snapshot: &BucketedSnapshot) -> u32
     ensures { 1 ≤ result }
 {
-    let alignment = if snapshot.vertical_shelves {
-        snapshot.alignment_height
-    } else {
-        snapshot.alignment_width
-    };
-    alignment.unsigned_abs().max(1)
+    step(
+        snapshot.vertical_shelves,
+        snapshot.alignment_width,
+        snapshot.alignment_height,
+    )
 }
 
 fn breach_of_width(snapshot: &BucketedSnapshot, number: usize) -> Option<Breach> {

@@ -1,7 +1,8 @@
 //! At which record the snapshot of a shelf atlas breaks a rule, and how.
 
+use crate::axes::{lengths, step};
 use crate::record_walks::{Chain, End, Record, Walk, walk_along};
-use etagere_base::RestoreFault;
+use etagere_base::{RestoreFault, Sides};
 use shelf_snapshots::AtlasSnapshot;
 use std::alloc::{AllocError, Global};
 
@@ -116,8 +117,8 @@ struct Column {
 }
 
 fn breach_of_shelves(snapshot: &AtlasSnapshot, used: &Used) -> Option<Breach> {
-    let (along, across) = sides_of(snapshot);
-    let columns = along / u32::from(snapshot.shelf_width).max(1);
+    let sides = sides_of(snapshot);
+    let columns = sides.along / u32::from(snapshot.shelf_width).max(1);
     let mut column = Column {
         number: 0,
         height: 0,
@@ -128,7 +129,7 @@ fn breach_of_shelves(snapshot: &AtlasSnapshot, used: &Used) -> Option<Breach> {
         let shelf = snapshot.shelves.get(*number)?;
         let place = u32::from(shelf.x) / u32::from(snapshot.shelf_width).max(1);
         if place > column.number {
-            if column.height != across || place != column.number.saturating_add(1) {
+            if column.height != sides.across || place != column.number.saturating_add(1) {
                 return breach_at(column.last, "behind it a column isn't filled");
             }
             column.number = place;
@@ -141,7 +142,7 @@ fn breach_of_shelves(snapshot: &AtlasSnapshot, used: &Used) -> Option<Breach> {
         column.height = column.height.saturating_add(u32::from(shelf.height));
         column.last = here;
     }
-    if column.height != across || column.number.saturating_add(1) != columns {
+    if column.height != sides.across || column.number.saturating_add(1) != columns {
         return breach_at(column.last, "behind it a column isn't filled");
     }
     None
@@ -153,7 +154,7 @@ fn breach_of_shelf(snapshot: &AtlasSnapshot, number: usize, column: Column) -> O
     let here = Record::Shelf(number);
     let width = u32::from(snapshot.shelf_width).max(1);
     if u32::from(shelf.x) % width != 0
-        || u32::from(shelf.x) / width >= sides_of(snapshot).0 / width
+        || u32::from(shelf.x) / width >= sides_of(snapshot).along / width
     {
         return breach_at(here, "no column begins at its x");
     }
@@ -170,16 +171,8 @@ fn breach_of_shelf(snapshot: &AtlasSnapshot, number: usize, column: Column) -> O
 }
 
 /// The sides of an atlas along its shelves and across.
-fn sides_of(snapshot: &AtlasSnapshot) -> (u32, u32) {
-    let (width, height) = (
-        snapshot.width.unsigned_abs(),
-        snapshot.height.unsigned_abs(),
-    );
-    if snapshot.vertical_shelves {
-        (height, width)
-    } else {
-        (width, height)
-    }
+fn sides_of(snapshot: &AtlasSnapshot) -> Sides {
+    lengths(snapshot.vertical_shelves, snapshot.width, snapshot.height)
 }
 
 fn breach_of_items(snapshot: &AtlasSnapshot, used: &Used) -> Option<Breach> {
@@ -194,12 +187,11 @@ fn breach_of_items(snapshot: &AtlasSnapshot, used: &Used) -> Option<Breach> {
 
 fn breach_within_shelf(snapshot: &AtlasSnapshot, number: usize, items: &Walk) -> Option<Breach> {
     let shelf = snapshot.shelves.get(number)?;
-    let alignment = if snapshot.vertical_shelves {
-        snapshot.alignment_height
-    } else {
-        snapshot.alignment_width
-    };
-    let step = alignment.unsigned_abs().max(1);
+    let step = step(
+        snapshot.vertical_shelves,
+        snapshot.alignment_width,
+        snapshot.alignment_height,
+    );
     let mut end = u32::from(shelf.x);
     for item in &items.met {
         let record = snapshot.items.get(*item)?;

@@ -4,6 +4,7 @@
 //! `broken_records` has the public call for shelf atlases, `broken_buckets` that for bucketed ones.
 #![tactic(auto)]
 
+mod axes;
 mod broken_buckets;
 mod broken_records;
 mod record_walks;
