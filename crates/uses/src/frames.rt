@@ -10,7 +10,7 @@ use glyph_shelf::{GlyphCache, GlyphFault};
 pub const SHOWN: u64 = 5;
 
 /// How many glyphs were rendered into the texture, and how many of these were evicted again.
-#[derive(Clone, Copy, Debug, Default, PartialEq, Eq)]
+#[derive(Clone, Copy, Default)]
 pub struct Drawn {
     pub rendered: usize,
     pub evicted: usize,

@@ -12,10 +12,10 @@ mod texture;
 
 use anyhow::{Context, Result};
 use apart::allocate_two;
-use etagere::{AllocId, Allocation, AtlasAllocator, DEFAULT_OPTIONS, Rectangle, size2};
+use etagere::{AllocId, Allocation, AtlasAllocator, DEFAULT_OPTIONS, Rectangle, Size, size2};
 use frames::draw_frames;
 use glyph_shelf::GlyphCache;
-use pages::{PAGE, allocate_on_pages};
+use pages::{PAGE, PagedAllocation, allocate_on_pages};
 use recording::Recorder;
 use saving::reopen;
 use sheet::place_sheet;
@@ -33,9 +33,23 @@ fn main(rt: HostRuntime) -> Result<()> {
 }
 
 fn show_two(rt: &(impl Print + AllocGlobal)) -> Result<()> {
-    let mut atlas = AtlasAllocator::new(rt.alloc(), size2(100, 100))?;
-    show_neither(rt, &mut atlas)?;
-    show_both(rt, &mut atlas)
+    let mut atlas = new_atlas(rt, size2(100, 100))?;
+    show_neither_and_both(rt, &mut atlas)
+}
+
+/// What a new atlas promises ends here, so that it isn't gone through in what shows one.
+fn new_atlas(rt: &impl AllocGlobal, size: Size) -> Result<AtlasAllocator> {
+    Ok(AtlasAllocator::new(rt.alloc(), size)?)
+}
+
+/// What an allocation promises ends here, so that it isn't gone through in what shows one.
+fn allocate(atlas: &mut AtlasAllocator, size: Size) -> Result<AllocId> {
+    Ok(atlas.allocate(size)?.context("no room")?.id)
+}
+
+fn show_neither_and_both(rt: &impl Print, atlas: &mut AtlasAllocator) -> Result<()> {
+    show_neither(rt, atlas)?;
+    show_both(rt, atlas)
 }
 
 fn show_neither(rt: &impl Print, atlas: &mut AtlasAllocator) -> Result<()> {
@@ -51,15 +65,14 @@ fn show_both(rt: &impl Print, atlas: &mut AtlasAllocator) -> Result<()> {
 }
 
 fn show_offset(rt: &(impl Print + AllocGlobal)) -> Result<()> {
-    let mut atlas = AtlasAllocator::new(rt.alloc(), size2(1000, 1000))?;
-    let lower = lower_of_two(&mut atlas)?;
-    show_offsets(rt, &atlas, lower)
+    let mut atlas = new_atlas(rt, size2(1000, 1000))?;
+    show_lower_of_two(rt, &mut atlas)
 }
 
-fn lower_of_two(atlas: &mut AtlasAllocator) -> Result<AllocId> {
-    atlas.allocate(size2(100, 100))?.context("no room")?;
-    let lower = atlas.allocate(size2(1000, 800))?.context("no room")?;
-    Ok(lower.id)
+fn show_lower_of_two(rt: &impl Print, atlas: &mut AtlasAllocator) -> Result<()> {
+    allocate(atlas, size2(100, 100))?;
+    let lower = allocate(atlas, size2(1000, 800))?;
+    show_offsets(rt, atlas, lower)
 }
 
 fn show_offsets(rt: &impl Print, atlas: &AtlasAllocator, id: AllocId) -> Result<()> {
@@ -71,9 +84,13 @@ fn show_offsets(rt: &impl Print, atlas: &AtlasAllocator, id: AllocId) -> Result<
 }
 
 fn show_sheet(rt: &(impl Print + AllocGlobal)) -> Result<()> {
+    let mut atlas = new_atlas(rt, size2(64, 64))?;
+    show_placed(rt, &mut atlas)
+}
+
+fn show_placed(rt: &(impl Print + AllocGlobal), atlas: &mut AtlasAllocator) -> Result<()> {
     let sizes = [size2(32, 32), size2(16, 20), size2(20, 20), size2(64, 8)];
-    let mut atlas = AtlasAllocator::new(rt.alloc(), size2(64, 64))?;
-    let places = place_sheet(rt.alloc(), &mut atlas, &sizes)?;
+    let places = place_sheet(rt.alloc(), atlas, &sizes)?;
     show_places(rt, &places, sizes.len())
 }
 
@@ -86,9 +103,17 @@ fn show_places(rt: &impl Print, places: &[Allocation], wanted: usize) -> Result<
 }
 
 fn show_frames(rt: &(impl Print + AllocGlobal)) -> Result<()> {
+    let mut cache = new_cache(rt)?;
+    show_drawn(rt, &mut cache)
+}
+
+fn new_cache(rt: &impl AllocGlobal) -> Result<GlyphCache> {
     let capacity = NonZeroUsize::new(64).context("no capacity")?;
-    let mut cache = GlyphCache::new(rt.alloc(), size2(64, 32), &DEFAULT_OPTIONS, capacity)?;
-    let drawn = draw_frames(&mut cache, 100)?;
+    Ok(GlyphCache::new(rt.alloc(), size2(64, 32), &DEFAULT_OPTIONS, capacity)?)
+}
+
+fn show_drawn(rt: &impl Print, cache: &mut GlyphCache) -> Result<()> {
+    let drawn = draw_frames(cache, 100)?;
     println!(rt;
         "frames: rendered {}, evicted {}, there {}",
         drawn.rendered,
@@ -101,22 +126,38 @@ fn show_frames(rt: &(impl Print + AllocGlobal)) -> Result<()> {
 fn show_pages(rt: &(impl Print + AllocGlobal)) -> Result<()> {
     let mut pages = Vec::new(rt.alloc());
     for side in [200, 200, 40, 300] {
-        match allocate_on_pages(rt.alloc(), &mut pages, size2(side, side))? {
-            Some(place) => {
-                println!(rt; "pages: {side} on page {}", place.page)?;
-                show(rt, "pages", place.allocation.rectangle)?;
-            }
-            None => println!(rt; "pages: {side} is too large for {}", PAGE.width)?,
-        }
+        let place = allocate_on_pages(rt.alloc(), &mut pages, size2(side, side))?;
+        show_page(rt, side, place)?;
     }
     Ok(())
 }
 
+fn show_page(rt: &impl Print, side: i32, place: Option<PagedAllocation>) -> Result<()> {
+    let Some(place) = place else {
+        println!(rt; "pages: {side} is too large for {}", PAGE.width)?;
+        return Ok(());
+    };
+    println!(rt; "pages: {side} on page {}", place.page)?;
+    show(rt, "pages", place.allocation.rectangle)
+}
+
 fn show_saved(rt: &(impl Print + AllocGlobal)) -> Result<()> {
-    let mut atlas = AtlasAllocator::new(rt.alloc(), size2(1000, 1000))?;
-    let id = atlas.allocate(size2(100, 100))?.context("no room")?.id;
+    let mut atlas = new_atlas(rt, size2(1000, 1000))?;
+    let id = allocate(&mut atlas, size2(100, 100))?;
+    show_reopened(rt, atlas, id)
+}
+
+fn show_reopened(
+    rt: &(impl Print + AllocGlobal),
+    atlas: AtlasAllocator,
+    id: AllocId,
+) -> Result<()> {
     let opened = reopen(rt.alloc(), atlas)?;
-    show(rt, "saved", opened.get(id).context("not there")?)
+    show_under(rt, &opened, id)
+}
+
+fn show_under(rt: &impl Print, atlas: &AtlasAllocator, id: AllocId) -> Result<()> {
+    show(rt, "saved", atlas.get(id).context("not there")?)
 }
 
 /// Prints a rectangle as its two corners.
@@ -129,8 +170,17 @@ fn show(rt: &impl Print, what: &str, rectangle: Rectangle) -> Result<()> {
 /// The example of the README, with a second return, written down.
 fn show_recorded(rt: &(impl Print + AllocGlobal)) -> Result<()> {
     let mut recorder = Recorder::new(rt.alloc(), size2(1000, 1000), &DEFAULT_OPTIONS)?;
-    let unknown = record(&mut recorder)?;
+    show_record(rt, &mut recorder)?;
+    show_script(rt, recorder)
+}
+
+fn show_record(rt: &impl Print, recorder: &mut Recorder) -> Result<()> {
+    let unknown = record(recorder)?;
     println!(rt; "recorded: unknown {unknown}")?;
+    Ok(())
+}
+
+fn show_script(rt: &impl Print, recorder: Recorder) -> Result<()> {
     let script = recorder.finish().context("no memory")?;
     print!(rt; "{script}")?;
     Ok(())
@@ -138,10 +188,14 @@ fn show_recorded(rt: &(impl Print + AllocGlobal)) -> Result<()> {
 
 /// Makes the calls of the example, and tells whether the second return was refused.
 fn record(recorder: &mut Recorder) -> Result<bool> {
-    let first = recorder.allocate(size2(100, 100))?.context("no room")?;
-    recorder.allocate(size2(900, 200))?.context("no room")?;
-    recorder.deallocate(first.id)?;
-    let unknown = recorder.deallocate(first.id).is_err();
-    recorder.allocate(size2(300, 200))?.context("no room")?;
+    let first = add(recorder, size2(100, 100))?;
+    add(recorder, size2(900, 200))?;
+    recorder.deallocate(first)?;
+    let unknown = recorder.deallocate(first).is_err();
+    add(recorder, size2(300, 200))?;
     Ok(unknown)
+}
+
+fn add(recorder: &mut Recorder, size: Size) -> Result<AllocId> {
+    Ok(recorder.allocate(size)?.context("no room")?.id)
 }

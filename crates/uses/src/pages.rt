@@ -19,7 +19,7 @@ pub const PAGE: Size = Size {
 };
 
 /// A place on one of several pages, which count from 0.
-#[derive(Clone, Copy, Debug, PartialEq)]
+#[derive(Clone, Copy)]
 pub struct PagedAllocation {
     pub page: usize,
     pub allocation: Allocation,
