@@ -6,7 +6,8 @@ use glyph_shelf::laws::saved_and_restored;
 use glyph_shelf::{CacheRestoreFault, CacheSnapshot, GlyphCache, GlyphFault, Placed, SavedKey};
 use row_calls::atlases::of_options;
 use row_calls::lines::{
-    key_of, numbers, say, say_evicted, say_fault, say_if, say_number, say_rectangle, size_of,
+    key_of, numbers, say, say_bracketed, say_evicted, say_fault, say_if, say_number, say_rectangle,
+    size_of,
 };
 use row_calls::places::{Called, NotMade};
 use saved_caches::{read_saved_cache, write_saved_cache};
@@ -67,35 +68,68 @@ impl Called for CalledCache {
             "retain" => retain(cache, rt, words),
             "clear" => clear(cache, rt),
             "frame" => begin_frame(cache, rt),
-            "used" => say_number(rt, used(cache)),
-            "len" => say_number(rt, len(cache)),
-            "capacity" => say_number(rt, capacity(cache)),
-            "empty" => say_if(rt, is_empty(cache), "yes", "no"),
-            "allocated" => say_number(rt, allocated(cache)),
             "moved" => moved_caches::say_moved(cache, rt, words),
             "rearrange" => moved_caches::rearrange(cache, rt, words),
-            "with_capacity" | "with_key" | "with_id" | "with_space" | "without_last" => {
-                say_restored(rt, &changed(cache, rt.alloc(), call, key_of(words)))
-            }
-            _ => say(rt, "no such call"),
+            _ => say_state(cache, rt, call, words),
         }
+    }
+}
+
+/// The calls that change nothing.
+fn say_state(
+    cache: &GlyphCache,
+    rt: &(impl Print + AllocGlobal),
+    call: &str,
+    words: &str,
+) -> io::Result<()> {
+    match call {
+        "used" => say_number(rt, used(cache)),
+        "len" => say_number(rt, len(cache)),
+        "capacity" => say_number(rt, capacity(cache)),
+        "empty" => say_if(rt, is_empty(cache), "yes", "no"),
+        "allocated" => say_number(rt, allocated(cache)),
+        _ => say_changed(cache, rt, call, words),
     }
 }
 
 /// Places a key, whose number stands before its sides.
 fn place(cache: &mut GlyphCache, rt: &impl Print, words: &str) -> io::Result<()> {
     let (key, sides) = words.split_once(' ').unwrap_or((words, ""));
-    match placed(cache, key_of(key), size_of(sides)) {
-        Ok(Placed { rectangle, evicted }) => {
-            let Rectangle { min, max } = rectangle;
-            print!(rt; "placed ({},{})-({},{})", min.x, min.y, max.x, max.y)?;
-            say_evicted(rt, &evicted)
-        }
-        Err(GlyphFault::Memory(evicted)) => {
-            rt.print("no memory")?;
-            say_evicted(rt, &evicted)
-        }
+    say_placed(rt, &placed(cache, key_of(key), size_of(sides)))
+}
+
+/// Writes what a key that is placed answers.
+pub fn say_placed(rt: &impl Print, answer: &Result<Placed, GlyphFault>) -> io::Result<()> {
+    match answer {
+        Ok(placed) => say_entered(rt, placed),
+        Err(GlyphFault::Memory(evicted)) => say_unentered(rt, evicted),
         Err(fault) => say_fault(rt, fault.number()),
+    }
+}
+
+fn say_entered(rt: &impl Print, placed: &Placed) -> io::Result<()> {
+    rt.print("placed ")?;
+    say_bracketed(rt, &placed.rectangle)?;
+    say_evicted(rt, &placed.evicted)
+}
+
+fn say_unentered(rt: &impl Print, evicted: &[u64]) -> io::Result<()> {
+    rt.print("no memory")?;
+    say_evicted(rt, evicted)
+}
+
+/// The calls that save a cache, change what is saved, and restore it.
+fn say_changed(
+    cache: &GlyphCache,
+    rt: &(impl Print + AllocGlobal),
+    call: &str,
+    words: &str,
+) -> io::Result<()> {
+    match call {
+        "with_capacity" | "with_key" | "with_id" | "with_space" | "without_last" => {
+            say_restored(rt, &changed(cache, rt.alloc(), call, key_of(words)))
+        }
+        _ => say(rt, "no such call"),
     }
 }
 

@@ -26,25 +26,35 @@ use std::io::{BufRead, BufReader};
 
 fn main(rt: HostRuntime) -> Result<()> {
     let kind = env::args(&rt)?.nth(1).context("no kind")?;
-    match kind.as_str() {
-        "atlas" => answer_all::<AtlasAllocator, _>(&rt),
-        "bucketed" => answer_all::<BucketedAtlasAllocator, _>(&rt),
-        "cache" => answer_all::<CalledCache, _>(&rt),
-        "pages" => answer_all::<CalledPages, _>(&rt),
-        "padded" => answer_all::<CalledPaddedPages, _>(&rt),
-        "padded_cache" => answer_all::<CalledPaddedCache, _>(&rt),
-        "paged_cache" => answer_all::<CalledPagedCache, _>(&rt),
-        "run" => runs::run(&rt),
-        "stream" => runs::stream(&rt),
+    answer_kind(&rt, kind.as_str())
+}
+
+fn answer_kind(rt: &HostRuntime, kind: &str) -> Result<()> {
+    match kind {
+        "atlas" => answer_all::<AtlasAllocator, _>(rt),
+        "bucketed" => answer_all::<BucketedAtlasAllocator, _>(rt),
+        "cache" => answer_all::<CalledCache, _>(rt),
+        "pages" => answer_all::<CalledPages, _>(rt),
+        "padded" => answer_all::<CalledPaddedPages, _>(rt),
+        "padded_cache" => answer_all::<CalledPaddedCache, _>(rt),
+        "paged_cache" => answer_all::<CalledPagedCache, _>(rt),
+        "run" => runs::run(rt),
+        "stream" => runs::stream(rt),
         _ => bail!("no such kind"),
     }
 }
 
 /// Answers each line.
 fn answer_all<C: Called + Drop, R: Input + Print + AllocGlobal>(rt: &R) -> Result<()> {
-    let mut places = Places::<C>::new();
+    answer_lines(rt, &mut Places::<C>::new())
+}
+
+fn answer_lines<C: Called + Drop, R: Input + Print + AllocGlobal>(
+    rt: &R,
+    places: &mut Places<C>,
+) -> Result<()> {
     for line in BufReader::new(rt.alloc(), rt.reader())?.lines(rt.alloc()) {
-        answer(rt, &mut places, line?.as_str())?;
+        answer(rt, places, line?.as_str())?;
     }
     Ok(())
 }

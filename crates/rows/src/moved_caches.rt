@@ -28,28 +28,40 @@ pub fn rearrange(
 ) -> io::Result<()> {
     match moved(rt.alloc(), cache, size_of(words)) {
         Ok(done) => {
-            println!(rt; "moved {} left {}", done.moves.len(), done.unplaced.len())?;
-            *cache = done.cache;
-            Ok(())
+            let (moves, unplaced) = (done.moves.len(), done.unplaced.len());
+            put(cache, done);
+            println!(rt; "moved {moves} left {unplaced}")
         }
         Err(fault) => say_refused(rt, fault),
     }
 }
 
+fn put(cache: &mut GlyphCache, done: RearrangedCache) {
+    *cache = done.cache;
+}
+
 fn say_keys(rt: &impl Print, done: &RearrangedCache) -> io::Result<()> {
-    for KeyMove { key, before, after } in &done.moves {
-        print!(rt; "{key} from ")?;
-        say_bracketed(rt, before)?;
-        rt.print(" to ")?;
-        say_bracketed(rt, after)?;
-        say(rt, "")?;
+    for key_move in &done.moves {
+        say_move(rt, key_move)?;
     }
-    for UnplacedKey { key, rectangle } in &done.unplaced {
-        print!(rt; "left {key} ")?;
-        say_bracketed(rt, rectangle)?;
-        say(rt, "")?;
+    for unplaced in &done.unplaced {
+        say_unplaced(rt, unplaced)?;
     }
     say(rt, "end")
+}
+
+fn say_move(rt: &impl Print, key_move: &KeyMove) -> io::Result<()> {
+    print!(rt; "{} from ", key_move.key)?;
+    say_bracketed(rt, &key_move.before)?;
+    rt.print(" to ")?;
+    say_bracketed(rt, &key_move.after)?;
+    say(rt, "")
+}
+
+fn say_unplaced(rt: &impl Print, unplaced: &UnplacedKey) -> io::Result<()> {
+    print!(rt; "left {} ", unplaced.key)?;
+    say_bracketed(rt, &unplaced.rectangle)?;
+    say(rt, "")
 }
 
 fn say_refused(rt: &impl Print, fault: OptionsFault) -> io::Result<()> {

@@ -1,5 +1,6 @@
 //! Calls of a cache of glyphs with a padding.
 
+use crate::caches::say_placed;
 use etagere::{
     AllocatorOptions, AtlasGrowFault, DEFAULT_OPTIONS, OptionsFault, Rectangle, Size, size2,
 };
@@ -8,7 +9,7 @@ use padded_cache::PaddedCache;
 use padding::Padding;
 use row_calls::atlases::of_options;
 use row_calls::lines::{
-    key_of, numbers, say, say_bracketed, say_evicted, say_fault, say_number, say_rectangle, size_of,
+    key_of, numbers, say, say_evicted, say_fault, say_number, say_rectangle, size_of,
 };
 use row_calls::places::{Called, NotMade};
 use std::alloc::{AllocError, Global};
@@ -49,14 +50,26 @@ impl Called for CalledPaddedCache {
             "peek" => say_rectangle(rt, peek(cache, key_of(words))),
             "remove" => say_rectangle(rt, remove(cache, key_of(words))),
             "retain" => retain(cache, rt, words),
-            "iter" => list(cache, rt),
-            "frame" => begin_frame(cache, rt),
-            "clear" => clear(cache, rt),
-            "grow" => grow(cache, rt, words),
-            "keep" => keep(cache, rt, words),
-            "len" => say_number(rt, len(cache)),
-            _ => say(rt, "no such call"),
+            _ => answer_of_all(cache, rt, call, words),
         }
+    }
+}
+
+/// The calls that name no key.
+fn answer_of_all(
+    cache: &mut PaddedCache,
+    rt: &impl Print,
+    call: &str,
+    words: &str,
+) -> io::Result<()> {
+    match call {
+        "iter" => list(cache, rt),
+        "frame" => begin_frame(cache, rt),
+        "clear" => clear(cache, rt),
+        "grow" => grow(cache, rt, words),
+        "keep" => keep(cache, rt, words),
+        "len" => say_number(rt, len(cache)),
+        _ => say(rt, "no such call"),
     }
 }
 
@@ -67,18 +80,7 @@ fn capacity_of(number: i32) -> Option<NonZeroUsize> {
 /// Places a key, whose number stands before its sides.
 fn place(cache: &mut PaddedCache, rt: &impl Print, words: &str) -> io::Result<()> {
     let (key, sides) = words.split_once(' ').unwrap_or((words, ""));
-    match placed(cache, key_of(key), size_of(sides)) {
-        Ok(Placed { rectangle, evicted }) => {
-            rt.print("placed ")?;
-            say_bracketed(rt, &rectangle)?;
-            say_evicted(rt, &evicted)
-        }
-        Err(GlyphFault::Memory(evicted)) => {
-            rt.print("no memory")?;
-            say_evicted(rt, &evicted)
-        }
-        Err(fault) => say_fault(rt, fault.number()),
-    }
+    say_placed(rt, &placed(cache, key_of(key), size_of(sides)))
 }
 
 /// Writes a line for each key with its rectangle, and one that ends them.

@@ -1,7 +1,7 @@
 //! Runs and streams of a script. What is written is what a replay of the script writes.
 
 use anyhow::{Context, Result, bail};
-use etagere::OptionsFault;
+use etagere::{Allocation, OptionsFault, Rectangle};
 use etagere_run::{
     Reply, RunFault, StreamFault, run_atlas, run_bucketed, stream_atlas, stream_bucketed,
 };
@@ -13,7 +13,11 @@ use std::io;
 /// Runs the script of standard input as a whole.
 pub fn run(rt: &(impl Input + Print + AllocGlobal)) -> Result<()> {
     let script = script_of(rt)?;
-    match replies_of(rt, &script) {
+    run_script(rt, &script)
+}
+
+fn run_script(rt: &(impl Print + AllocGlobal), script: &Script) -> Result<()> {
+    match replies_of(rt, script) {
         Ok(replies) => Ok(say_all(rt, &replies)?),
         Err(RunFault::Options(fault)) => say_options(rt, fault),
         Err(RunFault::Memory) => bail!("no memory"),
@@ -23,7 +27,11 @@ pub fn run(rt: &(impl Input + Print + AllocGlobal)) -> Result<()> {
 /// Streams the script of standard input.
 pub fn stream(rt: &(impl Input + Print + AllocGlobal)) -> Result<()> {
     let script = script_of(rt)?;
-    match streamed(rt, &script) {
+    stream_script(rt, &script)
+}
+
+fn stream_script(rt: &(impl Print + AllocGlobal), script: &Script) -> Result<()> {
+    match streamed(rt, script) {
         Ok(()) => Ok(()),
         Err(StreamFault::Options(fault)) => say_options(rt, fault),
         Err(StreamFault::Memory) => bail!("no memory"),
@@ -78,16 +86,8 @@ fn say_all(rt: &impl Print, replies: &[Reply]) -> io::Result<()> {
 /// Writes the line of a reply, as a replay does.
 fn say_reply(rt: &impl Print, reply: &Reply) -> io::Result<()> {
     match reply {
-        Reply::Placed(given) => {
-            print!(rt; "placed {} ", given.id.serialize())?;
-            say_corners(rt, given.rectangle)?;
-            say(rt, "")
-        }
-        Reply::At(rectangle, index) => {
-            rt.print("at ")?;
-            say_corners(rt, *rectangle)?;
-            println!(rt; " {index}")
-        }
+        Reply::Placed(given) => say_placed(rt, given),
+        Reply::At(rectangle, index) => say_at(rt, *rectangle, *index),
         Reply::GrowRefused(number) => println!(rt; "grow refused {number}"),
         Reply::Refused => say(rt, "refused"),
         Reply::Returned => say(rt, "returned"),
@@ -96,4 +96,16 @@ fn say_reply(rt: &impl Print, reply: &Reply) -> io::Result<()> {
         Reply::Grown => say(rt, "grown"),
         Reply::NoMemory => say(rt, "no memory"),
     }
+}
+
+fn say_placed(rt: &impl Print, given: &Allocation) -> io::Result<()> {
+    print!(rt; "placed {} ", given.id.serialize())?;
+    say_corners(rt, given.rectangle)?;
+    say(rt, "")
+}
+
+fn say_at(rt: &impl Print, rectangle: Rectangle, index: u32) -> io::Result<()> {
+    rt.print("at ")?;
+    say_corners(rt, rectangle)?;
+    println!(rt; " {index}")
 }
