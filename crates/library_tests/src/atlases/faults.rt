@@ -8,11 +8,7 @@ use std::fmt::Display;
 use std::process::Abort;
 use std::test::Fail;
 
-fn says(
-    rt: &(impl AllocGlobal + Abort),
-    fault: impl Display + Drop,
-    text: &str,
-) -> Result<(), Fail> {
+fn says(rt: &(impl AllocGlobal + Abort), fault: &impl Display, text: &str) -> Result<(), Fail> {
     let said = fault.to_string(rt.alloc())?;
     equal(rt, &said.as_str(), &text);
     Ok(())
@@ -30,10 +26,10 @@ fn options_faults_are_numbered_in_the_order_of_their_tests(rt: HostRuntime) -> R
     ];
     for (fault, number, text) in table {
         equal(&rt, &fault.number(), &number);
-        says(&rt, fault, text)?;
+        says(&rt, &fault, text)?;
     }
     equal(&rt, &UnknownId.number(), &1);
-    says(&rt, UnknownId, "UnknownId")
+    says(&rt, &UnknownId, "UnknownId")
 }
 
 #[test]
@@ -47,7 +43,7 @@ fn faults_of_growths_are_numbered_in_the_order_of_their_tests(rt: HostRuntime) -
     ];
     for (fault, number, text) in table {
         equal(&rt, &fault.number(), &number);
-        says(&rt, fault, text)?;
+        says(&rt, &fault, text)?;
     }
     let table = [
         (GrowFault::Size, 1, "Size"),
@@ -57,7 +53,7 @@ fn faults_of_growths_are_numbered_in_the_order_of_their_tests(rt: HostRuntime) -
     ];
     for (fault, number, text) in table {
         equal(&rt, &fault.number(), &number);
-        says(&rt, fault, text)?;
+        says(&rt, &fault, text)?;
     }
     Ok(())
 }
@@ -79,35 +75,49 @@ fn faults_of_snapshots_have_the_numbers_of_their_rules(rt: HostRuntime) -> Resul
     ];
     for (fault, number, text) in table {
         equal(&rt, &fault.number(), &number);
-        says(&rt, fault, text)?;
+        says(&rt, &fault, text)?;
     }
     Ok(())
 }
 
 #[test]
 fn faults_of_runs_streams_and_replays_are_numbered(rt: HostRuntime) -> Result<(), Fail> {
+    are_faults_of_runs(&rt)?;
+    are_faults_of_streams(&rt)?;
+    are_faults_of_replays(&rt)
+}
+
+fn are_faults_of_runs(rt: &(impl AllocGlobal + Abort)) -> Result<(), Fail> {
     let options = RunFault::Options(OptionsFault::Area);
     for (fault, number, text) in [(options, 1, "Options"), (RunFault::Memory, 2, "Memory")] {
-        equal(&rt, &fault.number(), &number);
-        says(&rt, fault, text)?;
+        equal(rt, &fault.number(), &number);
+        says(rt, &fault, text)?;
     }
+    Ok(())
+}
+
+fn are_faults_of_streams(rt: &(impl AllocGlobal + Abort)) -> Result<(), Fail> {
     let table = [
         (StreamFault::Options(OptionsFault::Area), 1, "Options"),
         (StreamFault::Memory, 2, "Memory"),
         (StreamFault::Write, 3, "Write"),
     ];
     for (fault, number, text) in table {
-        equal(&rt, &fault.number(), &number);
-        says(&rt, fault, text)?;
+        equal(rt, &fault.number(), &number);
+        says(rt, &fault, text)?;
     }
+    Ok(())
+}
+
+fn are_faults_of_replays(rt: &(impl AllocGlobal + Abort)) -> Result<(), Fail> {
     let table = [
         (ReplayFault::Read, 1, "Read"),
         (ReplayFault::Write, 2, "Write"),
         (ReplayFault::Memory, 3, "Memory"),
     ];
     for (fault, number, text) in table {
-        equal(&rt, &fault.number(), &number);
-        says(&rt, fault, text)?;
+        equal(rt, &fault.number(), &number);
+        says(rt, &fault, text)?;
     }
     Ok(())
 }

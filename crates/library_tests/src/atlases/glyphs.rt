@@ -11,13 +11,10 @@ use test_support::atlases::Atlas;
 use test_support::calls::{new, return_all};
 use test_support::corners::corners;
 
-fn cache_of(
-    alloc: Global,
-    (width, height): (i32, i32),
-    capacity: usize,
-) -> Result<GlyphCache, Fail> {
-    let capacity = NonZeroUsize::new(capacity).ok_or("no capacity")?;
-    Ok(GlyphCache::new(alloc, size2(width, height), &DEFAULT_OPTIONS, capacity)?)
+/// A cache of so many keys in an atlas of 96x96.
+fn new_cache(alloc: Global, capacity: usize) -> Result<GlyphCache, OptionsFault> {
+    let capacity = NonZeroUsize::new(capacity).unwrap_or(NonZeroUsize::MIN);
+    GlyphCache::new(alloc, size2(96, 96), &DEFAULT_OPTIONS, capacity)
 }
 
 #[test]
@@ -132,7 +129,7 @@ fn place_in_both(
 
 #[test]
 fn a_long_text_is_placed_as_a_plain_cache_places_it(rt: HostRuntime) -> Result<(), Fail> {
-    let mut cache = cache_of(rt.alloc(), (96, 96), 60)?;
+    let mut cache = new_cache(rt.alloc(), 60)?;
     let mut plain = PlainCache {
         entries: Vec::new(rt.alloc()),
         atlas: new(rt.alloc(), (96, 96))?,

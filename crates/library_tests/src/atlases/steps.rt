@@ -2,36 +2,62 @@
 
 use crate::streams::assertions::holds;
 use etagere::laws::restore_atlas;
-use etagere::{AllocatorOptions, AtlasAllocator, DEFAULT_OPTIONS, RestoreFault, size2};
+use etagere::{
+    AllocatorOptions, AtlasAllocator, AtlasSnapshot, DEFAULT_OPTIONS, RestoreFault, size2,
+};
+use std::alloc::Global;
 use std::test::Fail;
 use test_support::calls::{ask_all, return_one, with_options};
 
-#[test]
-fn a_chain_that_many_shelves_share_is_followed_once(rt: HostRuntime) -> Result<(), Fail> {
+/// An atlas of so many columns, in each of which nothing is used.
+fn columns(alloc: Global, count: i32) -> Result<AtlasAllocator, Fail> {
     let options = AllocatorOptions {
-        num_columns: 1000,
+        num_columns: count,
         ..DEFAULT_OPTIONS
     };
-    let atlas: AtlasAllocator = with_options(rt.alloc(), (1000, 8), &options)?;
-    let mut snapshot = atlas.snapshot()?;
+    with_options(alloc, (count, 8), &options)
+}
+
+/// The snapshot of an atlas.
+fn saved(atlas: &AtlasAllocator) -> Result<AtlasSnapshot, Fail> {
+    Ok(atlas.snapshot()?)
+}
+
+/// All shelves begin at the first record.
+fn share_first(snapshot: &mut AtlasSnapshot) {
     for shelf in &mut snapshot.shelves {
         shelf.first_item = 0;
     }
+}
+
+/// Each of the first records leads to the next.
+fn chain(snapshot: &mut AtlasSnapshot, count: u16) {
     let mut number = 0;
     for item in &mut snapshot.items {
         number = u16::wrapping_add(number, 1);
-        item.next = if number < 1000 { number } else { u16::MAX };
+        item.next = if number < count { number } else { u16::MAX };
     }
-    let mut steps = 0;
-    let Err(fault) = restore_atlas(rt.alloc(), snapshot, &mut steps) else {
-        return Err("restored".into());
-    };
+}
+
+/// The fault of a snapshot that isn't restored, and how many steps that took behind so many.
+fn restoring(alloc: Global, snapshot: AtlasSnapshot, steps: u64) -> (Option<RestoreFault>, u64) {
+    let mut steps = steps;
+    let fault = restore_atlas(alloc, snapshot, &mut steps).err();
+    (fault, steps)
+}
+
+#[test]
+fn a_chain_that_many_shelves_share_is_followed_once(rt: HostRuntime) -> Result<(), Fail> {
+    let mut snapshot = saved(&columns(rt.alloc(), 1000)?)?;
+    share_first(&mut snapshot);
+    chain(&mut snapshot, 1000);
+    let (fault, steps) = restoring(rt.alloc(), snapshot, 0);
     let faults = [
-        RestoreFault::Link,
-        RestoreFault::Runs,
-        RestoreFault::Neighbours,
-        RestoreFault::FreeList,
-        RestoreFault::Sharing,
+        Some(RestoreFault::Link),
+        Some(RestoreFault::Runs),
+        Some(RestoreFault::Neighbours),
+        Some(RestoreFault::FreeList),
+        Some(RestoreFault::Sharing),
     ];
     holds(&rt, faults.contains(&fault));
     holds(&rt, steps <= 8000);
@@ -46,6 +72,12 @@ fn used_atlas(rt: &impl AllocGlobal) -> Result<AtlasAllocator, Fail> {
         num_columns: 2,
     };
     let mut atlas: AtlasAllocator = with_options(rt.alloc(), (100, 80), &options)?;
+    use_and_return(rt.alloc(), &mut atlas)?;
+    Ok(atlas)
+}
+
+/// Asks for seven sizes, and returns three of them.
+fn use_and_return(alloc: Global, atlas: &mut AtlasAllocator) -> Result<(), Fail> {
     let sizes = [
         (10, 8),
         (10, 12),
@@ -55,19 +87,19 @@ fn used_atlas(rt: &impl AllocGlobal) -> Result<AtlasAllocator, Fail> {
         (9, 9),
         (40, 40),
     ];
-    let ids = ask_all(rt.alloc(), &mut atlas, &sizes)?;
+    let ids = ask_all(alloc, atlas, &sizes)?;
     for number in [1, 4, 6] {
-        return_one(&mut atlas, ids.as_slice(), number)?;
+        return_one(atlas, ids.as_slice(), number)?;
     }
-    Ok(atlas)
+    Ok(())
 }
 
 #[test]
 fn steps_count_each_record_in_use(rt: HostRuntime) -> Result<(), Fail> {
-    let snapshot = used_atlas(&rt)?.snapshot()?;
+    let snapshot = saved(&used_atlas(&rt)?)?;
     let records = usize::wrapping_add(snapshot.shelves.len(), snapshot.items.len()) as u64;
-    let mut steps = 7;
-    restore_atlas(rt.alloc(), snapshot, &mut steps)?;
+    let (fault, steps) = restoring(rt.alloc(), snapshot, 7);
+    holds(&rt, fault.is_none());
     holds(&rt, 0 < steps);
     holds(&rt, steps <= u64::wrapping_mul(4, records));
     Ok(())

@@ -1,8 +1,8 @@
 //! Each call once, with ample memory.
 
 use crate::maps::support::{
-    Pictures, begin_frame, clear, counts, equal, get, grow, is_empty, keep_even, keep_one, name_of,
-    order, peek, pictures, place, remove, use_name,
+    Pictures, begin_frame, clear, counts, equal, get, grow, is_empty, is_in_order, keep_even,
+    keep_one, look_up, name_of, new_pictures, peek, place_all, remove, use_name,
 };
 use std::alloc::{AllocError, Global};
 use std::process::Abort;
@@ -10,20 +10,24 @@ use std::test::Fail;
 
 #[test]
 fn values_come_back_with_their_keys(rt: HostRuntime) -> Result<(), Fail> {
-    let alloc = rt.alloc();
-    values_come_back_with_their_keys_in(&rt, alloc, &mut pictures(alloc, 2)?)
+    let mut map = new_pictures(rt.alloc(), 2)?;
+    values_come_back_with_their_keys_in(&rt, rt.alloc(), &mut map)?;
+    Ok(())
 }
 
 fn values_come_back_with_their_keys_in(
     rt: &impl Abort,
     alloc: Global,
     map: &mut Pictures,
-) -> Result<(), Fail> {
-    equal(rt, &place(map, alloc, "a", 1, 10)?, &(-1, -1, 0));
-    equal(rt, &place(map, alloc, "b", 2, 10)?, &(-1, -1, 0));
-    equal(rt, &place(map, alloc, "c", 3, 10)?, &(1, -1, 0));
-    equal(rt, &place(map, alloc, "b", 9, 10)?, &(-1, 2, 0));
-    equal(rt, &order(map, alloc)?.as_slice(), &[9, 3].as_slice());
+) -> Result<(), AllocError> {
+    let steps = [
+        ("a", 1, 10, (-1, -1, 0)),
+        ("b", 2, 10, (-1, -1, 0)),
+        ("c", 3, 10, (1, -1, 0)),
+        ("b", 9, 10, (-1, 2, 0)),
+    ];
+    place_all(rt, map, alloc, &steps)?;
+    is_in_order(rt, map, alloc, &[9, 3])?;
     equal(rt, &keep_one(map), &3);
     equal(rt, &counts(map), &(1, 1, 0));
     clear(map);
@@ -33,88 +37,93 @@ fn values_come_back_with_their_keys_in(
 
 #[test]
 fn what_is_looked_up_is_used(rt: HostRuntime) -> Result<(), Fail> {
-    let alloc = rt.alloc();
-    what_is_looked_up_is_used_in(&rt, alloc, &mut pictures(alloc, 9)?)
+    let mut map = new_pictures(rt.alloc(), 9)?;
+    what_is_looked_up_is_used_in(&rt, rt.alloc(), &mut map)?;
+    Ok(())
 }
 
 fn what_is_looked_up_is_used_in(
     rt: &impl Abort,
     alloc: Global,
     map: &mut Pictures,
-) -> Result<(), Fail> {
-    place(map, alloc, "a", 1, 10)?;
-    place(map, alloc, "b", 2, 10)?;
-    let a = name_of(alloc, "a")?;
-    equal(rt, &peek(map, &a), &1);
-    equal(rt, &order(map, alloc)?.as_slice(), &[2, 1].as_slice());
-    equal(rt, &get(map, &a), &1);
-    equal(rt, &order(map, alloc)?.as_slice(), &[1, 2].as_slice());
-    Ok(())
+) -> Result<(), AllocError> {
+    let steps = [("a", 1, 10, (-1, -1, 0)), ("b", 2, 10, (-1, -1, 0))];
+    place_all(rt, map, alloc, &steps)?;
+    equal(rt, &peek(map, &name_of(alloc, "a")?), &1);
+    is_in_order(rt, map, alloc, &[2, 1])?;
+    equal(rt, &look_up(map, alloc, "a")?, &1);
+    is_in_order(rt, map, alloc, &[1, 2])
 }
 
 #[test]
 fn what_is_removed_is_gone(rt: HostRuntime) -> Result<(), Fail> {
-    let alloc = rt.alloc();
-    what_is_removed_is_gone_in(&rt, alloc, &mut pictures(alloc, 9)?)
+    let mut map = new_pictures(rt.alloc(), 9)?;
+    place_all(&rt, &mut map, rt.alloc(), &[("a", 1, 10, (-1, -1, 0))])?;
+    what_is_removed_is_gone_in(&rt, &mut map, &name_of(rt.alloc(), "a")?);
+    Ok(())
 }
 
-fn what_is_removed_is_gone_in(
-    rt: &impl Abort,
-    alloc: Global,
-    map: &mut Pictures,
-) -> Result<(), Fail> {
-    place(map, alloc, "a", 1, 10)?;
-    let a = name_of(alloc, "a")?;
-    equal(rt, &use_name(map, &a), &true);
-    equal(rt, &remove(map, &a), &1);
-    equal(rt, &remove(map, &a), &-1);
-    equal(rt, &use_name(map, &a), &false);
-    equal(rt, &(get(map, &a), peek(map, &a)), &(-1, -1));
-    Ok(())
+fn what_is_removed_is_gone_in(rt: &impl Abort, map: &mut Pictures, a: &String) {
+    equal(rt, &use_name(map, a), &true);
+    equal(rt, &remove(map, a), &1);
+    equal(rt, &remove(map, a), &-1);
+    equal(rt, &use_name(map, a), &false);
+    equal(rt, &(get(map, a), peek(map, a)), &(-1, -1));
 }
 
 #[test]
 fn what_a_test_refuses_goes(rt: HostRuntime) -> Result<(), Fail> {
-    let alloc = rt.alloc();
-    let mut map = pictures(alloc, 9)?;
-    place_four(&mut map, alloc)?;
-    equal(&rt, &keep_even(&mut map), &true);
-    equal(&rt, &order(&map, alloc)?.as_slice(), &[2, 4].as_slice());
-    equal(&rt, &counts(&map), &(2, 9, 1));
+    let mut map = new_pictures(rt.alloc(), 9)?;
+    what_a_test_refuses_goes_in(&rt, rt.alloc(), &mut map)?;
+    Ok(())
+}
+
+fn what_a_test_refuses_goes_in(
+    rt: &impl Abort,
+    alloc: Global,
+    map: &mut Pictures,
+) -> Result<(), AllocError> {
+    place_four(rt, map, alloc)?;
+    equal(rt, &keep_even(map), &true);
+    is_in_order(rt, map, alloc, &[2, 4])?;
+    equal(rt, &counts(map), &(2, 9, 1));
     Ok(())
 }
 
 /// Places four names, of which the first two are used in a frame.
-fn place_four(map: &mut Pictures, alloc: Global) -> Result<(), AllocError> {
-    place(map, alloc, "a", 1, 10)?;
-    place(map, alloc, "b", 2, 10)?;
-    place(map, alloc, "c", 3, 10)?;
-    place(map, alloc, "d", 4, 10)?;
+fn place_four(rt: &impl Abort, map: &mut Pictures, alloc: Global) -> Result<(), AllocError> {
+    let steps = [
+        ("a", 1, 10, (-1, -1, 0)),
+        ("b", 2, 10, (-1, -1, 0)),
+        ("c", 3, 10, (-1, -1, 0)),
+        ("d", 4, 10, (-1, -1, 0)),
+    ];
+    place_all(rt, map, alloc, &steps)?;
     begin_frame(map);
-    get(map, &name_of(alloc, "a")?);
-    get(map, &name_of(alloc, "b")?);
+    look_up(map, alloc, "a")?;
+    look_up(map, alloc, "b")?;
     Ok(())
 }
 
 #[test]
 fn what_has_no_room_comes_back(rt: HostRuntime) -> Result<(), Fail> {
-    let alloc = rt.alloc();
-    what_has_no_room_comes_back_in(&rt, alloc, &mut pictures(alloc, 9)?)
+    let mut map = new_pictures(rt.alloc(), 9)?;
+    what_has_no_room_comes_back_in(&rt, rt.alloc(), &mut map)?;
+    Ok(())
 }
 
 fn what_has_no_room_comes_back_in(
     rt: &impl Abort,
     alloc: Global,
     map: &mut Pictures,
-) -> Result<(), Fail> {
-    equal(rt, &place(map, alloc, "a", 7, 65)?, &(7, -1, 1));
+) -> Result<(), AllocError> {
+    place_all(rt, map, alloc, &[("a", 7, 65, (7, -1, 1))])?;
     begin_frame(map);
-    place(map, alloc, "a", 1, 64)?;
-    equal(rt, &place(map, alloc, "b", 2, 64)?, &(2, -1, 3));
+    let steps = [("a", 1, 64, (-1, -1, 0)), ("b", 2, 64, (2, -1, 3))];
+    place_all(rt, map, alloc, &steps)?;
     equal(rt, &counts(map), &(1, 9, 1));
     equal(rt, &grow(map), &true);
-    equal(rt, &place(map, alloc, "b", 2, 64)?, &(-1, -1, 0));
+    place_all(rt, map, alloc, &[("b", 2, 64, (-1, -1, 0))])?;
     begin_frame(map);
-    equal(rt, &place(map, alloc, "c", 3, 64)?, &(1, -1, 0));
-    Ok(())
+    place_all(rt, map, alloc, &[("c", 3, 64, (1, -1, 0))])
 }

@@ -7,6 +7,7 @@ use crate::maps::support::{
 use etagere::size2;
 use glyph_map::{MapFault, Refused};
 use std::alloc::{AllocError, Global};
+use std::process::Abort;
 use std::test::Fail;
 
 /// How many came back when a name wasn't placed.
@@ -94,17 +95,21 @@ fn what_is_not_restored_comes_back(rt: HostRuntime) -> Result<(), Fail> {
     let Ok(mut map) = pictures(alloc, 20) else {
         return Ok(());
     };
-    for number in 0..20 {
-        place_one(&mut map, alloc, number);
-    }
-    let (len, _, _) = counts(&map);
-    let (Ok(snapshot), Ok(pairs)) = (save(&map), names(alloc, i32::try_from(len).unwrap_or(0)))
-    else {
-        return Ok(());
+    place_twenty(&mut map, alloc);
+    is_restored_or_comes_back(&rt, alloc, &map);
+    Ok(())
+}
+
+fn is_restored_or_comes_back(rt: &impl Abort, alloc: Global, map: &Pictures) {
+    let len = counts(map).0;
+    let Ok(pairs) = names(alloc, i32::try_from(len).unwrap_or(0)) else {
+        return;
+    };
+    let Ok(snapshot) = save(map) else {
+        return;
     };
     match restore(alloc, snapshot, pairs) {
-        Ok(again) => equal(&rt, &counts(&again).0, &len),
-        Err(refusal) => equal(&rt, &refusal, &(len, 11)),
+        Ok(again) => equal(rt, &counts(&again).0, &len),
+        Err(refusal) => equal(rt, &refusal, &(len, 11)),
     }
-    Ok(())
 }

@@ -1,8 +1,8 @@
 //! A map that is saved and restored, and what comes back where it can't be.
 
 use crate::maps::support::{
-    Picture, Pictures, begin_frame, counts, equal, get, name_of, order, pair_of, peek, pictures,
-    place, refusal, restore, save,
+    Picture, Pictures, begin_frame, counts, equal, is_in_order, look_up, name_of, new_pictures,
+    pair_of, peek, place, place_all, refusal, restore, save,
 };
 use etagere::Rectangle;
 use glyph_shelf::CacheSnapshot;
@@ -12,13 +12,18 @@ use std::test::Fail;
 
 /// A map of three names, of which the first was used last.
 fn three_names(alloc: Global) -> Result<Pictures, Fail> {
-    let mut map = pictures(alloc, 9)?;
-    place(&mut map, alloc, "a", 1, 10)?;
-    place(&mut map, alloc, "b", 2, 11)?;
-    place(&mut map, alloc, "c", 3, 12)?;
-    begin_frame(&mut map);
-    get(&mut map, &name_of(alloc, "a")?);
+    let mut map = new_pictures(alloc, 9)?;
+    place_three(&mut map, alloc)?;
     Ok(map)
+}
+
+fn place_three(map: &mut Pictures, alloc: Global) -> Result<(), AllocError> {
+    for (name, advance, side) in [("a", 1, 10), ("b", 2, 11), ("c", 3, 12)] {
+        place(map, alloc, name, advance, side)?;
+    }
+    begin_frame(map);
+    look_up(map, alloc, "a")?;
+    Ok(())
 }
 
 /// These names, numbered from 1.
@@ -32,10 +37,19 @@ fn named(alloc: Global, names: &[&str]) -> Result<Vec<(String, Picture)>, AllocE
     Ok(pairs)
 }
 
-/// What becomes of the three names saved, restored as these.
-fn restored_as(alloc: Global, names: &[&str]) -> Result<(usize, u32), Fail> {
-    let snapshot = save(&three_names(alloc)?)?;
-    Ok(refusal(restore(alloc, snapshot, named(alloc, names)?)))
+/// What is saved of the three names.
+fn saved_three(alloc: Global) -> Result<CacheSnapshot, Fail> {
+    Ok(save(&three_names(alloc)?)?)
+}
+
+/// What becomes of three names that were saved, restored as these.
+fn restored_as(
+    alloc: Global,
+    snapshot: CacheSnapshot,
+    names: &[&str],
+) -> Result<(usize, u32), AllocError> {
+    let pairs = named(alloc, names)?;
+    Ok(refusal(restore(alloc, snapshot, pairs)))
 }
 
 /// The rectangles, those most recently used first.
@@ -69,16 +83,29 @@ fn renamed(map: &Pictures, alloc: Global) -> Result<Option<Pictures>, AllocError
 
 #[test]
 fn what_is_restored_is_what_was_saved(rt: HostRuntime) -> Result<(), Fail> {
-    let alloc = rt.alloc();
-    let map = three_names(alloc)?;
-    equal(&rt, &order(&map, alloc)?.as_slice(), &[1, 3, 2].as_slice());
-    let saved = saved_numbers(&map, alloc)?;
-    equal(&rt, &saved.as_slice(), &[0, 1, 2].as_slice());
-    let again = renamed(&map, alloc)?;
-    equal(&rt, &again.is_some(), &true);
-    match again {
-        Some(mut again) => is_the_same(&rt, alloc, &map, &mut again),
-        None => Ok(()),
+    let map = three_names(rt.alloc())?;
+    is_numbered(&rt, rt.alloc(), &map)?;
+    let is_restored = is_restored(&rt, rt.alloc(), &map)?;
+    equal(&rt, &is_restored, &true);
+    Ok(())
+}
+
+/// The names are saved by numbers in the order of their places.
+fn is_numbered(rt: &impl Abort, alloc: Global, map: &Pictures) -> Result<(), AllocError> {
+    is_in_order(rt, map, alloc, &[1, 3, 2])?;
+    let saved = saved_numbers(map, alloc)?;
+    equal(rt, &saved.as_slice(), &[0, 1, 2].as_slice());
+    Ok(())
+}
+
+/// Whether the map is restored, which then is the same.
+fn is_restored(rt: &impl Abort, alloc: Global, map: &Pictures) -> Result<bool, AllocError> {
+    match renamed(map, alloc)? {
+        Some(mut again) => {
+            is_the_same(rt, alloc, map, &mut again)?;
+            Ok(true)
+        }
+        None => Ok(false),
     }
 }
 
@@ -88,36 +115,42 @@ fn is_the_same(
     alloc: Global,
     map: &Pictures,
     again: &mut Pictures,
-) -> Result<(), Fail> {
-    equal(rt, &order(again, alloc)?.as_slice(), &[1, 2, 3].as_slice());
+) -> Result<(), AllocError> {
+    is_in_order(rt, again, alloc, &[1, 2, 3])?;
     equal(rt, &counts(again), &(3, 9, 0));
     equal(rt, &rectangles(again, alloc)?, &rectangles(map, alloc)?);
     equal(rt, &peek(again, &name_of(alloc, "y")?), &2);
-    equal(rt, &place(again, alloc, "a", 4, 10)?, &(-1, -1, 0));
-    let found = order(again, alloc)?;
-    equal(rt, &found.as_slice(), &[4, 1, 2, 3].as_slice());
-    Ok(())
+    place_all(rt, again, alloc, &[("a", 4, 10, (-1, -1, 0))])?;
+    is_in_order(rt, again, alloc, &[4, 1, 2, 3])
 }
 
 #[test]
 fn what_breaks_a_rule_comes_back(rt: HostRuntime) -> Result<(), Fail> {
     let alloc = rt.alloc();
-    equal(&rt, &restored_as(alloc, &["x", "y", "z"])?, &(0, 0));
-    equal(&rt, &restored_as(alloc, &["x", "y"])?, &(2, 17));
-    equal(&rt, &restored_as(alloc, &["x", "y", "x"])?, &(3, 18));
+    let table: [(&[&str], (usize, u32)); 3] = [
+        (&["x", "y", "z"], (0, 0)),
+        (&["x", "y"], (2, 17)),
+        (&["x", "y", "x"], (3, 18)),
+    ];
+    for (names, wanted) in table {
+        equal(
+            &rt,
+            &restored_as(alloc, saved_three(alloc)?, names)?,
+            &wanted,
+        );
+    }
     Ok(())
 }
 
 #[test]
 fn a_broken_snapshot_is_refused(rt: HostRuntime) -> Result<(), Fail> {
     let alloc = rt.alloc();
-    let mut small = save(&three_names(alloc)?)?;
+    let names = ["x", "y", "z"];
+    let mut small = saved_three(alloc)?;
     small.capacity = 2;
-    let pairs = named(alloc, &["x", "y", "z"])?;
-    equal(&rt, &refusal(restore(alloc, small, pairs)), &(3, 13));
-    let mut broken = save(&three_names(alloc)?)?;
+    equal(&rt, &restored_as(alloc, small, &names)?, &(3, 13));
+    let mut broken = saved_three(alloc)?;
     broken.atlas.width = -1;
-    let pairs = named(alloc, &["x", "y", "z"])?;
-    equal(&rt, &refusal(restore(alloc, broken, pairs)), &(3, 1));
+    equal(&rt, &restored_as(alloc, broken, &names)?, &(3, 1));
     Ok(())
 }

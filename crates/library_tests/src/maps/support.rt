@@ -1,5 +1,6 @@
 //! A map of pictures under names, by calls that promise nothing, so that a test is proved safe in little time.
 
+use crate::streams::assertions::equal_at;
 use etagere::{DEFAULT_OPTIONS, OptionsFault, size2};
 use glyph_map::{GlyphMap, MapFault, NotRestored, Placed, Refused};
 use glyph_shelf::CacheSnapshot;
@@ -7,6 +8,7 @@ use std::alloc::{AllocError, Global};
 use std::fmt::Debug;
 use std::num::NonZeroUsize;
 use std::process::Abort;
+use std::test::Fail;
 
 /// What a caller keeps of a picture.
 #[derive(Clone, Copy, Debug, PartialEq, Eq)]
@@ -25,6 +27,11 @@ pub fn equal<T: PartialEq + Debug>(rt: &impl Abort, found: &T, wanted: &T) {
 pub fn pictures(alloc: Global, capacity: usize) -> Result<Pictures, OptionsFault> {
     let capacity = NonZeroUsize::new(capacity).unwrap_or(NonZeroUsize::MIN);
     GlyphMap::new(alloc, size2(64, 64), &DEFAULT_OPTIONS, capacity)
+}
+
+/// Such a map for a test, which fails where there is none.
+pub fn new_pictures(alloc: Global, capacity: usize) -> Result<Pictures, Fail> {
+    Ok(pictures(alloc, capacity)?)
 }
 
 pub fn name_of(alloc: Global, name: &str) -> Result<String, AllocError> {
@@ -47,6 +54,23 @@ pub fn place(
 ) -> Result<Told, AllocError> {
     let name = name_of(alloc, name)?;
     Ok(told(map.place(name, Picture { advance, page: 3 }, size2(side, side))))
+}
+
+/// Names with the advances and the sides that they are placed with, and what becomes of each.
+pub type Step<'a> = (&'a str, i32, i32, Told);
+
+/// Places names one after the other.
+pub fn place_all(
+    rt: &impl Abort,
+    map: &mut Pictures,
+    alloc: Global,
+    steps: &[Step<'_>],
+) -> Result<(), AllocError> {
+    for (name, advance, side, wanted) in steps {
+        let found = place(map, alloc, name, *advance, *side)?;
+        equal_at(rt, &found, wanted, name);
+    }
+    Ok(())
 }
 
 fn told(tried: Result<Placed<String, Picture>, Refused<String, Picture>>) -> Told {
@@ -154,6 +178,22 @@ pub fn order(map: &Pictures, alloc: Global) -> Result<Vec<i32>, AllocError> {
         advances.push(kept.advance)?;
     }
     Ok(advances)
+}
+
+/// The advances are these, those most recently used first.
+pub fn is_in_order(
+    rt: &impl Abort,
+    map: &Pictures,
+    alloc: Global,
+    wanted: &[i32],
+) -> Result<(), AllocError> {
+    equal(rt, &order(map, alloc)?.as_slice(), &wanted);
+    Ok(())
+}
+
+/// Uses a name.
+pub fn look_up(map: &mut Pictures, alloc: Global, name: &str) -> Result<i32, AllocError> {
+    Ok(get(map, &name_of(alloc, name)?))
 }
 
 /// A name with a picture of this advance.

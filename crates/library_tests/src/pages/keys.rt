@@ -55,9 +55,13 @@ fn compare(rt: &impl Abort, keys: &mut KeyedPlaces<AtlasAllocator>, cache: &mut 
 
 #[test]
 fn keys_of_one_atlas_go_as_those_of_a_cache(rt: HostRuntime) -> Result<(), Fail> {
-    let capacity = NonZeroUsize::new(3).ok_or("no capacity")?;
-    let mut keys = new_keys(rt.alloc(), capacity).ok_or("no keys")?;
-    let mut cache = new_cache(rt.alloc(), capacity).ok_or("no cache")?;
+    let capacity = NonZeroUsize::new(3).unwrap_or(NonZeroUsize::MIN);
+    let Some(mut keys) = new_keys(rt.alloc(), capacity) else {
+        return Err("no keys".into());
+    };
+    let Some(mut cache) = new_cache(rt.alloc(), capacity) else {
+        return Err("no cache".into());
+    };
     compare(&rt, &mut keys, &mut cache);
     Ok(())
 }

@@ -37,18 +37,25 @@ const BUCKETS: [Drawn<'static>; 3] = [
     ([10, 0, 6, 8], FREE),
 ];
 
-fn line_of(alloc: Global, [x, y, width, height]: [i32; 4], colour: &str) -> Result<String, Fail> {
+/// Adds the line of a rectangle.
+fn push_line(
+    lines: &mut String,
+    alloc: Global,
+    [x, y, width, height]: [i32; 4],
+    colour: &str,
+) -> Result<(), Fail> {
     let rectangle = format!(in alloc; "x=\"{x}\" y=\"{y}\" width=\"{width}\" height=\"{height}\"")?;
     let stroke = "stroke=\"rgb(0,0,0)\" stroke-width=\"1\"";
     let line = format!(in alloc; "    <rect {rectangle} fill=\"rgb({colour})\" {stroke}/>\n")?;
-    Ok(line)
+    lines.push_str(line.as_str())?;
+    Ok(())
 }
 
 /// The lines of a picture.
 fn lines_of(alloc: Global, rectangles: &[Drawn<'_>]) -> Result<String, Fail> {
     let mut lines = String::new(alloc);
     for (rectangle, colour) in rectangles {
-        lines.push_str(line_of(alloc, *rectangle, colour)?.as_str())?;
+        push_line(&mut lines, alloc, *rectangle, colour)?;
     }
     Ok(lines)
 }
@@ -98,6 +105,27 @@ fn is_text(
     Ok(())
 }
 
+/// A picture is the lines of these rectangles, between the first and the last line.
+fn is_drawn(
+    rt: &(impl AllocGlobal + Abort),
+    atlas: &impl Atlas,
+    (first, rectangles, last): (&str, &[Drawn<'_>], &str),
+) -> Result<(), Fail> {
+    let whole = whole_text(rt.alloc(), atlas, usize::MAX)?;
+    is_text(rt, &whole, first, rectangles, last)
+}
+
+/// A picture in a rectangle of a document, or of a whole one, is these lines.
+fn is_drawn_into(
+    rt: &(impl AllocGlobal + Abort),
+    atlas: &impl Atlas,
+    rectangle: Option<Rectangle>,
+    (first, rectangles, last): (&str, &[Drawn<'_>], &str),
+) -> Result<(), Fail> {
+    let part = part_of(rt.alloc(), atlas, rectangle)?;
+    is_text(rt, &part, first, rectangles, last)
+}
+
 /// What was written ends in the lines of these rectangles.
 fn ends(
     rt: &(impl AllocGlobal + Abort),
@@ -129,21 +157,24 @@ fn writes_nothing(
 
 #[test]
 fn a_document_shows_the_atlas_and_its_items(rt: HostRuntime) -> Result<(), Fail> {
-    let text = whole_text(rt.alloc(), &small_atlas(&rt)?, usize::MAX)?;
     let first =
         "<svg xmlns=\"http://www.w3.org/2000/svg\" width=\"20\" height=\"30\" viewBox=\"0 0 20 30\">\n";
-    is_text(&rt, &text, first, &SMALL, "</svg>\n")
+    is_drawn(&rt, &small_atlas(&rt)?, (first, &SMALL, "</svg>\n"))
 }
 
-#[test]
-fn sides_are_turned_for_vertical_shelves(rt: HostRuntime) -> Result<(), Fail> {
+/// The small atlas, turned.
+fn turned_atlas(rt: &impl AllocGlobal) -> Result<AtlasAllocator, Fail> {
     let options = AllocatorOptions {
         vertical_shelves: true,
         ..DEFAULT_OPTIONS
     };
     let mut atlas: AtlasAllocator = with_options(rt.alloc(), (30, 20), &options)?;
     placed(&mut atlas, (8, 6))?;
-    let text = whole_text(rt.alloc(), &atlas, usize::MAX)?;
+    Ok(atlas)
+}
+
+#[test]
+fn sides_are_turned_for_vertical_shelves(rt: HostRuntime) -> Result<(), Fail> {
     let first =
         "<svg xmlns=\"http://www.w3.org/2000/svg\" width=\"30\" height=\"20\" viewBox=\"0 0 30 20\">\n";
     let rectangles = [
@@ -152,18 +183,17 @@ fn sides_are_turned_for_vertical_shelves(rt: HostRuntime) -> Result<(), Fail> {
         ([0, 6, 8, 14], FREE),
         ([8, 0, 22, 20], FREE),
     ];
-    is_text(&rt, &text, first, &rectangles, "</svg>\n")
+    is_drawn(&rt, &turned_atlas(&rt)?, (first, &rectangles, "</svg>\n"))
 }
 
 #[test]
 fn an_atlas_stands_in_a_larger_document(rt: HostRuntime) -> Result<(), Fail> {
     let atlas = small_atlas(&rt)?;
-    let whole = part_of(rt.alloc(), &atlas, None)?;
-    is_text(&rt, &whole, "", &SMALL, "")?;
-    let part = part_of(rt.alloc(), &atlas, Some(rectangle((5, 6), (45, 66))))?;
+    is_drawn_into(&rt, &atlas, None, ("", &SMALL, ""))?;
+    let place = rectangle((5, 6), (45, 66));
     let first =
         "    <svg x=\"5\" y=\"6\" width=\"40\" height=\"60\" viewBox=\"0 0 20 30\" preserveAspectRatio=\"none\">\n";
-    is_text(&rt, &part, first, &SMALL, "    </svg>\n")
+    is_drawn_into(&rt, &atlas, Some(place), (first, &SMALL, "    </svg>\n"))
 }
 
 #[test]
@@ -243,10 +273,9 @@ fn a_beginning_of_buckets_is_written_before_a_fault(rt: HostRuntime) -> Result<(
 #[test]
 fn a_document_shows_the_parts_of_buckets(rt: HostRuntime) -> Result<(), Fail> {
     let atlas = small_buckets(rt.alloc(), false)?;
-    let text = whole_text(rt.alloc(), &atlas, usize::MAX)?;
-    let begin =
+    let first =
         "<svg xmlns=\"http://www.w3.org/2000/svg\" width=\"16\" height=\"16\" viewBox=\"0 0 16 16\">\n";
-    is_text(&rt, &text, begin, &BUCKETS, "</svg>\n")
+    is_drawn(&rt, &atlas, (first, &BUCKETS, "</svg>\n"))
 }
 
 #[test]
@@ -264,10 +293,10 @@ fn sides_of_buckets_are_turned_for_vertical_shelves(rt: HostRuntime) -> Result<(
 #[test]
 fn buckets_stand_in_a_larger_document(rt: HostRuntime) -> Result<(), Fail> {
     let atlas = small_buckets(rt.alloc(), false)?;
-    let part = part_of(rt.alloc(), &atlas, Some(rectangle((-2, 3), (5, 4))))?;
-    let begin =
+    let place = rectangle((-2, 3), (5, 4));
+    let first =
         "    <svg x=\"-2\" y=\"3\" width=\"7\" height=\"1\" viewBox=\"0 0 16 16\" preserveAspectRatio=\"none\">\n";
-    is_text(&rt, &part, begin, &BUCKETS, "    </svg>\n")?;
+    is_drawn_into(&rt, &atlas, Some(place), (first, &BUCKETS, "    </svg>\n"))?;
     writes_nothing(&rt, &atlas, rectangle((5, 3), (5, 4)))
 }
 
@@ -295,14 +324,18 @@ fn count_of_lines(text: &[u8]) -> usize {
     lines
 }
 
-#[test]
-fn a_line_is_written_for_each_of_65535_columns(rt: HostRuntime) -> Result<(), Fail> {
+/// An atlas with as many columns as there may be.
+fn many_columns(rt: &impl AllocGlobal) -> Result<AtlasAllocator, Fail> {
     let options = AllocatorOptions {
         num_columns: 65535,
         ..DEFAULT_OPTIONS
     };
-    let atlas: AtlasAllocator = with_options(rt.alloc(), (65535, 1), &options)?;
-    let text = whole_text(rt.alloc(), &atlas, usize::MAX)?;
+    with_options(rt.alloc(), (65535, 1), &options)
+}
+
+#[test]
+fn a_line_is_written_for_each_of_65535_columns(rt: HostRuntime) -> Result<(), Fail> {
+    let text = whole_text(rt.alloc(), &many_columns(&rt)?, usize::MAX)?;
     equal(&rt, &count_of_lines(text.written()), &65538);
     let begin =
         "<svg xmlns=\"http://www.w3.org/2000/svg\" width=\"65535\" height=\"1\" viewBox=\"0 0 65535 1\">\n";
