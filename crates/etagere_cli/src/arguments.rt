@@ -162,13 +162,26 @@ pub fn program<'a>(alloc: Global) -> Result<Command<'a>, AllocError> {
 }
 
 fn subcommand<'a>(alloc: Global, entry: &Entry) -> Result<Command<'a>, AllocError> {
-    let mut command = Command::new(alloc, entry.name)
-        .about(entry.about)
-        .after_help(entry.after);
+    let mut command = described(alloc, entry);
     for argument in entry.arguments {
-        command = command.arg(given(alloc, argument))?;
+        command = with_argument(alloc, command, argument)?;
     }
     Ok(command)
+}
+
+/// A subcommand without arguments.
+fn described<'a>(alloc: Global, entry: &Entry) -> Command<'a> {
+    Command::new(alloc, entry.name)
+        .about(entry.about)
+        .after_help(entry.after)
+}
+
+fn with_argument<'a>(
+    alloc: Global,
+    command: Command<'a>,
+    argument: &Argument,
+) -> Result<Command<'a>, AllocError> {
+    command.arg(given(alloc, argument))
 }
 
 fn given<'a>(alloc: Global, argument: &Argument) -> Arg<'a> {
@@ -184,13 +197,16 @@ fn given<'a>(alloc: Global, argument: &Argument) -> Arg<'a> {
 
 /// An argument that is given by its place.
 fn new_arg<'a>(alloc: Global, argument: &Argument) -> Arg<'a> {
-    let action = match argument.kind {
-        Kind::Flag => ArgAction::SetTrue,
-        _ => ArgAction::Set,
-    };
     Arg::new(alloc, argument.name)
         .help(argument.help)
-        .action(action)
+        .action(action_of(argument.kind))
+}
+
+fn action_of(kind: Kind) -> ArgAction {
+    match kind {
+        Kind::Flag => ArgAction::SetTrue,
+        _ => ArgAction::Set,
+    }
 }
 
 /// The argument, given by a name, with a value that is called this.

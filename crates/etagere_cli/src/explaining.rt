@@ -12,7 +12,7 @@ use tool_answers::ending::{Answer, Failure};
 use tool_answers::pieces::Piece::{Count, Words};
 use tool_answers::pieces::push_pieces;
 use tool_answers::places::{line_numbers, line_of_command};
-use tool_answers::reasons::{bucket_why, grow_why, push_largest, push_why, shelf_why};
+use tool_answers::reasons::{Why, bucket_why, grow_why, push_largest, push_why, shelf_why};
 use traffic::going_on::{Finding, Reason, Refused};
 use traffic::refusals::{explain_atlas, explain_buckets};
 
@@ -80,14 +80,23 @@ fn findings_text(
 
 /// Adds what is said of a refused command behind its line.
 fn push_refused(text: &mut String, refused: &Refused, is_vertical: bool) -> Result<(), AllocError> {
-    let why = match refused.reason {
+    match refused.reason {
         Reason::OfGrow(number) => {
             text.push_str("growth to ")?;
-            return push_why(text, grow_why(number), refused.asked, false);
+            push_why(text, grow_why(number), refused.asked, false)
         }
-        Reason::OfShelves(reason) => shelf_why(reason),
-        Reason::OfBuckets(reason) => bucket_why(reason),
-    };
+        Reason::OfShelves(reason) => push_reason(text, shelf_why(reason), refused, is_vertical),
+        Reason::OfBuckets(reason) => push_reason(text, bucket_why(reason), refused, is_vertical),
+    }
+}
+
+/// Adds why a size was given no place, and which is the largest that would be.
+fn push_reason(
+    text: &mut String,
+    why: Why,
+    refused: &Refused,
+    is_vertical: bool,
+) -> Result<(), AllocError> {
     push_why(text, why, refused.asked, is_vertical)?;
     push_largest(text, refused.largest_free)
 }
@@ -132,15 +141,21 @@ fn broken_text(alloc: Global, text: &[u8], fault: RestoreFault) -> Result<String
 }
 
 fn push_breach(text: &mut String, breach: Breach) -> Result<(), AllocError> {
-    let (name, number) = match breach.record {
-        Record::Field(name) => (name, None),
-        Record::Shelf(number) => ("shelf ", Some(number)),
-        Record::Item(number) => ("item ", Some(number)),
-        Record::Bucket(number) => ("bucket ", Some(number)),
-    };
-    push_pieces(text, &[Words("; at "), Words(name)])?;
-    if let Some(number) = number {
-        push_pieces(text, &[Count(number as u128)])?;
-    }
+    text.push_str("; at ")?;
+    push_record(text, breach.record)?;
     push_pieces(text, &[Words(": "), Words(breach.what)])
+}
+
+/// Adds the name of a record.
+fn push_record(text: &mut String, record: Record) -> Result<(), AllocError> {
+    match record {
+        Record::Field(name) => text.push_str(name),
+        Record::Shelf(number) => push_numbered(text, "shelf ", number as u128),
+        Record::Item(number) => push_numbered(text, "item ", number as u128),
+        Record::Bucket(number) => push_numbered(text, "bucket ", number as u128),
+    }
+}
+
+fn push_numbered(text: &mut String, name: &str, number: u128) -> Result<(), AllocError> {
+    push_pieces(text, &[Words(name), Count(number)])
 }

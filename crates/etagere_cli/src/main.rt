@@ -86,17 +86,27 @@ fn run(
 
 /// Prints help, or what is wrong with the arguments.
 fn unparsed(rt: &(impl Print + Eprint), error: &Error) -> Result<ExitCode, Failure> {
-    if matches!(error.kind(), ErrorKind::OutOfMemory) {
+    if had_no_memory(error) {
         return Err(Failure::Fault(ReplayFault::Memory));
     }
-    let printed = error.print(rt);
+    let is_printed = print(rt, error);
     if error.use_stderr() {
-        return Ok(ExitCode::from(2));
+        Ok(ExitCode::from(2))
+    } else if is_printed {
+        Ok(ExitCode::SUCCESS)
+    } else {
+        Err(Failure::Fault(ReplayFault::Write))
     }
-    match printed {
-        Ok(()) => Ok(ExitCode::SUCCESS),
-        Err(_) => Err(Failure::Fault(ReplayFault::Write)),
-    }
+}
+
+/// Whether there was no memory for reading the arguments.
+fn had_no_memory(error: &Error) -> bool {
+    matches!(error.kind(), ErrorKind::OutOfMemory)
+}
+
+/// Whether an error, or help, was printed.
+fn print(rt: &(impl Print + Eprint), error: &Error) -> bool {
+    error.print(rt).is_ok()
 }
 
 /// What the subcommand answers.

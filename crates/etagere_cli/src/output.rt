@@ -72,11 +72,14 @@ fn replace(rt: &impl Files, path: &str, beside: &str, bytes: &[u8]) -> io::Resul
 /// killed, and goes.
 fn write_new(rt: &impl Files, path: &str, bytes: &[u8]) -> io::Result<()> {
     let made = match File::create_new(rt, path) {
-        Err(why) if why.kind() == io::ErrorKind::AlreadyExists => {
-            fs::remove_file(rt, path)?;
-            File::create_new(rt, path)
-        }
+        Err(why) if why.kind() == io::ErrorKind::AlreadyExists => make_anew(rt, path),
         made => made,
     };
     made?.write_all(bytes)
+}
+
+/// A new file in the place of one that was left.
+fn make_anew<F: Files>(rt: &F, path: &str) -> io::Result<F::File> {
+    fs::remove_file(rt, path)?;
+    File::create_new(rt, path)
 }

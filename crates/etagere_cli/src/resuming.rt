@@ -52,27 +52,36 @@ fn resumed_bytes(
 
 fn push_live(text: &mut String, live: &[Allocation]) -> Result<(), AllocError> {
     for (position, allocation) in live.iter().enumerate() {
-        let (min, max) = (allocation.rectangle.min, allocation.rectangle.max);
-        push_pieces(
-            text,
-            &[
-                Words("live "),
-                Count(position as u128),
-                Words(" "),
-                Count(u128::from(allocation.id.serialize())),
-                Words(" "),
-                Number(min.x),
-                Words(" "),
-                Number(min.y),
-                Words(" "),
-                Number(max.x),
-                Words(" "),
-                Number(max.y),
-                Words("\n"),
-            ],
-        )?;
+        push_allocation(text, position as u128, allocation)?;
     }
     Ok(())
+}
+
+/// Adds the line of what is live at a position.
+fn push_allocation(
+    text: &mut String,
+    position: u128,
+    allocation: &Allocation,
+) -> Result<(), AllocError> {
+    let (min, max) = (allocation.rectangle.min, allocation.rectangle.max);
+    push_pieces(
+        text,
+        &[
+            Words("live "),
+            Count(position),
+            Words(" "),
+            Count(u128::from(allocation.id.serialize())),
+            Words(" "),
+            Number(min.x),
+            Words(" "),
+            Number(min.y),
+            Words(" "),
+            Number(max.x),
+            Words(" "),
+            Number(max.y),
+            Words("\n"),
+        ],
+    )
 }
 
 fn push_replies(bytes: &mut Vec<u8>, replies: &[Reply]) -> Result<(), AllocError> {

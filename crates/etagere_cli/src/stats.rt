@@ -3,6 +3,7 @@
 use crate::counting::{json_text, plain_text, report_of_saved, report_of_script};
 use crate::input::snapshot_text;
 use clap::ArgMatches;
+use run_scripts::script::Script;
 use saved_json::read_saved;
 use std::alloc::Global;
 use tool_answers::bad_lines::script_in;
@@ -24,7 +25,11 @@ fn plot(alloc: Global, input: &[u8]) -> Result<String, Failure> {
         return Err(Failure::Misused("a script is expected: a snapshot has no commands to plot"));
     }
     let script = script_in(alloc, input)?;
-    let moments = series_of(alloc, &script)?;
+    plot_of(alloc, &script)
+}
+
+fn plot_of(alloc: Global, script: &Script) -> Result<String, Failure> {
+    let moments = series_of(alloc, script)?;
     Ok(plot_text(alloc, moments.as_slice())?)
 }
 

@@ -45,13 +45,19 @@ fn shelf_heights(alloc: Global, snapshot: &AtlasSnapshot) -> Result<Vec<u16>, Al
     let mut heights = Vec::new(alloc);
     let mut number = snapshot.first_shelf;
     for _ in 0..snapshot.shelves.len() {
-        let Some(shelf) = snapshot.shelves.get(usize::from(number)) else {
+        let Some((height, next)) = shelf_of(snapshot, number) else {
             break;
         };
-        heights.push(shelf.height)?;
-        number = shelf.next;
+        heights.push(height)?;
+        number = next;
     }
     Ok(heights)
+}
+
+/// How tall the shelf of a number is, and which is the next.
+fn shelf_of(snapshot: &AtlasSnapshot, number: u16) -> Option<(u16, u16)> {
+    let shelf = snapshot.shelves.get(usize::from(number))?;
+    Some((shelf.height, shelf.next))
 }
 
 fn bucket_heights(alloc: Global, snapshot: &BucketedSnapshot) -> Result<Vec<u16>, AllocError> {

@@ -11,12 +11,10 @@ pub fn saved_of(alloc: Global, script: &Script) -> Result<Saved, RunFault> {
     let (size, options) = (script.size, &script.options);
     match &script.commands {
         Commands::OfShelves(commands) => {
-            let snapshot = save_atlas(alloc, size, options, commands.as_slice())?;
-            Ok(Saved::Atlas(snapshot))
+            save_atlas(alloc, size, options, commands.as_slice()).map(Saved::Atlas)
         }
         Commands::OfBuckets(commands) => {
-            let snapshot = save_buckets(alloc, size, options, commands.as_slice())?;
-            Ok(Saved::Bucketed(snapshot))
+            save_buckets(alloc, size, options, commands.as_slice()).map(Saved::Bucketed)
         }
     }
 }

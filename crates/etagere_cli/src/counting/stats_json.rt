@@ -22,18 +22,22 @@ pub fn json_text(alloc: Global, report: &Report) -> Result<String, AllocError> {
 /// Adds counts with their names.
 fn push_counts(text: &mut String, counts: &[(&str, u128)]) -> Result<(), AllocError> {
     for (name, count) in counts {
-        push_pieces(
-            text,
-            &[
-                Words("\""),
-                Words(name),
-                Words("\":"),
-                Count(*count),
-                Words(","),
-            ],
-        )?;
+        push_count(text, name, *count)?;
     }
     Ok(())
+}
+
+fn push_count(text: &mut String, name: &str, count: u128) -> Result<(), AllocError> {
+    push_pieces(
+        text,
+        &[
+            Words("\""),
+            Words(name),
+            Words("\":"),
+            Count(count),
+            Words(","),
+        ],
+    )
 }
 
 fn push_asked(text: &mut String, asked: &Asked) -> Result<(), AllocError> {

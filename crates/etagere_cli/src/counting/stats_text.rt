@@ -1,5 +1,6 @@
 //! What is told, as text for people.
 
+use crate::counting::heights::SameHeight;
 use crate::counting::report::{Asked, Fullness, Report};
 use std::alloc::{AllocError, Global};
 use tool_answers::pieces::Piece::{Count, Words};
@@ -113,18 +114,22 @@ fn push_shelves(text: &mut String, report: &Report) -> Result<(), AllocError> {
         ],
     )?;
     for same in report.heights.as_slice() {
-        push_pieces(
-            text,
-            &[
-                Words("  "),
-                Count(u128::from(same.height)),
-                Words(" tall: "),
-                Count(same.shelves as u128),
-                Words("\n"),
-            ],
-        )?;
+        push_height(text, *same)?;
     }
     Ok(())
+}
+
+fn push_height(text: &mut String, same: SameHeight) -> Result<(), AllocError> {
+    push_pieces(
+        text,
+        &[
+            Words("  "),
+            Count(u128::from(same.height)),
+            Words(" tall: "),
+            Count(same.shelves as u128),
+            Words("\n"),
+        ],
+    )
 }
 
 fn push_free(text: &mut String, fullness: &Fullness) -> Result<(), AllocError> {
