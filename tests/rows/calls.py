@@ -11,7 +11,8 @@ NOT_DONE = {NOT_MADE, "no such call", "nothing was made", "no memory"}
 ATLASES = ("atlas", "bucketed")
 KINDS = (*ATLASES, "cache", "pages", "padded", "padded_cache", "paged_cache")
 # What the program writes in more than a line, up to one that ends it.
-LISTS = ("picture", "iter", "moved")
+LISTS = ("picture", "part", "iter", "moved")
+PICTURES = ("picture", "part")
 # How the one line begins in place of a list.
 IN_PLACE = ("fault ", "no memory", "no such call", "nothing was made")
 # What stands in rows for numbers.
@@ -24,16 +25,25 @@ class Otherwise(Exception):
     """Which row is answered otherwise."""
 
 
+def next_line(picture):
+    """The next line of a picture in quotes, or what stands in its place, and the rest."""
+    line, end, rest = picture.partition("\n")
+    if not end:
+        return "no line end" if line else "nothing", picture
+    return f'"{line}"', rest
+
+
 def asked(words):
     """The words that make something, as numbers."""
     return " ".join(NAMED.get(word, word) for word in words.split(" "))
 
 
 class Stage:
-    """What the rows of a test have made so far: the first one, and maybe another, which get the same calls."""
+    """What the rows of a test have made so far: the first one, and maybe another, which get the same calls; and the
+    lines of what was drawn last that were not shown yet."""
 
     def __init__(self, program, kind):
-        self.kind, self.given, self.saved, self.has_other = kind, [], "", False
+        self.kind, self.given, self.saved, self.picture, self.has_other = kind, [], "", "", False
         pipes = {"stdin": subprocess.PIPE, "stdout": subprocess.PIPE, "text": True, "bufsize": 1}
         self.running = subprocess.Popen([program, kind], **pipes)
 
@@ -106,7 +116,12 @@ class Stage:
             return self.answer_of(0, words)
         if word == "other":
             return self.of_other(words)
+        if word == "next":
+            answer, self.picture = next_line(self.picture)
+            return answer
         answer = self.of_both(call)
+        if word in PICTURES:
+            self.picture = "" if answer == "end" else answer + "\n"
         if word not in LISTS and " id " in answer:
             page = answer.split(" ")[1] + " " if answer.startswith("page ") else ""
             self.given.append(page + answer.rpartition(" id ")[2])

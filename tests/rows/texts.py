@@ -3,7 +3,7 @@
 import re
 import subprocess
 
-from calls import Otherwise, Stage
+from calls import Otherwise, Stage, next_line
 
 ESCAPES = {"n": b"\n", "t": b"\t", "r": b"\r", '"': b'"'}
 # What a program says of a drawing that has been made.
@@ -117,11 +117,15 @@ class Texts:
 
     def do_next(self, _):
         """The next line of the picture, with its line end, in quotes."""
-        line, end, rest = self.picture.partition(b"\n")
-        if not end:
-            return "no line end" if line else "nothing"
-        self.picture = rest
-        return f'"{line.decode()}"'
+        answer, rest = next_line(self.picture.decode())
+        self.picture = rest.encode()
+        return answer
+
+    def do_skip(self, count):
+        """Passes over as many lines of the picture."""
+        lines = self.picture.splitlines(keepends=True)
+        self.picture = b"".join(lines[int(count) :])
+        return "skipped" if len(lines) >= int(count) else f"{len(lines)} lines are left"
 
 
 def judge(programs, test):

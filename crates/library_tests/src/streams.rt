@@ -6,5 +6,7 @@ mod checks;
 mod drawings;
 mod dumps;
 mod fake_streams;
+mod filtered;
+mod filters;
 mod replays;
 mod streaming;

@@ -1,14 +1,16 @@
 //! Calls of several pages with a padding.
 
 use crate::pages::{
-    copy_of, options_of, page_and_id_of, say_answer, say_place, say_spaces, spaces,
+    command_of, copy_of, options_of, page_and_id_of, say_place, say_reply, say_spaces, spaces,
 };
-use atlas_pages::{AtlasPages, PaddedPages, PageOptions, PagedAllocation, PagesFault};
-use etagere::{AllocId, Rectangle, Size, UnknownId};
+use atlas_pages::{AtlasPages, PaddedPages, PageOptions, PagesFault};
+use etagere::{AllocId, Rectangle};
 use padding::Padding;
-use row_calls::lines::{numbers, say, say_if, say_number, say_rectangle, size_of};
+use page_runs::padded::answer_on_padded_pages;
+use page_runs::{PageCommand, PageReply};
+use row_calls::lines::{numbers, say, say_rectangle};
 use row_calls::places::{Called, NotMade};
-use std::alloc::{AllocError, Global};
+use std::alloc::Global;
 use std::io;
 
 /// Padded pages that are called by lines.
@@ -39,13 +41,13 @@ impl Called for CalledPaddedPages {
     ) -> io::Result<()> {
         let pages = &mut self.0;
         match call {
-            "allocate" => say_answer(rt, &asked(pages, size_of(words))),
-            "deallocate" => give_back(pages, rt, words),
             "get" => say_rectangle(rt, rectangle_of(pages, page_and_id_of(words))),
             "iter" => list(pages, rt),
-            "shrink" => say_number(rt, shrunk(pages)),
             "spaces" => say_spaces(rt, spaces(pages.pages())),
-            _ => say(rt, "no such call"),
+            _ => match command_of(call, words) {
+                Some(command) => say_reply(rt, &answered(pages, command)),
+                None => say(rt, "no such call"),
+            },
         }
     }
 }
@@ -66,11 +68,6 @@ fn list(pages: &PaddedPages, rt: &impl Print) -> io::Result<()> {
     say(rt, "end")
 }
 
-fn give_back(pages: &mut PaddedPages, rt: &impl Print, words: &str) -> io::Result<()> {
-    let is_known = returned(pages, page_and_id_of(words)).is_ok();
-    say_if(rt, is_known, "returned", "unknown")
-}
-
 // What these calls promise ends in functions that promise nothing, so that it isn't gone through in what uses them.
 
 fn new_pages(
@@ -85,18 +82,10 @@ fn with_padding(pages: AtlasPages, padding: Padding) -> PaddedPages {
     PaddedPages::from_pages(pages, padding)
 }
 
-fn asked(pages: &mut PaddedPages, size: Size) -> Result<Option<PagedAllocation>, AllocError> {
-    pages.allocate(size)
-}
-
 fn rectangle_of(pages: &PaddedPages, (page, id): (u32, AllocId)) -> Option<Rectangle> {
     pages.get(page, id)
 }
 
-fn returned(pages: &mut PaddedPages, (page, id): (u32, AllocId)) -> Result<(), UnknownId> {
-    pages.deallocate(page, id)
-}
-
-fn shrunk(pages: &mut PaddedPages) -> u64 {
-    u64::from(pages.shrink())
+fn answered(pages: &mut PaddedPages, command: PageCommand) -> PageReply {
+    answer_on_padded_pages(pages, command)
 }

@@ -2,7 +2,8 @@
 
 use crate::pages::options_of;
 use atlas_pages::{PageOptions, PagedAllocation};
-use etagere::Size;
+use cache_runs::paged::answer_on_cache;
+use cache_runs::{PagedCall, PagedReply};
 use paged_cache::{NewCacheFault, PagedCache, PlacedKey, PlacingFault};
 use row_calls::lines::{
     key_of, numbers, say, say_bracketed, say_evicted, say_fault, say_number, size_of,
@@ -36,16 +37,15 @@ impl Called for CalledPagedCache {
     ) -> io::Result<()> {
         let cache = &mut self.0;
         match call {
-            "place" => place(cache, rt, words),
-            "get" => say_place(rt, look(cache, key_of(words))),
             "peek" => say_place(rt, peek(cache, key_of(words))),
-            "remove" => say_place(rt, remove(cache, key_of(words))),
             "iter" => list(cache, rt),
-            "clear" => clear(cache, rt),
             "len" => say_number(rt, len(cache)),
             "capacity" => say_number(rt, capacity(cache)),
             "open" => say_number(rt, open(cache)),
-            _ => say(rt, "no such call"),
+            _ => match call_of(call, words) {
+                Some(call) => say_reply(rt, &answered(cache, call)),
+                None => say(rt, "no such call"),
+            },
         }
     }
 }
@@ -57,21 +57,44 @@ fn of_new_cache(fault: NewCacheFault) -> NotMade {
     }
 }
 
-/// Places a key, whose number stands before its sides.
-fn place(cache: &mut PagedCache, rt: &impl Print, words: &str) -> io::Result<()> {
-    let (key, sides) = words.split_once(' ').unwrap_or((words, ""));
-    match placed(cache, key_of(key), size_of(sides)) {
-        Ok(PlacedKey { place, evicted }) => {
-            print!(rt; "page {} placed ", place.page)?;
-            say_bracketed(rt, &place.allocation.rectangle)?;
-            say_evicted(rt, &evicted)
-        }
-        Err(PlacingFault::Memory(evicted)) => {
-            rt.print("no memory")?;
-            say_evicted(rt, &evicted)
-        }
-        Err(fault) => say_fault(rt, fault.number()),
+/// The call that changes a cache, by its words, if it is one.
+fn call_of(call: &str, words: &str) -> Option<PagedCall> {
+    match call {
+        "place" => Some(placement_of(words)),
+        "get" => Some(PagedCall::Get(key_of(words))),
+        "remove" => Some(PagedCall::Remove(key_of(words))),
+        "clear" => Some(PagedCall::Clear),
+        _ => None,
     }
+}
+
+/// A key, whose number stands before its sides.
+fn placement_of(words: &str) -> PagedCall {
+    let (key, sides) = words.split_once(' ').unwrap_or((words, ""));
+    PagedCall::Place(key_of(key), size_of(sides))
+}
+
+/// Writes what a call answers.
+fn say_reply(rt: &impl Print, reply: &PagedReply) -> io::Result<()> {
+    match reply {
+        PagedReply::Placed(placed) => say_entered(rt, placed),
+        PagedReply::TooLarge => say_fault(rt, PlacingFault::TooLarge.number()),
+        PagedReply::NoMemory(evicted) => say_unentered(rt, evicted),
+        PagedReply::At(place) | PagedReply::Removed(place) => say_place(rt, Some(*place)),
+        PagedReply::NotThere => say_place(rt, None),
+        PagedReply::Cleared => say(rt, "cleared"),
+    }
+}
+
+fn say_entered(rt: &impl Print, placed: &PlacedKey<PagedAllocation>) -> io::Result<()> {
+    print!(rt; "page {} placed ", placed.place.page)?;
+    say_bracketed(rt, &placed.place.allocation.rectangle)?;
+    say_evicted(rt, &placed.evicted)
+}
+
+fn say_unentered(rt: &impl Print, evicted: &[u64]) -> io::Result<()> {
+    rt.print("no memory")?;
+    say_evicted(rt, evicted)
 }
 
 /// Writes the page and the corners of a place, or that there is none.
@@ -103,29 +126,12 @@ fn new_cache(
     PagedCache::new(alloc, options, capacity)
 }
 
-fn placed(
-    cache: &mut PagedCache,
-    key: u64,
-    size: Size,
-) -> Result<PlacedKey<PagedAllocation>, PlacingFault> {
-    cache.place(key, size)
-}
-
-fn look(cache: &mut PagedCache, key: u64) -> Option<PagedAllocation> {
-    cache.get(key)
+fn answered(cache: &mut PagedCache, call: PagedCall) -> PagedReply {
+    answer_on_cache(cache, call)
 }
 
 fn peek(cache: &PagedCache, key: u64) -> Option<PagedAllocation> {
     cache.peek(key)
-}
-
-fn remove(cache: &mut PagedCache, key: u64) -> Option<PagedAllocation> {
-    cache.remove(key)
-}
-
-fn clear(cache: &mut PagedCache, rt: &impl Print) -> io::Result<()> {
-    cache.clear();
-    say(rt, "cleared")
 }
 
 fn len(cache: &PagedCache) -> u64 {

@@ -2,10 +2,11 @@
 
 use atlas_pages::laws::saved_and_restored;
 use atlas_pages::{
-    AtlasPages, FewerPages, PageChoice, PageOptions, PagedAllocation, PagesFault, PagesRestoreFault,
+    AtlasPages, PageChoice, PageOptions, PagedAllocation, PagesFault, PagesRestoreFault,
 };
-use etagere::{AllocId, AllocatorOptions, DEFAULT_OPTIONS, Rectangle, Size, UnknownId, size2};
+use etagere::{AllocId, AllocatorOptions, DEFAULT_OPTIONS, Rectangle, size2};
 use page_moves::{PageMove, RearrangedPages, rearranged_pages};
+use page_runs::{PageCommand, PageReply, answer_on_pages};
 use row_calls::lines::{numbers, say, say_given, say_if, say_number, say_rectangle, size_of};
 use row_calls::places::{Called, NotMade};
 use std::alloc::{AllocError, Global};
@@ -38,20 +39,50 @@ impl Called for CalledPages {
     ) -> io::Result<()> {
         let pages = &mut self.0;
         match call {
-            "allocate" => say_answer(rt, &asked(pages, size_of(words))),
-            "deallocate" => give_back(pages, rt, words),
             "get" => say_rectangle(rt, rectangle_of(pages, words)),
             "iter" => list(pages, rt),
             "picture" => draw(pages, rt),
             "moved" => say_moved(rt, &moved(rt.alloc(), pages)),
-            "grow" => grow(pages, rt, words),
-            "clear" => clear(pages, rt),
-            "shrink" => say_number(rt, shrunk(pages)),
             "open" => say_number(rt, open(pages)),
             "empty" => say_if(rt, is_empty(pages), "yes", "no"),
             "spaces" => say_spaces(rt, spaces(pages)),
-            _ => say(rt, "no such call"),
+            _ => match command_of(call, words) {
+                Some(command) => say_reply(rt, &answered(pages, command)),
+                None => say(rt, "no such call"),
+            },
         }
+    }
+}
+
+/// The command that changes pages, by its words, if it is one.
+pub fn command_of(call: &str, words: &str) -> Option<PageCommand> {
+    match call {
+        "allocate" => Some(PageCommand::Allocate(size_of(words))),
+        "deallocate" => Some(deallocation_of(words)),
+        "clear" => Some(PageCommand::Clear),
+        "grow" => Some(PageCommand::Grow(words.parse().unwrap_or(0))),
+        "shrink" => Some(PageCommand::Shrink),
+        _ => None,
+    }
+}
+
+fn deallocation_of(words: &str) -> PageCommand {
+    let (page, id) = page_and_id_of(words);
+    PageCommand::Deallocate(page, id)
+}
+
+/// Writes what a command answers.
+pub fn say_reply(rt: &impl Print, reply: &PageReply) -> io::Result<()> {
+    match reply {
+        PageReply::Placed(place) => say_place(rt, "placed", place),
+        PageReply::Refused => say(rt, "refused"),
+        PageReply::NoMemory => say(rt, "no memory"),
+        PageReply::Returned => say(rt, "returned"),
+        PageReply::Unknown => say(rt, "unknown"),
+        PageReply::Cleared => say(rt, "cleared"),
+        PageReply::Grown => say(rt, "grown"),
+        PageReply::Fewer => say(rt, "fewer pages"),
+        PageReply::Closed(count) => say_number(rt, u64::from(*count)),
     }
 }
 
@@ -80,18 +111,6 @@ pub fn page_and_id_of(words: &str) -> (u32, AllocId) {
         page.parse().unwrap_or(0),
         AllocId::deserialize(id.parse().unwrap_or(0)),
     )
-}
-
-/// Writes what an allocation answers.
-pub fn say_answer(
-    rt: &impl Print,
-    answer: &Result<Option<PagedAllocation>, AllocError>,
-) -> io::Result<()> {
-    match answer {
-        Ok(Some(place)) => say_place(rt, "placed", place),
-        Ok(None) => say(rt, "refused"),
-        Err(_) => say(rt, "no memory"),
-    }
 }
 
 /// Writes the page, the corners and the id of a place.
@@ -129,16 +148,6 @@ fn say_moved(rt: &impl Print, moved: &Result<RearrangedPages, AllocError>) -> io
     say(rt, "end")
 }
 
-fn give_back(pages: &mut AtlasPages, rt: &impl Print, words: &str) -> io::Result<()> {
-    let is_known = returned(pages, page_and_id_of(words)).is_ok();
-    say_if(rt, is_known, "returned", "unknown")
-}
-
-fn grow(pages: &mut AtlasPages, rt: &impl Print, word: &str) -> io::Result<()> {
-    let is_grown = grown(pages, word.parse().unwrap_or(0)).is_ok();
-    say_if(rt, is_grown, "grown", "fewer pages")
-}
-
 /// Writes what is allocated and what is free.
 pub fn say_spaces(rt: &impl Print, (allocated, free): (u64, u64)) -> io::Result<()> {
     println!(rt; "{allocated} {free}")
@@ -158,30 +167,13 @@ fn moved(alloc: Global, pages: &AtlasPages) -> Result<RearrangedPages, AllocErro
     rearranged_pages(alloc, pages)
 }
 
-fn asked(pages: &mut AtlasPages, size: Size) -> Result<Option<PagedAllocation>, AllocError> {
-    pages.allocate(size)
-}
-
-fn returned(pages: &mut AtlasPages, (page, id): (u32, AllocId)) -> Result<(), UnknownId> {
-    pages.deallocate(page, id)
-}
-
 fn rectangle_of(pages: &AtlasPages, words: &str) -> Option<Rectangle> {
     let (page, id) = page_and_id_of(words);
     pages.get(page, id)
 }
 
-fn grown(pages: &mut AtlasPages, most_pages: u32) -> Result<(), FewerPages> {
-    pages.grow(most_pages)
-}
-
-fn clear(pages: &mut AtlasPages, rt: &impl Print) -> io::Result<()> {
-    pages.clear();
-    say(rt, "cleared")
-}
-
-fn shrunk(pages: &mut AtlasPages) -> u64 {
-    u64::from(pages.shrink())
+fn answered(pages: &mut AtlasPages, command: PageCommand) -> PageReply {
+    answer_on_pages(pages, command)
 }
 
 fn open(pages: &AtlasPages) -> u64 {

@@ -1,6 +1,6 @@
 //! The calls that atlases of both kinds have.
 
-use crate::lines::{asked, id_of, say, say_fault, say_if, say_placed, size_of};
+use crate::lines::{asked, id_of, rectangle_of, say, say_fault, say_if, say_placed, size_of};
 use crate::places::NotMade;
 use etagere::{OptionsFault, RestoreFault, Size};
 use std::alloc::Global;
@@ -51,6 +51,7 @@ pub fn answer<A: Atlas>(atlas: &mut A, rt: &impl Print, call: &str, words: &str)
         "grow" => grow(atlas, rt, size_of(words)),
         "clear" => clear(atlas, rt),
         "picture" => draw(atlas, rt),
+        "part" => draw_part(atlas, rt, words),
         "counts" => say_counts(rt, atlas),
         _ => say(rt, "no such call"),
     }
@@ -77,6 +78,14 @@ fn clear<A: Atlas>(atlas: &mut A, rt: &impl Print) -> io::Result<()> {
 /// Writes the picture, and a line that ends it.
 fn draw<A: Atlas>(atlas: &A, rt: &impl Print) -> io::Result<()> {
     atlas.draw(&mut io::writer(rt))?;
+    say(rt, "end")
+}
+
+/// Writes what a document has of the picture in the rectangle of these corners, or, without words, all of it, and a line
+/// that ends it.
+fn draw_part<A: Atlas>(atlas: &A, rt: &impl Print, words: &str) -> io::Result<()> {
+    let rectangle = (!words.is_empty()).then_some(rectangle_of(words));
+    atlas.draw_into(rectangle.as_ref(), &mut io::writer(rt))?;
     say(rt, "end")
 }
 

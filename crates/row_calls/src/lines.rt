@@ -1,6 +1,6 @@
 //! Words of lines as values, and answers as lines.
 
-use etagere::{AllocId, Allocation, AllocatorOptions, Rectangle, Size, size2};
+use etagere::{AllocId, Allocation, AllocatorOptions, Rectangle, Size, point2, size2};
 use std::alloc::AllocError;
 use std::io;
 
@@ -16,6 +16,15 @@ pub fn numbers(words: &str) -> [i32; 6] {
 pub fn size_of(words: &str) -> Size {
     let [width, height, ..] = numbers(words);
     size2(width, height)
+}
+
+/// A rectangle by the corner where it begins and the one past its last.
+pub fn rectangle_of(words: &str) -> Rectangle {
+    let [x0, y0, x1, y1, ..] = numbers(words);
+    Rectangle {
+        min: point2(x0, y0),
+        max: point2(x1, y1),
+    }
 }
 
 pub fn key_of(word: &str) -> u64 {

@@ -99,7 +99,7 @@ fn place(cache: &mut GlyphCache, rt: &impl Print, words: &str) -> io::Result<()>
 }
 
 /// Writes what a key that is placed answers.
-pub fn say_placed(rt: &impl Print, answer: &Result<Placed, GlyphFault>) -> io::Result<()> {
+fn say_placed(rt: &impl Print, answer: &Result<Placed, GlyphFault>) -> io::Result<()> {
     match answer {
         Ok(placed) => say_entered(rt, placed),
         Err(GlyphFault::Memory(evicted)) => say_unentered(rt, evicted),
@@ -107,13 +107,15 @@ pub fn say_placed(rt: &impl Print, answer: &Result<Placed, GlyphFault>) -> io::R
     }
 }
 
-fn say_entered(rt: &impl Print, placed: &Placed) -> io::Result<()> {
+/// Writes where a key was placed, and which were evicted.
+pub fn say_entered(rt: &impl Print, placed: &Placed) -> io::Result<()> {
     rt.print("placed ")?;
     say_bracketed(rt, &placed.rectangle)?;
     say_evicted(rt, &placed.evicted)
 }
 
-fn say_unentered(rt: &impl Print, evicted: &[u64]) -> io::Result<()> {
+/// Writes that there was no memory, and which keys were evicted.
+pub fn say_unentered(rt: &impl Print, evicted: &[u64]) -> io::Result<()> {
     rt.print("no memory")?;
     say_evicted(rt, evicted)
 }

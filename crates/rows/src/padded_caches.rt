@@ -1,10 +1,10 @@
 //! Calls of a cache of glyphs with a padding.
 
-use crate::caches::say_placed;
-use etagere::{
-    AllocatorOptions, AtlasGrowFault, DEFAULT_OPTIONS, OptionsFault, Rectangle, Size, size2,
-};
-use glyph_shelf::{GlyphFault, Placed};
+use crate::caches::{say_entered, say_unentered};
+use cache_runs::padded::answer_on_padded_cache;
+use cache_runs::{PaddedCall, PaddedReply};
+use etagere::{AllocatorOptions, DEFAULT_OPTIONS, OptionsFault, Rectangle, Size, size2};
+use glyph_shelf::GlyphFault;
 use padded_cache::PaddedCache;
 use padding::Padding;
 use row_calls::atlases::of_options;
@@ -12,7 +12,7 @@ use row_calls::lines::{
     key_of, numbers, say, say_evicted, say_fault, say_number, say_rectangle, size_of,
 };
 use row_calls::places::{Called, NotMade};
-use std::alloc::{AllocError, Global};
+use std::alloc::Global;
 use std::io;
 use std::num::NonZeroUsize;
 
@@ -45,42 +45,66 @@ impl Called for CalledPaddedCache {
     ) -> io::Result<()> {
         let cache = &mut self.0;
         match call {
-            "place" => place(cache, rt, words),
-            "get" => say_rectangle(rt, look(cache, key_of(words))),
             "peek" => say_rectangle(rt, peek(cache, key_of(words))),
-            "remove" => say_rectangle(rt, remove(cache, key_of(words))),
             "retain" => retain(cache, rt, words),
-            _ => answer_of_all(cache, rt, call, words),
+            "iter" => list(cache, rt),
+            "len" => say_number(rt, len(cache)),
+            _ => match call_of(call, words) {
+                Some(call) => say_reply(rt, &answered(cache, call)),
+                None => say(rt, "no such call"),
+            },
         }
     }
 }
 
-/// The calls that name no key.
-fn answer_of_all(
-    cache: &mut PaddedCache,
-    rt: &impl Print,
-    call: &str,
-    words: &str,
-) -> io::Result<()> {
+/// The call that changes a cache, by its words, if it is one.
+fn call_of(call: &str, words: &str) -> Option<PaddedCall> {
     match call {
-        "iter" => list(cache, rt),
-        "frame" => begin_frame(cache, rt),
-        "clear" => clear(cache, rt),
-        "grow" => grow(cache, rt, words),
-        "keep" => keep(cache, rt, words),
-        "len" => say_number(rt, len(cache)),
-        _ => say(rt, "no such call"),
+        "place" => Some(placement_of(words)),
+        "get" => Some(PaddedCall::Get(key_of(words))),
+        "remove" => Some(PaddedCall::Remove(key_of(words))),
+        "frame" => Some(PaddedCall::BeginFrame),
+        "clear" => Some(PaddedCall::Clear),
+        "grow" => Some(PaddedCall::Grow(size_of(words))),
+        "keep" => Some(PaddedCall::SetCapacity(most_of(words))),
+        _ => None,
     }
+}
+
+/// A key, whose number stands before its sides.
+fn placement_of(words: &str) -> PaddedCall {
+    let (key, sides) = words.split_once(' ').unwrap_or((words, ""));
+    PaddedCall::Place(key_of(key), size_of(sides))
+}
+
+/// So many keys at most.
+fn most_of(words: &str) -> NonZeroUsize {
+    let [most, ..] = numbers(words);
+    capacity_of(most).unwrap_or(NonZeroUsize::MIN)
 }
 
 fn capacity_of(number: i32) -> Option<NonZeroUsize> {
     NonZeroUsize::new(usize::try_from(number).unwrap_or(0))
 }
 
-/// Places a key, whose number stands before its sides.
-fn place(cache: &mut PaddedCache, rt: &impl Print, words: &str) -> io::Result<()> {
-    let (key, sides) = words.split_once(' ').unwrap_or((words, ""));
-    say_placed(rt, &placed(cache, key_of(key), size_of(sides)))
+/// Writes what a call answers.
+fn say_reply(rt: &impl Print, reply: &PaddedReply) -> io::Result<()> {
+    match reply {
+        PaddedReply::Placed(placed) => say_entered(rt, placed),
+        PaddedReply::Refused(GlyphFault::Memory(evicted)) => say_unentered(rt, evicted),
+        PaddedReply::Refused(fault) => say_fault(rt, fault.number()),
+        PaddedReply::At(rectangle) | PaddedReply::Removed(rectangle) => {
+            say_rectangle(rt, Some(*rectangle))
+        }
+        PaddedReply::NotThere => say_rectangle(rt, None),
+        PaddedReply::Evicted(evicted) => say_evicted(rt, evicted),
+        PaddedReply::NotGrown(fault) => say_fault(rt, fault.number()),
+        PaddedReply::NoMemory => say(rt, "no memory"),
+        PaddedReply::Retained => say(rt, "retained"),
+        PaddedReply::Begun => say(rt, "begun"),
+        PaddedReply::Grown => say(rt, "grown"),
+        PaddedReply::Cleared => say(rt, "cleared"),
+    }
 }
 
 /// Writes a line for each key with its rectangle, and one that ends them.
@@ -90,24 +114,6 @@ fn list(cache: &PaddedCache, rt: &impl Print) -> io::Result<()> {
         say_rectangle(rt, Some(rectangle))?;
     }
     say(rt, "end")
-}
-
-fn grow(cache: &mut PaddedCache, rt: &impl Print, words: &str) -> io::Result<()> {
-    match grown(cache, size_of(words)) {
-        Ok(()) => say(rt, "grown"),
-        Err(AtlasGrowFault::Memory) => say(rt, "no memory"),
-        Err(fault) => say_fault(rt, fault.number()),
-    }
-}
-
-/// Keeps so many keys at most.
-fn keep(cache: &mut PaddedCache, rt: &impl Print, words: &str) -> io::Result<()> {
-    let [most, ..] = numbers(words);
-    let capacity = capacity_of(most).unwrap_or(NonZeroUsize::MIN);
-    match kept(cache, capacity) {
-        Ok(evicted) => say_evicted(rt, &evicted),
-        Err(AllocError) => say(rt, "no memory"),
-    }
 }
 
 // What these calls promise ends in functions that promise nothing, so that it isn't gone through in what uses them.
@@ -122,20 +128,12 @@ fn new_cache(
     PaddedCache::new(alloc, size, options, capacity, padding)
 }
 
-fn placed(cache: &mut PaddedCache, key: u64, size: Size) -> Result<Placed, GlyphFault> {
-    cache.place(key, size)
-}
-
-fn look(cache: &mut PaddedCache, key: u64) -> Option<Rectangle> {
-    cache.get(key)
+fn answered(cache: &mut PaddedCache, call: PaddedCall) -> PaddedReply {
+    answer_on_padded_cache(cache, call)
 }
 
 fn peek(cache: &PaddedCache, key: u64) -> Option<Rectangle> {
     cache.peek(key)
-}
-
-fn remove(cache: &mut PaddedCache, key: u64) -> Option<Rectangle> {
-    cache.remove(key)
 }
 
 /// Keeps the keys that aren't below a number, and of which the rectangle begins above row 17.
@@ -143,24 +141,6 @@ fn retain(cache: &mut PaddedCache, rt: &impl Print, words: &str) -> io::Result<(
     let least = key_of(words);
     cache.retain(|key, rectangle| key >= least && rectangle.min.y < 17);
     say(rt, "retained")
-}
-
-fn begin_frame(cache: &mut PaddedCache, rt: &impl Print) -> io::Result<()> {
-    cache.begin_frame();
-    say(rt, "begun")
-}
-
-fn clear(cache: &mut PaddedCache, rt: &impl Print) -> io::Result<()> {
-    cache.clear();
-    say(rt, "cleared")
-}
-
-fn grown(cache: &mut PaddedCache, size: Size) -> Result<(), AtlasGrowFault> {
-    cache.grow(size)
-}
-
-fn kept(cache: &mut PaddedCache, capacity: NonZeroUsize) -> Result<Vec<u64>, AllocError> {
-    cache.set_capacity(capacity)
 }
 
 fn len(cache: &PaddedCache) -> u64 {

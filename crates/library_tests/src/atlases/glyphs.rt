@@ -2,7 +2,7 @@
 
 use crate::streams::assertions::{equal, holds};
 use etagere::{Allocation, AtlasAllocator, DEFAULT_OPTIONS, OptionsFault, Size, size2};
-use glyph_shelf::{GlyphCache, GlyphFault};
+use glyph_shelf::{GlyphCache, GlyphFault, Placed};
 use std::alloc::Global;
 use std::num::NonZeroUsize;
 use std::process::Abort;
@@ -110,6 +110,10 @@ impl PlainCache {
     }
 }
 
+fn placed(cache: &mut GlyphCache, key: u64, size: Size) -> Result<Placed, GlyphFault> {
+    cache.place(key, size)
+}
+
 /// Both caches answer the same to a letter in a size of type: whether it was there. What is evicted goes to the list.
 fn place_in_both(
     rt: &impl Abort,
@@ -120,8 +124,8 @@ fn place_in_both(
 ) -> Result<bool, Fail> {
     let size = letter_size(letter, type_size);
     let key = u64::from(letter) * 4 + u64::from(type_size);
-    let placed = cache.place(key, size)?;
     let (wanted, is_hit) = plain.place(key, size, evicted)?;
+    let placed = placed(cache, key, size)?;
     equal(rt, &corners(placed.rectangle), &wanted);
     equal(rt, &placed.evicted.as_slice(), &evicted.as_slice());
     Ok(is_hit)

@@ -2,7 +2,7 @@
 
 use crate::maps::support::{
     Pictures, begin_frame, clear, counts, equal, get, grow, is_empty, is_in_order, keep_even,
-    keep_one, look_up, name_of, new_pictures, peek, place_all, remove, use_name,
+    keep_one, keep_others, look_up, name_of, new_pictures, peek, place_all, remove, use_name,
 };
 use std::alloc::{AllocError, Global};
 use std::process::Abort;
@@ -88,6 +88,25 @@ fn what_a_test_refuses_goes_in(
     is_in_order(rt, map, alloc, &[2, 4])?;
     equal(rt, &counts(map), &(2, 9, 1));
     Ok(())
+}
+
+#[test]
+fn names_that_are_listed_go(rt: HostRuntime) -> Result<(), Fail> {
+    let mut map = new_pictures(rt.alloc(), 9)?;
+    names_that_are_listed_go_in(&rt, rt.alloc(), &mut map)?;
+    Ok(())
+}
+
+fn names_that_are_listed_go_in(
+    rt: &impl Abort,
+    alloc: Global,
+    map: &mut Pictures,
+) -> Result<(), AllocError> {
+    place_four(rt, map, alloc)?;
+    let mut gone = Vec::new(alloc);
+    gone.push(name_of(alloc, "b")?)?;
+    equal(rt, &keep_others(map, gone), &true);
+    is_in_order(rt, map, alloc, &[1, 4, 3])
 }
 
 /// Places four names, of which the first two are used in a frame.

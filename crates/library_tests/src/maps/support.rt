@@ -1,8 +1,10 @@
 //! A map of pictures under names, by calls that promise nothing, so that a test is proved safe in little time.
 
 use crate::streams::assertions::equal_at;
+use cache_runs::maps::{answer_on_map, retain_on_map};
+use cache_runs::{MapCall, MapReply};
 use etagere::{DEFAULT_OPTIONS, OptionsFault, size2};
-use glyph_map::{GlyphMap, MapFault, NotRestored, Placed, Refused};
+use glyph_map::{GlyphMap, MapFault, NotRestored};
 use glyph_shelf::CacheSnapshot;
 use std::alloc::{AllocError, Global};
 use std::fmt::Debug;
@@ -53,7 +55,8 @@ pub fn place(
     side: i32,
 ) -> Result<Told, AllocError> {
     let name = name_of(alloc, name)?;
-    Ok(told(map.place(name, Picture { advance, page: 3 }, size2(side, side))))
+    let call = MapCall::Place(name, Picture { advance, page: 3 }, size2(side, side));
+    Ok(told(answer_on_map(map, call)))
 }
 
 /// Names with the advances and the sides that they are placed with, and what becomes of each.
@@ -73,14 +76,15 @@ pub fn place_all(
     Ok(())
 }
 
-fn told(tried: Result<Placed<String, Picture>, Refused<String, Picture>>) -> Told {
-    match tried {
-        Ok(placed) => (
+fn told(reply: MapReply<String, Picture>) -> Told {
+    match reply {
+        MapReply::Placed(placed) => (
             first_of(placed.evicted.as_slice()),
             old_of(placed.replaced),
             0,
         ),
-        Err(refused) => (refused.value.advance, -1, number_of(&refused.fault)),
+        MapReply::Refused(refused) => (refused.value.advance, -1, number_of(&refused.fault)),
+        _ => (-1, -1, 9),
     }
 }
 
@@ -138,15 +142,20 @@ pub fn remove(map: &mut Pictures, name: &String) -> i32 {
 
 /// The advance of the first that goes where there may be one name.
 pub fn keep_one(map: &mut Pictures) -> i32 {
-    match map.set_capacity(NonZeroUsize::MIN) {
-        Ok(evicted) => first_of(evicted.as_slice()),
-        Err(_) => -2,
+    match answer_on_map(map, MapCall::SetCapacity(NonZeroUsize::MIN)) {
+        MapReply::Evicted(evicted) => first_of(evicted.as_slice()),
+        _ => -2,
     }
 }
 
 /// Keeps the names of which the advance is even; none goes where there is no memory.
 pub fn keep_even(map: &mut Pictures) -> bool {
     map.retain(|_, kept| kept.advance % 2 == 0).is_ok()
+}
+
+/// Keeps all names but these, and says whether there was memory.
+pub fn keep_others(map: &mut Pictures, gone: Vec<String>) -> bool {
+    matches!(retain_on_map(map, gone), MapReply::Retained)
 }
 
 pub fn begin_frame(map: &mut Pictures) {
@@ -159,7 +168,10 @@ pub fn clear(map: &mut Pictures) {
 
 /// Whether the atlas is 64x128 now.
 pub fn grow(map: &mut Pictures) -> bool {
-    map.grow(size2(64, 128)).is_ok()
+    matches!(
+        answer_on_map(map, MapCall::Grow(size2(64, 128))),
+        MapReply::Grown
+    )
 }
 
 /// How many names are there, may be there, and were used in the frame.

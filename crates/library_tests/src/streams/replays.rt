@@ -1,104 +1,40 @@
-//! Replays, and single texts, over readers and writers that move few bytes at once, and fail. A call
-//! that failed isn't retried, also where it would work the second time: what a stream answers is
-//! what a replay answers.
+//! Replays, and single texts, over readers and writers that move few bytes at once, and fail.
 
-use crate::streams::assertions::{equal, equal_at, holds, holds_at};
-use crate::streams::fake_streams::{End, FakeReader, FakeWriter, FewWrites, first_lines};
-use etagere_run::{Outcome, ReplayFault, replay};
+use crate::streams::assertions::equal;
+use crate::streams::fake_streams::{End, FakeWriter};
+use crate::streams::filtered::{
+    takes_few_bytes, writes_a_beginning, writes_each_line_at_once, writes_nothing_unread,
+};
+use crate::streams::filters::Replay;
+use etagere_run::{Outcome, replay};
 use pictures::send;
 use std::io::ErrorKind;
-use std::process::Abort;
 use std::test::Fail;
 
-/// The script of the README's example.
+/// The script of the README's example, and what its replay writes.
 const SCRIPT: &[u8] = b"atlas 1000 1000 1 1 1 h\na 100 100\na 900 200\nr 0\na 300 200\nl 3\nr 2\n";
 
-/// What a replay of the script writes to a writer that takes everything. The test of the README's
-/// example holds it to the rules.
-fn whole_text(rt: &impl AllocGlobal) -> Result<Vec<u8>, Fail> {
-    let mut reader = SCRIPT;
-    let mut writer = Vec::new(rt.alloc());
-    replay(rt.alloc(), &mut reader, &mut writer)?;
-    Ok(writer)
+const TEXT: &[u8] = b"placed 65536 0 0 100 112\nplaced 65537 0 112 900 336\nreturned\n\
+    placed 65539 0 336 300 560\nat 0 336 300 560 3\nnot live\n";
+
+#[test]
+fn a_replay_takes_few_bytes_at_once(rt: HostRuntime) {
+    takes_few_bytes(&rt, &Replay, SCRIPT, TEXT);
 }
 
 #[test]
-fn a_replay_takes_few_bytes_at_once(rt: HostRuntime) -> Result<(), Fail> {
-    let text = whole_text(&rt)?;
-    for at_once in [1, 2, 7, 1000] {
-        let mut reader = FakeReader::new(SCRIPT, at_once, End::Nothing);
-        let mut writer = FakeWriter::new(rt.alloc(), 1000, at_once, End::Failure);
-        let outcome = replay(rt.alloc(), &mut reader, &mut writer)?;
-        equal(&rt, &outcome, &Outcome::Done);
-        equal(&rt, &writer.written(), &text.as_slice());
-    }
-    Ok(())
+fn nothing_is_written_after_a_failed_read(rt: HostRuntime) {
+    writes_nothing_unread(&rt, &Replay, SCRIPT);
 }
 
 #[test]
-fn nothing_is_written_after_a_failed_read(rt: HostRuntime) -> Result<(), Fail> {
-    for end in [End::Failure, End::Interruption] {
-        for given in 0..=SCRIPT.len() {
-            let (first, later) = SCRIPT.split_at(given);
-            let failing = FakeReader::new(first, 7, end);
-            fails_to_read(&rt, failing);
-            let failing_once = FakeReader::new(first, 7, end).then_gives(later);
-            fails_to_read(&rt, failing_once);
-        }
-    }
-    Ok(())
-}
-
-fn fails_to_read(rt: &(impl AllocGlobal + Abort), mut reader: FakeReader<'_>) {
-    let mut writer = FakeWriter::new(rt.alloc(), 1000, 7, End::Failure);
-    let fault = replay(rt.alloc(), &mut reader, &mut writer);
-    equal(rt, &fault, &Err(ReplayFault::Read));
-    equal(rt, &reader.later_calls(), &0);
-    holds(rt, writer.written().is_empty());
+fn a_beginning_is_written_before_a_failed_write(rt: HostRuntime) {
+    writes_a_beginning(&rt, &Replay, SCRIPT, TEXT);
 }
 
 #[test]
-fn a_beginning_is_written_before_a_failed_write(rt: HostRuntime) -> Result<(), Fail> {
-    let text = whole_text(&rt)?;
-    for end in [End::Nothing, End::Failure, End::Interruption] {
-        for room in 0..text.len() {
-            for works_later in [false, true] {
-                let mut reader = FakeReader::new(SCRIPT, 7, End::Nothing);
-                let writer = FakeWriter::new(rt.alloc(), room, 3, end);
-                let mut writer = writer.then_works(works_later);
-                let fault = replay(rt.alloc(), &mut reader, &mut writer);
-                equal_at(&rt, &fault, &Err(ReplayFault::Write), &room);
-                equal(&rt, &writer.written(), &&text[..room]);
-                equal_at(&rt, &writer.later_calls(), &0, &room);
-                holds_at(&rt, reader.is_at_end(), &room);
-            }
-        }
-    }
-    Ok(())
-}
-
-#[test]
-fn a_replay_writes_each_line_at_once(rt: HostRuntime) -> Result<(), Fail> {
-    let text = whole_text(&rt)?;
-    for count in 0..6 {
-        let mut writer = FewWrites::new(rt.alloc(), count);
-        let fault = replay(
-            rt.alloc(),
-            &mut FakeReader::new(SCRIPT, 7, End::Nothing),
-            &mut writer,
-        );
-        equal_at(&rt, &fault, &Err(ReplayFault::Write), &count);
-        equal(&rt, &writer.written(), &first_lines(text.as_slice(), count));
-    }
-    let mut writer = FewWrites::new(rt.alloc(), 7);
-    let outcome = replay(
-        rt.alloc(),
-        &mut FakeReader::new(SCRIPT, 7, End::Nothing),
-        &mut writer,
-    )?;
-    equal(&rt, &outcome, &Outcome::Done);
-    equal(&rt, &writer.left(), &1);
-    Ok(())
+fn a_replay_writes_each_line_at_once(rt: HostRuntime) {
+    writes_each_line_at_once(&rt, &Replay, SCRIPT, TEXT, 6);
 }
 
 #[test]
