@@ -90,3 +90,14 @@ ROWS = {
     "4095 shelves with little room: a wider item is refused": Row(narrow_rooms, 311349, most=MOST),
     "4095 shelves that are too tall: the same item comes and goes": Row(too_tall, 16626, most=MOST),
 }
+
+IN_THE_END = {
+    "4095 shelves of a bucket each restored, for each shelf": (
+        Row(lambda _: (full_shelves(), [])), BUCKETS, "restored", "saved", 250
+    ),
+    "a shelf of 4095 buckets restored, for each bucket": (Row(lambda _: filled_by(16)), BUCKETS, "restored", "saved", 120),
+    "4095 shelves of a bucket each drawn, for each bucket": (
+        Row(lambda _: (full_shelves(), [])), BUCKETS, "drawn", "again", 300
+    ),
+}
+"""As in `shelf_rows`."""

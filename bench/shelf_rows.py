@@ -162,3 +162,24 @@ THROUGH_ALL = {
     "2000 shelves of 3 heights, the same": (Row(grown_across(2000, 3)), 2000, 100),
 }
 """Calls that go through all columns or shelves, how many these are, and how many instructions are wanted for each."""
+
+
+def long_shelves(shelves, items):
+    """Full shelves, each of so many items."""
+
+    def make(_program):
+        filling = [f"atlas {8 * items} {8 * shelves} 1 1 1 h"]
+        return filling, ["a 8 8"] * (shelves * items)
+
+    return make
+
+
+IN_THE_END = {
+    "8000 shelves of an item each restored, for each shelf": (Row(long_shelves(8000, 1)), 8000, "restored", "saved", 370),
+    "16 shelves of 1000 items each restored, for each item": (
+        Row(long_shelves(16, 1000)), 16000, "restored", "saved", 120
+    ),
+    "16 shelves of 1000 items each drawn, for each item": (Row(long_shelves(16, 1000)), 16000, "drawn", "again", 300),
+}
+"""What is done with an atlas in the end: what it goes through, by which round it is counted, less which other one, and how
+many instructions are wanted for each."""

@@ -2,7 +2,8 @@
 
 use etagere::{AllocId, AtlasAllocator, BucketedAtlasAllocator};
 use run_commands::commands::{AtlasCommand, BucketedCommand};
-use std::alloc::AllocError;
+use std::alloc::{AllocError, Global};
+use std::io::{self, Write};
 
 /// An atlas that is called by commands.
 pub trait Called {
@@ -14,6 +15,10 @@ pub trait Called {
         command: Self::Command,
         ids: &[Option<AllocId>],
     ) -> Result<Option<AllocId>, AllocError>;
+
+    /// Saves the atlas where the round is `saved`, restores it from that where it is `restored`, draws it where it is
+    /// `drawn`, and does nothing in any other one.
+    fn end(&self, alloc: Global, round: &str) -> anyhow::Result<()>;
 }
 
 impl Called for AtlasAllocator {
@@ -43,6 +48,20 @@ impl Called for AtlasAllocator {
         }
         Ok(None)
     }
+
+    fn end(&self, alloc: Global, round: &str) -> anyhow::Result<()> {
+        match round {
+            "saved" => {
+                self.snapshot()?;
+            }
+            "restored" => {
+                AtlasAllocator::restore(alloc, self.snapshot()?)?;
+            }
+            "drawn" => self.dump_svg(&mut Nowhere)?,
+            _ => {}
+        }
+        Ok(())
+    }
 }
 
 impl Called for BucketedAtlasAllocator {
@@ -66,6 +85,34 @@ impl Called for BucketedAtlasAllocator {
             BucketedCommand::Clear => self.clear(),
         }
         Ok(None)
+    }
+
+    fn end(&self, alloc: Global, round: &str) -> anyhow::Result<()> {
+        match round {
+            "saved" => {
+                self.snapshot()?;
+            }
+            "restored" => {
+                BucketedAtlasAllocator::restore(alloc, self.snapshot()?)?;
+            }
+            "drawn" => self.dump_svg(&mut Nowhere)?,
+            _ => {}
+        }
+        Ok(())
+    }
+}
+
+/// A writer that takes everything and keeps nothing.
+#[derive(Drop)]
+struct Nowhere;
+
+impl Write for Nowhere {
+    fn write(&mut self, buf: &[u8]) -> io::Result<usize> {
+        Ok(buf.len())
+    }
+
+    fn flush(&mut self) -> io::Result<()> {
+        Ok(())
     }
 }
 
