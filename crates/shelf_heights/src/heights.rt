@@ -3,7 +3,7 @@
 //! Definitions: `ByHeight`. Each shelf has beside it a width that none of its free items passes, so a search
 //! passes over a shelf by one comparison.
 
-ghost use Rattle.std.specs.Prelude.{◌≡◌, ◌+◌, ◌*◌, ◌<◌, ◌≤◌, ◌^◌, OnErr, OnOk, drop, length, nat_lt, remove, take, true};
+ghost use Rattle.std.specs.Prelude.{◌≡◌, ◌+◌, ◌*◌, ◌<◌, ◌≤◌, ◌^◌, OnErr, OnOk, drop, insert, length, nat_lt, remove, take, true};
 ghost use Rattle.std.specs.List.{AllByRecursion};
 ghost use Rattle.etagere_base.specs.Lists.{times};
 ghost use Rattle.etagere_links.specs.Links.{no_link};
@@ -444,7 +444,21 @@ pub fn settle(shelves: &[LinkedShelf], by_height: &mut ShelvesByHeight, shelf: u
     ensures len { length by_height.new.items ≡ length by_height.old.items }
 {
     let to = start_beside(shelves, by_height, shelf, index);
-    by_height.shift(index, to);
+    if to != index {
+        move_to(by_height, shelf, index, to);
+    }
+}
+
+/// Moves the shelf at one position to another one, and keeps that. Never inlined, so that a shelf that stays costs no call.
+#[inline(never)]
+fn move_to(by_height: &mut ShelvesByHeight, shelf: usize, from: usize, to: usize)
+    requires from { from < length by_height.old.items }
+    requires to { to < length by_height.old.items }
+    ensures items { by_height.new.items
+        ≡ insert (remove by_height.old.items from) to (spec.bounded_at by_height.old.items from) }
+    ensures capacity { by_height.new.capacity ≡ by_height.old.capacity }
+{
+    by_height.shift(from, to);
     by_height.keep_position(shelf, to);
 }
 

@@ -1,5 +1,5 @@
 -- Shelves of numbers and bounds: what edits of both make of them.
-use Rattle.std.proofs.Common.{◌≡◌, ℕ, zero, suc, ◌<◌, ◌≤◌, Option, None, Some, List, [], ◌∷◌, ◌++◌, drop, get_or, length, map, set, take, refl, ap, arith, subst, ◌∙◌}
+use Rattle.std.proofs.Common.{◌≡◌, ℕ, zero, suc, ◌+◌, ◌<◌, ◌≤◌, Option, None, Some, List, [], ◌∷◌, ◌++◌, drop, get_or, length, map, set, take, refl, ap, arith, subst, ◌∙◌}
 use Rattle.std.proofs.lemmas.List.{drop-map, length-map, take-map}
 use Rattle.std.specs.Prelude.{◌*◌, insert, remove, vec_capacity}
 use Rattle.std.specs.List.{AllByRecursion}
@@ -59,6 +59,13 @@ paired-remove (n ∷ ns) [] index same within = absurd (omega (arith, same))
 paired-remove (n ∷ ns) (b ∷ bs) zero same within = refl
 paired-remove (n ∷ ns) (b ∷ bs) (suc index) same within =
     ap (λ (l : List BoundedShelf). shelf_of n b ∷ l) (paired-remove ns bs index (omega (arith, same)) (omega (arith, within)))
+
+-- those before the last one are the list without it
+pub before-last : {X : Type 0} (list : List X) (last : ℕ) → last + 1 ≡ length list → take last list ≡ remove list last
+before-last [] last is = absurd (omega (arith, is))
+before-last (x ∷ []) zero is = refl
+before-last (x ∷ y ∷ others) zero is = absurd (omega (arith, is))
+before-last {X} (x ∷ others) (suc last) is = ap (λ (l : List X). x ∷ l) (before-last others last (omega (arith, is)))
 
 -- one is written over another
 pub paired-set : (numbers bounds : List ℕ) (index : ℕ) (one : BoundedShelf) → length numbers ≡ length bounds → index < length numbers

@@ -88,6 +88,12 @@ absent-raised shelf width (one ∷ others) none =
     let rest : raised shelf width others ≡ others = absent-raised shelf width others (omega (arith, none)) in
     rw (other, rest) refl
 
+-- a shelf that is put in where it was taken out leaves the list as it was
+pub put-back : (index : ℕ) (by_height : List BoundedShelf) (other : BoundedShelf) → index < length by_height → by_height ≡ insert (remove by_height index) index (get_or by_height index other)
+put-back index [] other within = absurd (omega (arith, within))
+put-back zero (one ∷ others) other within = refl
+put-back (suc index) (one ∷ others) other within = ap (λ (l : List BoundedShelf). one ∷ l) (put-back index others other (omega (arith, within)))
+
 -- a shelf stands at this index, and what edits of it there make of the list
 pub record StandsAt (shelf index : ℕ) (by_height : List BoundedShelf) : Type 0 where
   pub within : index < length by_height

@@ -1,4 +1,4 @@
-use Rattle.std.proofs.Common.{◌≡◌, ℕ, suc, ◌+◌, ◌-◌, ◌<◌, ◌≤◌, List, drop, length, ap, arith, subst, sym, take, ◌∙◌}
+use Rattle.std.proofs.Common.{◌≡◌, ℕ, suc, ◌+◌, ◌-◌, ◌<◌, ◌≤◌, List, drop, length, arith, subst, sym, take}
 use Rattle.std.specs.Prelude.{remove, slice_index_or, ◌*◌, ◌/◌}
 use Rattle.std.specs.List.{AllByRecursion}
 use Rattle.shelf_links.specs.declared.records.LinkedShelf.{LinkedShelf}
