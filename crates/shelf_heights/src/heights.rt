@@ -284,7 +284,9 @@ fn between_beside(
     }
 }
 
-/// Where the shelves begin that don't come before this one, by a search that starts near a position.
+/// Where the shelves begin that don't come before this one, by a search that starts near a position. Never inlined, so that
+/// what splits no shelf doesn't carry it.
+#[inline(never)]
 fn start_near(
     shelves: &[LinkedShelf],
     by_height: &ShelvesByHeight,
@@ -299,12 +301,14 @@ fn start_near(
     ensures after { AllByRecursion (λ one. spec.order_of shelves.now shelf ≤ spec.order_of shelves.now one.shelf)
         (drop result by_height.now.items) }
 {
-    let order = order_of(shelves, shelf);
+    let record = &shelves[shelf];
+    let height = u32::from(record.height);
+    let place = chain_order(record.x, record.y);
     let mut from = 0;
     let mut end = by_height.len();
     while from < end {
         let middle = probed_near(near, from, end);
-        if order_of(shelves, by_height.shelf(middle)) < order {
+        if comes_before(shelves, by_height.shelf(middle), height, place) {
             from = middle + 1;
         } else {
             end = middle;

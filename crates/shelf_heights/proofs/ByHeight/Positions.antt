@@ -3,15 +3,17 @@ use Rattle.std.proofs.Common.{◌≡◌, ◌≢◌, ℕ, zero, suc, ◌+◌, ◌
 use Rattle.std.proofs.Math.Nat.{pow-suc}
 use Rattle.std.proofs.Math.ListN.{drop_of_length-le}
 use Rattle.std.proofs.lemmas.Bool.Decides.{nat_tests}
-use Rattle.std.specs.Prelude.{insert, nat_lt, remove, ◌*◌, ◌^◌, ◌==◌}
+use Rattle.std.specs.Prelude.{insert, nat_lt, remove, slice_index_or, ◌*◌, ◌^◌, ◌==◌}
 use Rattle.std.specs.List.{AllByRecursion}
 use Rattle.etagere_base.specs.Lists.{times}
 use Rattle.etagere_links.proofs.ListEnds.{times-other}
 use Rattle.shelf_links.specs.declared.records.LinkedShelf.{LinkedShelf}
 use Rattle.shelf_model.specs.Listing.{RiseFrom}
-use Rattle.shelf_heights.specs.Private.ByHeight.{AreInOrder, IsStart, bound_of, order_of, put_in, raised, bounded_at, numbers_by_height, taken_out}
+use Rattle.shelf_heights.specs.Private.ByHeight.{AreInOrder, IsStart, bound_of, order_at, order_of, put_in, raised, bounded_at, numbers_by_height, taken_out}
 use Rattle.shelf_heights.specs.declared.by_height.BoundedShelf.{BoundedShelf}
 use Rattle.shelf_records.proofs.Recorded.Members.{Each-member}
+use Rattle.shelf_records.proofs.Recorded.RecordsOfIds.{field_at-read}
+use Rattle.shelf_records.specs.AtlasRecords.{across_of, along_of, height_of}
 use Rattle.shelf_heights.proofs.ByHeight.Edited.{bounded_as, rise-above}
 
 -- so many shelves are left after halvings, where a count of digits was enough for all
@@ -218,6 +220,15 @@ pub tells-after : (shelves : List LinkedShelf) (number order : ℕ) (one : Bound
 tells-after shelves number order one at is =
     let more : order ≤ order_of shelves number = grind (arith, nat_tests) in
     omega (arith, more, ap (order_of shelves) at)
+
+-- the order of a record that was read
+pub order-read : (shelves : List LinkedShelf) (shelf height place : ℕ) (one : LinkedShelf) → shelf < length shelves → one ≡ slice_index_or shelves shelf one
+    → height ≡ one.height → place ≡ one.x * 65536 + one.y → order_at height place ≡ order_of shelves shelf
+order-read shelves shelf height place one within is high here =
+    let own : height_of shelves shelf ≡ one.height = field_at-read (λ (s : LinkedShelf). s.height) 0 shelves shelf one within is in
+    let along : along_of shelves shelf ≡ one.x = field_at-read (λ (s : LinkedShelf). s.x) 0 shelves shelf one within is in
+    let across : across_of shelves shelf ≡ one.y = field_at-read (λ (s : LinkedShelf). s.y) 0 shelves shelf one within is in
+    omega (arith, own, along, across, high, here)
 
 -- none stands behind the end
 pub none-behind : (shelves : List LinkedShelf) (order n : ℕ) (by_height : List BoundedShelf) → length by_height ≤ n

@@ -1,12 +1,9 @@
 use Rattle.std.proofs.Common.{◌≡◌, ℕ, suc, ◌+◌, ◌-◌, ◌<◌, ◌≤◌, List, drop, length, arith, subst, sym, take}
-use Rattle.std.specs.Prelude.{remove, slice_index_or, ◌*◌, ◌/◌}
+use Rattle.std.specs.Prelude.{remove, ◌/◌}
 use Rattle.std.specs.List.{AllByRecursion}
-use Rattle.shelf_links.specs.declared.records.LinkedShelf.{LinkedShelf}
-use Rattle.shelf_records.specs.AtlasRecords.{across_of, along_of, height_of}
-use Rattle.shelf_records.proofs.Recorded.RecordsOfIds.{field_at-read}
 use Rattle.shelf_heights.specs.Private.ByHeight.{order_at, order_of, bounded_at}
 use Rattle.shelf_heights.specs.declared.by_height.BoundedShelf.{BoundedShelf}
-use Rattle.shelf_heights.proofs.ByHeight.Positions.{after-probed, before-probed, read-number, tells-after, tells-before}
+use Rattle.shelf_heights.proofs.ByHeight.Positions.{after-probed, before-probed, order-read, read-number, tells-after, tells-before}
 use Rattle.shelf_heights.proofs.heights.start_beside.Goals as goal
 
 -- a shelf of zeros
@@ -16,15 +13,6 @@ none = record { widest = 0; shelf = 0 }
 -- the middle is before the end
 below : (from end : ℕ) → from < end → from + (end - from) / 2 < end
 below from end less = omega (arith, less)
-
--- the order of a record that was read
-order-read : (shelves : List LinkedShelf) (shelf height place : ℕ) (one : LinkedShelf) → shelf < length shelves → one ≡ slice_index_or shelves shelf one
-    → height ≡ one.height → place ≡ one.x * 65536 + one.y → order_at height place ≡ order_of shelves shelf
-order-read shelves shelf height place one within is high here =
-    let own : height_of shelves shelf ≡ one.height = field_at-read (λ (s : LinkedShelf). s.height) 0 shelves shelf one within is in
-    let along : along_of shelves shelf ≡ one.x = field_at-read (λ (s : LinkedShelf). s.x) 0 shelves shelf one within is in
-    let across : across_of shelves shelf ≡ one.y = field_at-read (λ (s : LinkedShelf). s.y) 0 shelves shelf one within is in
-    omega (arith, own, along, across, high, here)
 
 pub comes_before-requires : goal.comes_before-requires
 comes_before-requires c =
