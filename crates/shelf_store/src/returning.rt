@@ -5,6 +5,7 @@
 //! stay so.
 
 ghost use Rattle.std.specs.Prelude.{◌≡◌, ℕ, ◌<◌, ◌≤◌, Some, IfSome, length};
+ghost use Rattle.shelf_links.specs.RecordLists.{first_item_of};
 ghost use Rattle.shelf_records.specs.AtlasRecords as spec;
 ghost use Rattle.shelf_records.specs.AtlasRecords.{shelf_of};
 ghost use Rattle.shelf_store.specs.Private.ItemReturned as returned;
@@ -230,10 +231,10 @@ fn absorb_shelf(
     ensures few { result < 2 }
     ensures capacity { by_height.old.capacity ≤ by_height.new.capacity }
 {
-    let Some(item) = fields::first_item(records.shelves(), next) else {
+    let Some(item) = first_item(records.shelves(), next) else {
         return 0;
     };
-    let height = fields::height(records.shelves(), shelf) + fields::height(records.shelves(), next);
+    let height = height_of(records.shelves(), shelf) + height_of(records.shelves(), next);
     take_out(records.shelves(), by_height, next);
     let index = position_of(records.shelves(), by_height, shelf);
     records.unlink_shelf(next);
@@ -242,6 +243,23 @@ fn absorb_shelf(
     records.set_height(shelf, height);
     settle(records.shelves(), by_height, shelf, index);
     1
+}
+
+/// The number of the first item of a shelf that is there.
+fn first_item(shelves: &[LinkedShelf], shelf: usize) -> Option<usize>
+    requires { shelf < length shelves.now }
+    ensures value { result ≡ first_item_of shelves.now shelf }
+    ensures small { IfSome result (λ number. number < no_link) }
+{
+    shelves[shelf].first_item.number()
+}
+
+/// How tall a shelf is that is there.
+fn height_of(shelves: &[LinkedShelf], shelf: usize) -> u16
+    requires { shelf < length shelves.now }
+    ensures { result ≡ spec.height_of shelves.now shelf }
+{
+    shelves[shelf].height
 }
 
 /// The shelf after one, where both are empty and stand in one column.

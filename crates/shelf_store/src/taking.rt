@@ -147,21 +147,31 @@ fn give_item(records: &mut Records, found: &Placement, rest: Option<usize>)
 fn write_item_rest(records: &mut Records, found: &Placement, rest: usize)
     requires shelf { found.now.shelf < no_link }
     requires splittable { IsItemSplittable found.now records.old }
+    requires there { rest < length records.old.items }
     ensures { records.new ≡ spec.with_rest_written found.now rest records.old }
 {
-    let whole = item_record(records.items(), found.item);
-    let generation = item_record(records.items(), rest).generation;
+    let whole = present_item(records.items(), found.item);
+    let generation = present_item(records.items(), rest).generation;
     let item = rest_item(&whole, found.width as u16, found.shelf as u16, generation);
     records.write_item(rest, item);
 }
 
 /// The id under which the item of this number is given.
 fn id_of(items: &[LinkedItem], number: usize) -> AllocId
-    requires { number < no_link }
+    requires there { number < length items.now }
+    requires small { number < no_link }
     ensures { result ≡ spec.id_of items.now number }
 {
-    let generation = item_record(items, number).generation;
+    let generation = present_item(items, number).generation;
     AllocId::deserialize(number as u32 + INDEX_MODULUS * u32::from(generation))
+}
+
+/// The record of the item of this number, which is there.
+fn present_item(items: &[LinkedItem], number: usize) -> LinkedItem
+    requires { number < length items.now }
+    ensures { result ≡ spec.item_record items.now number }
+{
+    items[number]
 }
 
 /// The record of the item of this number; a new one where there is no such item.

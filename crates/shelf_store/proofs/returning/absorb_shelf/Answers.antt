@@ -3,8 +3,10 @@ use Rattle.etagere_base.specs.Lists.{times}
 use Rattle.shelf_heights.specs.Private.ByHeight.{AreInOrder, numbers_by_height, taken_out}
 use Rattle.shelf_links.specs.RecordLists.{first_item_of}
 use Rattle.shelf_heights.proofs.ByHeight.Edited.{in_order-taken_out}
+use Rattle.shelf_heights.proofs.ByHeight.Positions.{stands-within}
 use Rattle.shelf_store.proofs.ByHeight.MergedByHeight.{absorbed-order, merging-pair, still-there}
 use Rattle.shelf_store.proofs.returning.absorb_shelf.Goals as goal
+use Rattle.shelf_store.proofs.returning.absorb_shelf.Goals.{Start}
 
 pub returns-clause-records : goal.returns-clause-records
 returns-clause-records c =
@@ -17,8 +19,8 @@ returns-clause-records c =
       c.unlink_shelf.ensures,
       c.requires.next,
       item,
-      c.height.ensures,
-      c.height-2.ensures,
+      c.height_of.ensures,
+      c.height_of-2.ensures,
       c.shelves-2.ensures,
       c.shelves-3.ensures,
     ) refl
@@ -38,8 +40,8 @@ returns-clause-by_height c =
       c.unlink_shelf.ensures,
       c.requires.next,
       item,
-      c.height.ensures,
-      c.height-2.ensures,
+      c.height_of.ensures,
+      c.height_of-2.ensures,
       c.shelves-2.ensures,
       c.shelves-3.ensures,
     ) refl
@@ -59,7 +61,7 @@ position_of-index-requires-clause-stands c =
 others-then : (c : goal.After-settle-arg-1) → AreInOrder c.shelves-6.result.now (taken_out c.args.shelf c.position_of-index.new.by_height.items) × (c.args.shelf < length c.shelves-6.result.now)
 others-then c =
     rw (c.shelves-6.ensures, c.set_height.ensures, c.make_shelf_unused.ensures, c.make_item_unused.ensures, c.unlink_shelf.ensures, c.position_of-index.ensures.same, c.take_out.ensures.by_height)
-    (absorbed-order c.args.records.now c.args.shelf c.args.next c.in-Some.item (c.height.result + c.height-2.result) c.args.by_height.now.items
+    (absorbed-order c.args.records.now c.args.shelf c.args.next c.in-Some.item (c.height_of.result + c.height_of-2.result) c.args.by_height.now.items
     (merging-pair c.args.records.now c.args.shelf c.args.next c.args.by_height.now.items c.requires.by_height c.requires.next)
     c.requires.by_height.order)
 
@@ -74,3 +76,20 @@ settle-requires-clause-once c =
     let here : times c.args.shelf (numbers_by_height (taken_out c.args.next c.args.by_height.now.items)) ≡ 1 =
     still-there c.args.shelf c.args.next c.args.by_height.now.items (merging-pair c.args.records.now c.args.shelf c.args.next c.args.by_height.now.items c.requires.by_height c.requires.next) in
     rw (c.position_of-index.ensures.same, c.take_out.ensures.by_height) (omega (arith, here))
+
+-- both shelves are there
+both-there : (c : Start) → (c.args.shelf < length c.args.records.now.shelves) × (c.args.next < length c.args.records.now.shelves)
+both-there c =
+    let pair = merging-pair c.args.records.now c.args.shelf c.args.next c.args.by_height.now.items c.requires.by_height c.requires.next in (
+      stands-within c.args.records.now.shelves c.args.shelf c.args.by_height.now.items c.requires.by_height.order (omega (arith, pair.own)),
+      stands-within c.args.records.now.shelves c.args.next c.args.by_height.now.items c.requires.by_height.order (omega (arith, pair.other)),
+    )
+
+pub first_item-requires : goal.first_item-requires
+first_item-requires c = rw c.shelves.ensures (both-there (goal.at.first_item-requires c).Start).1
+
+pub height_of-requires : goal.height_of-requires
+height_of-requires c = rw c.shelves-2.ensures (both-there (goal.at.height_of-requires c).Start).0
+
+pub height_of-requires-2 : goal.height_of-requires-2
+height_of-requires-2 c = rw c.shelves-3.ensures (both-there (goal.at.height_of-requires-2 c).Start).1
