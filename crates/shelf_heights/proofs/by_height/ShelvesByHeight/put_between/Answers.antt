@@ -4,7 +4,7 @@ use Rattle.shelf_heights.specs.Private.ListFields.{ListByHeight}
 use Rattle.shelf_heights.specs.declared.by_height.BoundedShelf.{BoundedShelf}
 use Rattle.shelf_heights.proofs.ByHeight.LeftOver.{insert-drop, taken-place}
 use Rattle.shelf_heights.proofs.ByHeight.UsedLists.{used-count}
-use Rattle.shelf_heights.proofs.by_height.ShelvesByHeight.put_in.Goals as goal
+use Rattle.shelf_heights.proofs.by_height.ShelvesByHeight.put_between.Goals as goal
 
 pub returns-then-at_front-clause-items : goal.returns-then-at_front-clause-items
 returns-then-at_front-clause-items c =
