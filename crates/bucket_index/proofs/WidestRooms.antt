@@ -1,5 +1,5 @@
 -- The widest room of a shelf, by one step along its links.
-use Rattle.std.proofs.Common.{◌≡◌, ℕ, suc, Option, Some, List, max, ap, ◌∙◌}
+use Rattle.std.proofs.Common.{◌≡◌, ℕ, zero, suc, Option, None, Some, List, max, refl, ap, ◌∙◌}
 use Rattle.std.specs.Option.{option_map_or}
 use Rattle.std.specs.Prelude.{slice_get}
 use Rattle.bucketed_records.specs.declared.records.LinkedBucket.{LinkedBucket}
@@ -13,3 +13,11 @@ widest-at buckets left fewer number at found names less here =
     ap (widest_from left buckets) names
     ∙ ap (λ (n : ℕ). widest_from n buckets (Some number)) less
     ∙ ap (λ (r : Option LinkedBucket). option_map_or (λ (bucket : LinkedBucket). max (record_room bucket) (widest_from fewer buckets bucket.next)) r 0) here
+
+-- nothing is wide where no bucket is named
+pub widest-none : (buckets : List LinkedBucket) (left : ℕ) (at : Option ℕ) → at ≡ None → widest_from left buckets at ≡ 0
+widest-none buckets left at names = ap (widest_from left buckets) names ∙ none left
+  where
+    none : (n : ℕ) → widest_from n buckets None ≡ 0
+    none zero = refl
+    none (suc n) = refl

@@ -164,6 +164,43 @@ pub fn widest_room(buckets: &[LinkedBucket], spans: &Spans, first: Link, most: u
     requires most { spec.widest_from most_buckets buckets.now first ≤ most }
     ensures { result ≡ spec.widest_from most_buckets buckets.now first }
 {
+    if spans.knows(first) {
+        return widest_by_spans(buckets, spans, first, most);
+    }
+    widest_by_links(buckets, first, most)
+}
+
+/// The same, link by link.
+fn widest_by_links(buckets: &[LinkedBucket], first: Link, most: u16) -> u16
+    requires most { spec.widest_from most_buckets buckets.now first ≤ most }
+    ensures { result ≡ spec.widest_from most_buckets buckets.now first }
+{
+    let mut widest = 0;
+    let mut at = first;
+    for _step in 0..MOST_BUCKETS {
+        let Some(number) = at.number() else {
+            break;
+        };
+        if number >= buckets.len() {
+            break;
+        }
+        let bucket = &buckets[number];
+        widest = wider(record_room(bucket), widest);
+        if widest == most {
+            break;
+        }
+        at = bucket.next;
+    }
+    widest
+}
+
+/// The same, by spans where none of their buckets has more room.
+#[inline(never)]
+fn widest_by_spans(buckets: &[LinkedBucket], spans: &Spans, first: Link, most: u16) -> u16
+    requires spans { AreSpans spans.now buckets.now }
+    requires most { spec.widest_from most_buckets buckets.now first ≤ most }
+    ensures { result ≡ spec.widest_from most_buckets buckets.now first }
+{
     let mut widest = 0;
     let mut at = first;
     let mut left = MOST_BUCKETS;

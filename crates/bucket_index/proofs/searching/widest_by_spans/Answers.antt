@@ -1,4 +1,4 @@
-use Rattle.std.proofs.Common.{◌≡◌, ℕ, zero, suc, ◌+◌, ◌-◌, Option, None, Some, List, length, max, refl, ap, sym, subst, ◌∙◌, arith}
+use Rattle.std.proofs.Common.{◌≡◌, ℕ, ◌+◌, ◌-◌, Option, None, Some, List, length, max, refl, ap, sym, subst, ◌∙◌, arith}
 use Rattle.std.proofs.lemmas.Option.{slice_get_past, slice_get_read}
 use Rattle.std.specs.Prelude.{slice_get}
 use Rattle.bucketed_records.specs.declared.records.LinkedBucket.{LinkedBucket}
@@ -6,16 +6,8 @@ use Rattle.bucket_index.specs.Private.Searching.{widest_from}
 use Rattle.bucket_index.specs.declared.spans.Ahead.{Ahead}
 use Rattle.bucket_index.specs.Private.Spans.{IsPassed}
 use Rattle.bucket_index.proofs.KnownSpans.{widest-ahead}
-use Rattle.bucket_index.proofs.WidestRooms.{widest-at}
-use Rattle.bucket_index.proofs.searching.widest_room.Goals as goal
-
--- nothing is wide where no bucket is named
-widest-none : (buckets : List LinkedBucket) (left : ℕ) (at : Option ℕ) → at ≡ None → widest_from left buckets at ≡ 0
-widest-none buckets left at names = ap (widest_from left buckets) names ∙ none left
-  where
-    none : (n : ℕ) → widest_from n buckets None ≡ 0
-    none zero = refl
-    none (suc n) = refl
+use Rattle.bucket_index.proofs.WidestRooms.{widest-at, widest-none}
+use Rattle.bucket_index.proofs.searching.widest_by_spans.Goals as goal
 
 -- the widest so far and that from where the search goes on make the widest of all
 passed : (most width left : ℕ) (bs : List LinkedBucket) (at first : Option ℕ) (ahead : Ahead) → width ≡ most → IsPassed (width + 1) bs at left ahead → max most (widest_from left bs at) ≡ widest_from 4095 bs first

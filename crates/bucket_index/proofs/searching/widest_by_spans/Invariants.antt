@@ -2,7 +2,7 @@ use Rattle.std.proofs.Common.{◌≡◌, ◌+◌, ◌≤◌}
 use Rattle.std.specs.Prelude.{max}
 use Rattle.bucketed_model.specs.State.{most_buckets}
 use Rattle.bucket_index.specs.Private.Searching.{widest_from}
-use Rattle.bucket_index.proofs.searching.widest_room.Given as goal
+use Rattle.bucket_index.proofs.searching.widest_by_spans.Given as goal
 
 -- the widest so far and that from here on make the widest of all
 abbrev pub invariant-loop-step : goal.invariant-loop-step

@@ -1,0 +1,10 @@
+use Rattle.std.proofs.Common.{◌≡◌, ◌-◌}
+use Rattle.std.specs.Prelude.{max}
+use Rattle.bucketed_model.specs.State.{most_buckets}
+use Rattle.bucket_index.specs.Private.Searching.{widest_from}
+use Rattle.bucket_index.proofs.searching.widest_by_links.Given as goal
+
+-- the widest so far and that from here on make the widest of all
+abbrev pub invariant-loop-step : goal.invariant-loop-step
+invariant-loop-step l =
+    max l.widest (widest_from (most_buckets - l._step) l.buckets l.at) ≡ widest_from most_buckets l.buckets l.fn.first
