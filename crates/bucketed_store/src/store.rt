@@ -54,6 +54,8 @@ pub struct Store {
     pub(crate) unused: Link,
     pub(crate) blocks: Blocks,
     pub(crate) spans: Spans,
+    /// Whether a shelf may have so many buckets that a search along them goes far.
+    pub(crate) may_be_long: bool,
 }
 
 impl Model for Store {
@@ -95,6 +97,7 @@ impl Store {
             unused: Link::none(),
             blocks: Blocks::new(),
             spans: Spans::new(),
+            may_be_long: false,
         }
     }
 
@@ -110,6 +113,7 @@ impl Store {
             unused,
             blocks,
             spans: Spans::new(),
+            may_be_long: true,
         }
     }
 
@@ -122,6 +126,7 @@ impl Store {
         self.unused = Link::none();
         self.blocks = Blocks::new();
         self.spans.forget_all();
+        self.may_be_long = false;
     }
 
     /// Makes the new shelves, with their buckets, where so many are in use. Takes memory for the records
@@ -141,6 +146,7 @@ impl Store {
     {
         self.shelves.reserve(news.shelf_count())?;
         reserve_records(&mut self.buckets, in_use + news.total_count())?;
+        self.may_be_long |= news.total_count() > FAR;
         if let Some(filler) = &news.filler {
             add_shelf(
                 frame,
@@ -284,9 +290,25 @@ impl Store {
             } }
     {
         let before = self.shelves[found.shelf];
-        learn_row(&self.shelves, &self.buckets, &mut self.spans, found, room);
-        give_from(&mut self.shelves, &self.buckets, &self.spans, found, room);
+        let keeps = keeps_widest(&self.shelves, &self.buckets, found, room);
+        let goes_far = self.goes_far(found, keeps);
+        learn_row(
+            &self.shelves,
+            &self.buckets,
+            &mut self.spans,
+            found,
+            goes_far,
+        );
+        give_from(&mut self.shelves, &self.buckets, &self.spans, found, keeps);
         self.blocks.follow(&self.shelves, found.shelf, &before);
+    }
+
+    /// Whether a search along the buckets of the shelf of a bucket that was found goes far over buckets of which
+    /// nothing is known.
+    fn goes_far(&self, found: &Found, keeps: bool) -> bool
+        requires { found.now.shelf < length self.now.shelves }
+    {
+        self.may_be_long && goes_far(&self.shelves, &self.buckets, &self.spans, found, keeps)
     }
 
     /// Whether the bucket that an id names has given its item, and holds something live.
@@ -365,6 +387,7 @@ impl Store {
             left,
         );
         self.blocks = Blocks::of(&self.shelves);
+        self.may_be_long = true;
         Ok(left - rest)
     }
 
@@ -584,17 +607,15 @@ fn place_at(buckets: &[LinkedBucket], number: usize) -> u32
 }
 
 /// Whether a search along the buckets of a shelf goes far over buckets of which nothing is known: up to
-/// the one that was found, which had this room before it gave an item, or up to the end.
+/// the one that was found, or up to the end where the shelf may not keep its widest bucket.
 fn goes_far(
     shelves: &[KeptShelf],
     buckets: &[LinkedBucket],
     spans: &Spans,
     found: &Found,
-    room: u16,
+    keeps: bool,
 ) -> bool
-    requires shelf { found.now.shelf < length shelves.now }
-    requires widest { spec.IsWidestKept found.now.shelf found.now.bucket room shelves.now
-        buckets.now }
+    requires { found.now.shelf < length shelves.now }
 {
     let shelf = &shelves[found.shelf].shelf;
     let Some(first) = shelf.first_bucket.number() else {
@@ -603,8 +624,7 @@ fn goes_far(
     let begin = place_at(buckets, first);
     is_far(u32::from(shelf.x), begin, shelf.bucket_width)
         && !(spans.knows(shelf.first_bucket) && spans.knows_block(found.bucket))
-        && (is_far(place_at(buckets, found.bucket), begin, shelf.bucket_width)
-            || !keeps_widest(shelves, buckets, found, room))
+        && (!keeps || is_far(place_at(buckets, found.bucket), begin, shelf.bucket_width))
 }
 
 /// Beyond so many buckets a search is worth spans.
@@ -621,15 +641,13 @@ fn learn_row(
     buckets: &[LinkedBucket],
     spans: &mut Spans,
     found: &Found,
-    room: u16,
+    goes_far: bool,
 )
     requires shelf { found.now.shelf < length shelves.now }
-    requires widest { spec.IsWidestKept found.now.shelf found.now.bucket room shelves.now
-        buckets.now }
     requires spans { AreSpans spans.old buckets.now }
     ensures { AreSpans spans.new buckets.now }
 {
-    if goes_far(shelves, buckets, spans, found, room) {
+    if goes_far {
         spans.learn(buckets, first_bucket(shelves, found.shelf));
     }
 }
@@ -641,57 +659,58 @@ fn keeps_widest(shelves: &[KeptShelf], buckets: &[LinkedBucket], found: &Found, 
     requires shelf { found.now.shelf < length shelves.now }
     requires widest { spec.IsWidestKept found.now.shelf found.now.bucket room shelves.now
         buckets.now }
-    ensures { IsTrue result
-        → searching.widest_from most_buckets buckets.now
-        (spec.first_bucket_of shelves.now found.now.shelf)
-        ≡ spec.widest_of shelves.now found.now.shelf }
+    ensures { spec.KeepsWidest found.now.shelf result shelves.now buckets.now }
 {
     let widest = widest_of(shelves, found.shelf);
     room < widest || has_room(widest, buckets, next_of(buckets, found.bucket))
 }
 
-/// The greatest width that a bucket of a shelf can give, after the one that was found gave an item, and had this
-/// room before. Buckets from the first one on are looked at only where it was the widest, and none of the next
-/// ones has as much room, and then up to one that has.
+/// The greatest width that a bucket of a shelf can give, after the one that was found gave an item. Buckets from
+/// the first one on are looked at only where it isn't known that the shelf keeps a bucket as wide as its widest
+/// was, and then up to one that is.
 fn widest_after(
     shelves: &[KeptShelf],
     buckets: &[LinkedBucket],
     spans: &Spans,
     found: &Found,
-    room: u16,
+    keeps: bool,
 ) -> u16
     requires number { found.now.shelf < length shelves.now }
-    requires widest { spec.IsWidestKept found.now.shelf found.now.bucket room shelves.now
-        buckets.now }
+    requires most { searching.widest_from most_buckets buckets.now
+        (spec.first_bucket_of shelves.now found.now.shelf)
+        ≤ spec.widest_of shelves.now found.now.shelf }
+    requires keeps { spec.KeepsWidest found.now.shelf keeps shelves.now buckets.now }
     requires spans { AreSpans spans.now buckets.now }
     ensures { result
         ≡ searching.widest_from most_buckets buckets.now
         (spec.first_bucket_of shelves.now found.now.shelf) }
 {
     let widest = widest_of(shelves, found.shelf);
-    if keeps_widest(shelves, buckets, found, room) {
+    if keeps {
         return widest;
     }
     widest_room(buckets, spans, first_bucket(shelves, found.shelf), widest)
 }
 
-/// Counts one more live item in the shelf of a bucket that was found and had this room before, and keeps what the
-/// buckets of the shelf can give now.
+/// Counts one more live item in the shelf of a bucket that was found, and keeps what the buckets of the shelf can
+/// give now.
 fn give_from(
     shelves: &mut [KeptShelf],
     buckets: &[LinkedBucket],
     spans: &Spans,
     found: &Found,
-    room: u16,
+    keeps: bool,
 )
     requires number { found.now.shelf < length shelves.old }
     requires few { spec.live_items_of shelves.old found.now.shelf + 1 < 2 ^ 32 }
-    requires widest { spec.IsWidestKept found.now.shelf found.now.bucket room shelves.old
-        buckets.now }
+    requires most { searching.widest_from most_buckets buckets.now
+        (spec.first_bucket_of shelves.old found.now.shelf)
+        ≤ spec.widest_of shelves.old found.now.shelf }
+    requires keeps { spec.KeepsWidest found.now.shelf keeps shelves.old buckets.now }
     requires spans { AreSpans spans.now buckets.now }
     ensures { shelves.new ≡ spec.shelves_given found.now.shelf shelves.old buckets.now }
 {
-    let widest = widest_after(shelves, buckets, spans, found, room);
+    let widest = widest_after(shelves, buckets, spans, found, keeps);
     count_given(shelves, found.shelf, widest);
 }
 
@@ -716,6 +735,7 @@ impl Clone for Store {
             unused: self.unused,
             blocks: self.blocks,
             spans: self.spans,
+            may_be_long: self.may_be_long,
         })
     }
 }

@@ -1,5 +1,5 @@
 -- What the steps of the private functions do to records.
-use Rattle.std.specs.Prelude.{ℕ, zero, suc, ◌+◌, ◌-◌, ◌/◌, ◌%◌, ◌^◌, ◌≡◌, ◌<◌, ◌≤◌, max, Option, None, Some, option_map, IsSome, List, [], ◌∷◌, ◌++◌, length, take, drop, slice_get, ◌==◌, if◌then◌else◌}
+use Rattle.std.specs.Prelude.{ℕ, zero, suc, ◌+◌, ◌-◌, ◌/◌, ◌%◌, ◌^◌, ◌≡◌, ◌<◌, ◌≤◌, max, Bool, true, Option, None, Some, option_map, IsSome, List, [], ◌∷◌, ◌++◌, length, take, drop, slice_get, ◌==◌, if◌then◌else◌}
 use Rattle.std.specs.Option.{option_map_or}
 use Rattle.std.specs.List.{AllByRecursion}
 use Rattle.etagere_base.specs.declared.frames.Frame.{Frame}
@@ -196,6 +196,12 @@ pub record IsWidestKept (shelf bucket room : ℕ) (shelves : List KeptShelf)
       → widest_from most_buckets buckets (first_bucket_of shelves shelf) ≡ widest_of shelves shelf
   pub behind : widest_from most_buckets buckets (next_of buckets bucket)
       ≤ widest_from most_buckets buckets (first_bucket_of shelves shelf)
+
+-- where it is true, the widest room that is kept of a shelf is that of one of its buckets
+abbrev pub KeepsWidest : ℕ → Bool → List KeptShelf → List LinkedBucket → Type 0
+KeepsWidest shelf keeps shelves buckets =
+    keeps ≡ true → widest_from most_buckets buckets (first_bucket_of shelves shelf)
+    ≡ widest_of shelves shelf
 
 -- a bucket of a shelf gave an item this wide
 abbrev pub stored_taken : ℕ → ℕ → ℕ → Stored → Stored
