@@ -351,10 +351,12 @@ fn bound_span(spans: &mut [Span], block: usize, room: u16)
 /// Whether a search for this width passes a span from the record of a number on, where so many may still be looked at.
 #[inline(always)]
 fn is_passed(span: &Span, number: usize, width: u32, left: u32) -> bool
-    ensures { IsTrue result → spec.IsPassedSpan number width left span.now }
+    ensures passed { IsTrue result → spec.IsPassedSpan number width left span.now }
+    ensures some { IsTrue result → 0 < span.now.steps }
 {
     begins_with(span, number)
         && u32::from(span.widest_room) < width
+        && 0 < span.steps
         && u32::from(span.steps) <= left
 }
 
@@ -368,10 +370,7 @@ fn behind_narrow(spans: &[Span], scale: usize, from: Link, most: u32, width: u32
 {
     let mut at = from;
     let mut left = most;
-    for _span in 0..MOST_BUCKETS {
-        let Some(number) = at.number() else {
-            break;
-        };
+    while let Some(number) = at.number() {
         let block = block_of(scale, number);
         if block >= spans.len() {
             break;
