@@ -160,6 +160,7 @@ impl Kept {
     }
 
     /// The rectangle of a key, which becomes the most recently used; none where it isn't there.
+    #[inline(always)]
     pub fn look(&mut self, key: u64) -> Option<Rectangle>
         ensures value { result ≡ rectangle_at self.old key }
         ensures used { self.new ≡ used self.old key }

@@ -70,6 +70,7 @@ impl UsedKeys {
     }
 
     /// The rectangle of a key, which is used; none where it isn't there. Takes no memory.
+    #[inline(always)]
     pub fn look(&mut self, key: u64) -> Option<Rectangle>
         ensures value { result ≡ rectangle_in self.old.entries key }
         ensures looked { self.new ≡ looked self.old key }

@@ -37,6 +37,7 @@ pub(crate) fn put_first(
 }
 
 /// The rectangle of a key, which goes to the front and gets the stamp of a frame; none where it isn't there.
+#[inline(always)]
 pub(crate) fn use_in(entries: &mut LruCache<u64, Entry>, key: u64, frame: u64) -> Option<Rectangle>
     ensures value { result ≡ rectangle_in (unstamped entries.old.entries) key }
     ensures entries { entries.new
