@@ -8,10 +8,11 @@ ghost use Rattle.etagere_base.specs.Frames.{HasAllColumns, IsFrame, longest_side
 ghost use Rattle.shelf_links.specs.RecordLists.{shelf_walk};
 ghost use Rattle.shelf_model.specs.Atlas.{KeepsPromises};
 ghost use Rattle.shelf_heights.specs.Private.ByHeight.{AreByHeight};
+ghost use Rattle.shelf_records.specs.AtlasRecords.{state_spelled};
 ghost use Rattle.shelf_records.specs.Private.Kept.{AreKept};
 ghost use Rattle.shelf_records.specs.Private.Restoring.{HasLists, IsWalked};
 ghost use Rattle.shelf_restoring.specs.RestoringSteps.{IsFollowed, StopsAfter, links_followed, links_of_all};
-ghost use Rattle.shelf_records.specs.Snapshots.{IsBroken, snapshot_records, state_spelled};
+ghost use Rattle.shelf_records.specs.Snapshots.{IsBroken, snapshot_records};
 ghost use Rattle.shelf_records.specs.StandsFor.{HasCounts, StandsFor};
 ghost use Rattle.shelf_model.specs.State.{items_in_use};
 
@@ -72,15 +73,7 @@ fn judge_walked(
     ) else {
         return Err(RestoreFault::Memory);
     };
-    judge_rules(
-        alloc,
-        &atlas.frame,
-        atlas.records.shelves(),
-        atlas.records.items(),
-        &entries,
-        &walked.unused,
-        atlas.allocated_space,
-    )
+    judge_rules(alloc, atlas, &entries, &walked.unused)
 }
 
 /// Follows all links of an atlas and judges its rules; returns what walks have met.

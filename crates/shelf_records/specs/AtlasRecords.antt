@@ -81,3 +81,7 @@ spelled_state atlas entries =
 -- the lists of each shelf that walks meet
 abbrev pub walked_entries : AtlasRecords → List Entry
 walked_entries atlas = map (walked_entry atlas.records) (shelf_walk atlas.records).met
+
+-- the state that records spell, whether they keep the rules or not
+abbrev pub state_spelled : AtlasRecords → AtlasState
+state_spelled atlas = spelled_state atlas (walked_entries atlas)

@@ -1,22 +1,17 @@
 -- What a snapshot says, and the rules that it has to keep.
-use Rattle.std.specs.Prelude.{◌≡◌, ◌/◌, false, map, pos}
+use Rattle.std.specs.Prelude.{◌/◌, map}
 use Rattle.etagere_base.specs.declared.faults.RestoreFault.{RestoreFault}
-use Rattle.etagere_base.specs.declared.faults.RestoreFault.TheVariants.{Frame, Counts, Link, Shelves, Runs, Neighbours, FreeList, Sharing, Unused, Space, Memory}
+use Rattle.etagere_base.specs.declared.faults.RestoreFault.TheVariants.{Memory}
 use Rattle.etagere_base.specs.declared.frames.Frame as frames
-use Rattle.etagere_base.specs.Frames.{IsFrame, longest_side}
-use Rattle.std.specs.List.{AllByRecursion}
 use Rattle.etagere_base.specs.Sides.{side, swapped_axes}
 use Rattle.shelf_links.specs.declared.records.LinkedItem.{LinkedItem}
 use Rattle.shelf_links.specs.declared.records.LinkedShelf.{LinkedShelf}
 use Rattle.etagere_links.specs.Links.{link_of}
-use Rattle.shelf_links.specs.RecordLists.{unused_item_walk}
 use Rattle.shelf_snapshots.specs.declared.AtlasSnapshot.{AtlasSnapshot}
 use Rattle.shelf_snapshots.specs.declared.ItemRecord.{ItemRecord}
 use Rattle.shelf_snapshots.specs.declared.ShelfRecord.{ShelfRecord}
-use Rattle.shelf_records.specs.AtlasRecords.{AtlasRecords, is_allocated_at, spelled_state, walked_entries}
-use Rattle.shelf_model.specs.Space.{space_in}
-use Rattle.shelf_model.specs.State.{AtlasState}
-use Rattle.shelf_records.specs.StandsFor.{HasCounts, HasFreeList, HasItems, HasLinks, HasNeighbours, HasShelves, IsShared}
+use Rattle.shelf_records.specs.AtlasRecords.{AtlasRecords}
+use Rattle.shelf_records.specs.StandsFor.{Keeps}
 
 -- the frame that a snapshot says, which has as many columns as fit
 abbrev pub snapshot_frame : AtlasSnapshot → frames.Frame
@@ -78,25 +73,6 @@ snapshot_records snapshot =
           };
       allocated_space = snapshot.allocated_space;
     }
-
--- the state that records spell, whether they keep the rules or not
-abbrev pub state_spelled : AtlasRecords → AtlasState
-state_spelled atlas = spelled_state atlas (walked_entries atlas)
-
--- records keep the rule whose breach is this fault
-abbrev pub Keeps : AtlasRecords → RestoreFault → Type 0
-Keeps atlas Frame = IsFrame longest_side atlas.frame
-Keeps atlas Counts = HasCounts atlas
-Keeps atlas Link = HasLinks atlas
-Keeps atlas Shelves = HasShelves atlas (state_spelled atlas)
-Keeps atlas Runs = AllByRecursion (HasItems atlas) (walked_entries atlas)
-Keeps atlas Neighbours = HasNeighbours (state_spelled atlas)
-Keeps atlas FreeList = AllByRecursion (HasFreeList atlas) (walked_entries atlas)
-Keeps atlas Sharing = IsShared atlas
-Keeps atlas Unused =
-    AllByRecursion (λ item. is_allocated_at atlas.records.items item ≡ false) (unused_item_walk atlas.records).met
-Keeps atlas Space = atlas.allocated_space ≡ pos (space_in (state_spelled atlas).shelves)
-Keeps atlas Memory = Unit {0}
 
 -- the rule whose breach is this fault is broken; want of memory breaks none
 abbrev pub IsBroken : AtlasRecords → RestoreFault → Type 0

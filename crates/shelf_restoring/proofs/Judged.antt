@@ -2,7 +2,6 @@
 pub mod ColumnStarts
 pub mod FlagPasses
 pub mod ItemPasses
-pub mod JudgedRules
 pub mod JudgedShelves
 pub mod MappedLists
 pub mod NeighbourPasses

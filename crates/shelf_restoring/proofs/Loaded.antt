@@ -1,7 +1,6 @@
 -- Loading a snapshot: following its links, and what its rules say together.
 pub mod ChainsWalked
 pub mod LinksFollowed
-pub mod RulesJudged
 pub mod WalksBroken
 pub mod WalksBy
 pub mod WalksFit

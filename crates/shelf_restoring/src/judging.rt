@@ -1,7 +1,7 @@
 //! Judging the rules of a snapshot in few passes over lists that walks have met. No link is followed here, and no list
 //! is searched.
 //!
-//! Definitions: `StandsFor`, whose fields are the rules, and `Judging` and `Rules` for some of them over lists.
+//! Definitions: `Keeps` of `StandsFor`, which has the rules, and `Judging` and `Rules` for what a pass keeps of them.
 //! Each pass answers exactly: a yes says that the rule holds, a no that it is broken.
 
 ghost use Rattle.shelf_links.specs.RecordLists.{Entry};

@@ -1,22 +1,22 @@
 //! Judging the rules of a snapshot whose links were followed. The first that is broken is told.
 //!
-//! Definitions: `Rules`, which has the rules as the passes of `judging` test them.
+//! Definitions: `Keeps` of `StandsFor` for the rules by their faults, `IsBroken` of `Snapshots`.
 
-ghost use Rattle.std.specs.Prelude.{ℕ, ◌++◌, ◌≤◌, IfErr, OnOk, length};
+ghost use Rattle.std.specs.Prelude.{◌≡◌, IfErr, OnOk};
 ghost use Rattle.etagere_base.specs.Frames.{IsFrame, longest_side};
-ghost use Rattle.std.specs.List.{AllByRecursion};
-ghost use Rattle.etagere_base.specs.Lists.{times};
-ghost use Rattle.etagere_links.specs.Links.{no_link};
-ghost use Rattle.shelf_links.specs.RecordLists.{Entry, item_numbers, shelf_numbers};
-ghost use Rattle.etagere_links.specs.Lists.{HasEachOnce};
-ghost use Rattle.shelf_restoring.specs.Private.Rules.{BreaksRule, KeepsRules};
+ghost use Rattle.etagere_base.specs.declared.faults.RestoreFault as spec;
+ghost use Rattle.shelf_links.specs.RecordLists.{unused_item_walk};
+ghost use Rattle.shelf_records.specs.AtlasRecords.{walked_entries};
+ghost use Rattle.shelf_records.specs.Private.Restoring.{IsWalked};
+ghost use Rattle.shelf_records.specs.Snapshots.{IsBroken};
+ghost use Rattle.shelf_records.specs.StandsFor.{HasCounts, Keeps};
 
 use crate::judging::WalkedShelf;
 use crate::judging::freeing::used_marks;
 use crate::judging::shelves::judge_shelves;
 use crate::judging::spacing::{is_space, none_allocated};
-use etagere_base::{Frame, RestoreFault};
-use shelf_links::{LinkedItem, LinkedShelf};
+use crate::loaded_atlas::LoadedAtlas;
+use etagere_base::RestoreFault;
 use std::alloc::Global;
 
 /// Judges what walks have met; returns the first rule that is broken.
@@ -24,33 +24,24 @@ use std::alloc::Global;
 /// Takes a byte of memory for each item record.
 pub fn judge_rules(
     alloc: Global,
-    frame: &Frame,
-    shelves: &[LinkedShelf],
-    items: &[LinkedItem],
+    atlas: &LoadedAtlas,
     entries: &[WalkedShelf],
     unused: &[u16],
-    allocated_space: i32,
 ) -> Result<(), RestoreFault>
-    requires frame { IsFrame longest_side frame.now }
-    requires few { length entries.now ≤ no_link }
-    requires short { AllByRecursion
-        (λ (entry : Entry). length entry.items ≤ no_link)
-        entries.now }
-    requires shelves { (number : ℕ) → times number (shelf_numbers entries.now) ≤ 1 }
-    requires items { HasEachOnce (length items.now)
-        (item_numbers entries.now ++ unused.now) }
-    requires once { AllByRecursion
-        (λ (entry : Entry). (item : ℕ) → times item entry.free_list ≤ 1)
-        entries.now }
-    ensures ok { OnOk result (KeepsRules frame.now shelves.now items.now
-        entries.now unused.now allocated_space) }
-    ensures fault { IfErr result (BreaksRule frame.now shelves.now items.now
-        entries.now unused.now allocated_space) }
+    requires frame { IsFrame longest_side atlas.now.frame }
+    requires counts { HasCounts atlas.now }
+    requires walked { IsWalked atlas.now }
+    requires entries { entries.now ≡ walked_entries atlas.now }
+    requires unused { unused.now ≡ (unused_item_walk atlas.now.records).met }
+    ensures ok { OnOk result ((fault : spec.RestoreFault) → Keeps atlas.now fault) }
+    ensures fault { IfErr result (IsBroken atlas.now) }
 {
+    let shelves = atlas.records.shelves();
+    let items = atlas.records.items();
     let Ok(marks) = used_marks(alloc, items.len(), unused) else {
         return Err(RestoreFault::Memory);
     };
-    let judged = judge_shelves(frame, shelves, items, &marks, entries);
+    let judged = judge_shelves(&atlas.frame, shelves, items, &marks, entries);
     if !judged.are_linked {
         return Err(RestoreFault::Link);
     }
@@ -69,7 +60,7 @@ pub fn judge_rules(
     if !none_allocated(items, unused) {
         return Err(RestoreFault::Unused);
     }
-    if !is_space(judged.space, allocated_space) {
+    if !is_space(judged.space, atlas.allocated_space) {
         return Err(RestoreFault::Space);
     }
     Ok(())

@@ -3,6 +3,7 @@ use Rattle.std.proofs.Common.{◌≡◌, ℕ, ◌≤◌, Bool, true, false, List
 use Rattle.std.specs.Prelude.{filter, not}
 use Rattle.etagere_base.proofs.TimesLemmas.{times-append}
 use Rattle.std.specs.List.{AllByRecursion}
+use Rattle.etagere_base.specs.declared.faults.RestoreFault.TheVariants.{Counts, Link, FreeList, Sharing}
 use Rattle.etagere_base.specs.Lists.{times}
 use Rattle.etagere_links.specs.Edits.{AreFitting}
 use Rattle.etagere_links.specs.Links.{no_link}
@@ -14,7 +15,7 @@ use Rattle.etagere_links.proofs.WalkedLists.{walk_by-leads}
 use Rattle.shelf_links.proofs.AllLists.LinkedWalks.{walked-numbers}
 use Rattle.shelf_records.specs.AtlasRecords.{AtlasRecords, is_allocated_at, walked_entries}
 use Rattle.shelf_records.specs.Private.Restoring.{Fits}
-use Rattle.shelf_records.specs.StandsFor.{HasItemLinks, HasFreeList, StandsFor}
+use Rattle.shelf_records.specs.StandsFor.{HasCounts, HasItemLinks, HasFreeList, HasLinks, IsShared, StandsFor}
 use Rattle.shelf_model.specs.State.{AtlasState}
 
 -- the links of an atlas fit their bits: those of each record, and those to the first of each list in use
@@ -50,13 +51,13 @@ entries-linked atlas few fit (n ∷ ns) first_items first_frees links frees ends
   record {
     items = record {
       forward = walk_by-leads item_chain.next atlas.records.items (first_item_of atlas.records.shelves n) fit.item_next first_items.0 few ends.0;
-      backward = links.0.back;
+      backward = links.0.links.back;
     };
     free_list = record {
       forward = walk_by-leads free_list.next atlas.records.items (first_free_of atlas.records.shelves n) fit.free_next first_frees.0 few frees.0.ends;
-      backward = frees.0.back;
+      backward = frees.0.list.back;
     };
-    members = λ k. omega (arith, frees.0.items k, filter-times (λ member. not (is_allocated_at atlas.records.items member)) (item_walk atlas.records n).met k);
+    members = λ k. omega (arith, frees.0.list.items k, filter-times (λ member. not (is_allocated_at atlas.records.items member)) (item_walk atlas.records n).met k);
   },
   entries-linked atlas few fit ns first_items.1 first_frees.1 links.1 frees.1 ends.1,
 )
@@ -69,15 +70,18 @@ three-of count used unused once k = omega (arith, once k, three-count used unuse
 pub stands-linked : (atlas : AtlasRecords) (state : AtlasState) → AllFit atlas.records → StandsFor atlas state → IsLinked atlas.records (walked_lists atlas.records)
 stands-linked atlas state fit stands =
     let records : Records = atlas.records in
+    let counts : HasCounts atlas = stands.keeps Counts in
+    let links : HasLinks atlas = stands.keeps Link in
+    let sharing : IsShared atlas = stands.keeps Sharing in
     let numbers : shelf_numbers (walked_entries atlas) ≡ (shelf_walk records).met = walked-numbers records (shelf_walk records).met in
     record {
       shelves = record {
-        forward = rw numbers (walk_by-leads shelf_chain.next records.shelves records.first_shelf fit.shelf_next fit.first_shelf stands.counts.shelves.1 stands.sharing.shelf_end);
-        backward = rw numbers stands.links.back;
+        forward = rw numbers (walk_by-leads shelf_chain.next records.shelves records.first_shelf fit.shelf_next fit.first_shelf counts.shelves.1 sharing.shelf_end);
+        backward = rw numbers links.back;
       };
-      entries = entries-linked atlas stands.counts.items.1 fit (shelf_walk records).met fit.first_items fit.first_frees stands.links.each_shelf stands.free_lists stands.sharing.item_ends;
-      unused_items = walk_by-leads item_chain.next records.items records.unused_items fit.item_next fit.unused_items stands.counts.items.1 stands.sharing.unused_item_end;
-      unused_shelves = walk_by-leads shelf_chain.next records.shelves records.unused_shelves fit.shelf_next fit.unused_shelves stands.counts.shelves.1 stands.sharing.unused_shelf_end;
-      shelves_once = rw numbers (three-of (length records.shelves) (shelf_walk records).met (unused_shelf_walk records).met stands.sharing.shelves);
-      items_once = three-of (length records.items) (item_numbers (walked_entries atlas)) (unused_item_walk records).met stands.sharing.items;
+      entries = entries-linked atlas counts.items.1 fit (shelf_walk records).met fit.first_items fit.first_frees links.each_shelf (stands.keeps FreeList) sharing.item_ends;
+      unused_items = walk_by-leads item_chain.next records.items records.unused_items fit.item_next fit.unused_items counts.items.1 sharing.unused_item_end;
+      unused_shelves = walk_by-leads shelf_chain.next records.shelves records.unused_shelves fit.shelf_next fit.unused_shelves counts.shelves.1 sharing.unused_shelf_end;
+      shelves_once = rw numbers (three-of (length records.shelves) (shelf_walk records).met (unused_shelf_walk records).met sharing.shelves);
+      items_once = three-of (length records.items) (item_numbers (walked_entries atlas)) (unused_item_walk records).met sharing.items;
     }

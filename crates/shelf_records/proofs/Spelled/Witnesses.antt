@@ -1,8 +1,8 @@
 -- Records that links spell as lists, and that say what they must beside their links, keep the rules of a snapshot.
 use Rattle.std.proofs.Common.{pos, ◌≡◌, ℕ, ◌≤◌, false, None, List, [], ◌∷◌, ◌++◌, length, map, refl, ap, subst, arith, sym, ◌∙◌}
 use Rattle.std.specs.Prelude.{◌<◌, ◌%◌}
-use Rattle.etagere_base.specs.declared.frames.Frame.{Frame}
-use Rattle.etagere_base.specs.Frames.{HasAllColumns, IsFrame}
+use Rattle.etagere_base.specs.declared.frames.Frame as frames
+use Rattle.etagere_base.specs.declared.faults.RestoreFault.TheVariants.{Frame, Counts, Link, Shelves, Runs, Neighbours, FreeList, Sharing, Unused, Space, Memory}
 use Rattle.etagere_links.specs.Chains.{LeadsBack}
 use Rattle.etagere_links.specs.Edits.{link_at}
 use Rattle.shelf_links.specs.Records.{shelf_chain}
@@ -16,13 +16,13 @@ use Rattle.etagere_links.specs.Lists.{HasEachOnce}
 use Rattle.etagere_links.specs.Walks.{Walked}
 use Rattle.shelf_links.proofs.AllLists.LinkedUnused.{three-count}
 use Rattle.shelf_links.proofs.AllLists.LinkedWalks.{AreWalks, HasWalks, linked-walks, linked-lists}
-use Rattle.shelf_records.specs.AtlasRecords.{AtlasRecords, is_allocated_at, along_of, spelled_shelf, spelled_state, walked_entries}
+use Rattle.shelf_records.specs.AtlasRecords.{AtlasRecords, is_allocated_at, along_of, spelled_shelf, spelled_state, state_spelled, walked_entries}
 use Rattle.shelf_model.specs.Merging.{both_free}
 use Rattle.shelf_records.specs.Private.Kept.{AreKept, HasFlag, IsPlaced, Witnessed, atlas_of, bare, state_of}
 use Rattle.shelf_model.specs.Space.{space_in}
 use Rattle.shelf_records.specs.StandsFor.{StopsInRange, HasItemLinks, AreStacked, HasItems, HasFreeList, StandsFor}
 use Rattle.shelf_model.specs.State.{Shelf, AtlasState}
-use Rattle.shelf_model.specs.Valid.{IsShelf}
+use Rattle.shelf_model.specs.Valid.{IsShelf, IsValid}
 
 -- a fact of each element's image is a fact of each element
 pub Each-unmap : {X Y : Type 0} (P : Y → Type 0) (f : X → Y) (xs : List X) → AllByRecursion P (map f xs) → AllByRecursion (λ (x : X). P (f x)) xs
@@ -44,17 +44,17 @@ item-links atlas entry is placed walks =
     record {
       items = stops-none (length atlas.records.items) (item_walk atlas.records entry.number) (ap (λ (w : Walked). w.end) walks.items);
       free_list = stops-none (length atlas.records.items) (free_walk atlas.records entry.number) (ap (λ (w : Walked). w.end) walks.free_list);
-      back = is.items.backward;
-      owners = placed.owners;
+      links = record { back = is.items.backward; owners = placed.owners };
     }
 
 -- the free list of a shelf, from the same
 free-list : (atlas : AtlasRecords) (entry : Entry) → IsEntry atlas.records entry → IsPlaced atlas entry → HasWalks atlas.records entry → HasFreeList atlas entry
 free-list atlas entry is placed walks =
-    record { items = placed.free_list; back = is.free_list.backward; ends = ap (λ (w : Walked). w.end) walks.free_list }
+    record { list = record { items = placed.free_list; back = is.free_list.backward }; ends = ap (λ (w : Walked). w.end) walks.free_list }
 
 -- the items of a shelf, from what its records say and its being a shelf
-has-items : (atlas : AtlasRecords) (entry : Entry) → IsPlaced atlas entry → IsShelf atlas.frame (spelled_shelf atlas entry) → HasFlag atlas entry → HasItems atlas entry
+has-items : (atlas : AtlasRecords) (entry : Entry) → IsPlaced atlas entry → IsShelf atlas.frame (spelled_shelf atlas entry) → HasFlag atlas entry
+    → HasItems atlas.frame atlas.records.shelves atlas.records.items entry
 has-items atlas entry placed shelf flag =
     record { places = placed.places; items = shelf.items; width = shelf.width; is_empty = flag }
 
@@ -79,69 +79,72 @@ witnessed-stands atlas lists state witnessed =
     let shelves : state.shelves ≡ map (spelled_shelf atlas) lists.entries = ap (λ (s : AtlasState). s.shelves) witnessed.spelled in
     let are_shelves : AllByRecursion (λ (entry : Entry). IsShelf atlas.frame (spelled_shelf atlas entry)) lists.entries =
     Each-unmap (IsShelf atlas.frame) (spelled_shelf atlas) lists.entries
-    (subst (λ (ss : List Shelf). AllByRecursion (IsShelf atlas.frame) ss) shelves (subst (λ (f : Frame). AllByRecursion (IsShelf f) state.shelves) frame witnessed.valid.shelves)) in
+    (subst (λ (ss : List Shelf). AllByRecursion (IsShelf atlas.frame) ss) shelves (subst (λ (f : frames.Frame). AllByRecursion (IsShelf f) state.shelves) frame witnessed.valid.shelves)) in
     let each : (P : Entry → Type 0) → AllByRecursion P lists.entries → AllByRecursion P (walked_entries atlas) = λ P ps. subst (λ (es : List Entry). AllByRecursion P es) entries ps in
+    let spelled : state ≡ state_spelled atlas = subst (λ (es : List Entry). state ≡ spelled_state atlas es) entries witnessed.spelled in
+    let valid : IsValid (state_spelled atlas) = subst IsValid spelled witnessed.valid in
     record {
-      spelled = subst (λ (es : List Entry). state ≡ spelled_state atlas es) entries witnessed.spelled;
-      frame = subst (λ (f : Frame). IsFrame 65535 f) frame witnessed.valid.frame;
-      columns = subst HasAllColumns frame witnessed.valid.columns;
-      counts = witnessed.counts;
-      links =
-          record {
-            shelves = stops-none (length atlas.records.shelves) (shelf_walk atlas.records) shelf_end;
-            unused_shelves = stops-none (length atlas.records.shelves) (unused_shelf_walk atlas.records) unused_shelf_end;
-            unused_items = stops-none (length atlas.records.items) (unused_item_walk atlas.records) unused_item_end;
-            back = subst (λ (ns : List ℕ). LeadsBack (link_at shelf_chain.previous atlas.records.shelves) None ns) numbers linked.shelves.backward;
-            each_shelf = each (HasItemLinks atlas) (Each-three (IsEntry atlas.records) (IsPlaced atlas) (HasWalks atlas.records) (HasItemLinks atlas) (item-links atlas) lists.entries linked.entries witnessed.placed walks.entries);
-          };
-      shelves =
-          record {
-            columns = Each-weaken (IsShelf state.frame) (λ (shelf : Shelf). shelf.column < state.frame.columns) state.shelves (λ shelf is. is.column) witnessed.valid.shelves;
-            ordered = witnessed.valid.ordered;
-            along = each (λ (entry : Entry). along_of atlas.records.shelves entry.number % atlas.frame.column_width ≡ 0)
-                (Each-weaken (IsPlaced atlas) (λ (entry : Entry). along_of atlas.records.shelves entry.number % atlas.frame.column_width ≡ 0) lists.entries (λ entry placed. placed.along) witnessed.placed);
-            across = subst (λ (ns : List ℕ). AreStacked atlas.records.shelves atlas.frame.column_width [] ns) numbers witnessed.stacked;
-            heights = Each-weaken (IsShelf state.frame) (λ (shelf : Shelf). 1 ≤ shelf.height) state.shelves (λ shelf is. is.height) witnessed.valid.shelves;
-            filled = witnessed.valid.heights;
-          };
-      items = each (HasItems atlas) (Each-three (IsPlaced atlas) (λ (entry : Entry). IsShelf atlas.frame (spelled_shelf atlas entry)) (HasFlag atlas) (HasItems atlas) (has-items atlas) lists.entries witnessed.placed are_shelves witnessed.flags);
-      neighbours =
-          record {
-            items = Each-weaken (IsShelf state.frame) (λ (shelf : Shelf). NoNeighbours both_free shelf.items) state.shelves (λ shelf is. is.apart) witnessed.valid.shelves;
-            shelves = witnessed.valid.apart;
-          };
-      free_lists = each (HasFreeList atlas) (Each-three (IsEntry atlas.records) (IsPlaced atlas) (HasWalks atlas.records) (HasFreeList atlas) (free-list atlas) lists.entries linked.entries witnessed.placed walks.entries);
-      sharing =
-          record {
-            shelves = subst (λ (ns : List ℕ). HasEachOnce (length atlas.records.shelves) (ns ++ (unused_shelf_walk atlas.records).met)) numbers
-                (subst (λ (us : List ℕ). HasEachOnce (length atlas.records.shelves) (shelf_numbers lists.entries ++ us)) unused_shelves
-                (two-of (length atlas.records.shelves) (shelf_numbers lists.entries) lists.unused_shelves linked.shelves_once));
-            items = subst (λ (es : List Entry). HasEachOnce (length atlas.records.items) (item_numbers es ++ (unused_item_walk atlas.records).met)) entries
-                (subst (λ (us : List ℕ). HasEachOnce (length atlas.records.items) (item_numbers lists.entries ++ us)) unused_items
-                (two-of (length atlas.records.items) (item_numbers lists.entries) lists.unused_items linked.items_once));
-            shelf_end = shelf_end;
-            unused_shelf_end = unused_shelf_end;
-            item_ends = each (λ (entry : Entry). (item_walk atlas.records entry.number).end ≡ no_link)
-                (Each-weaken (HasWalks atlas.records) (λ (entry : Entry). (item_walk atlas.records entry.number).end ≡ no_link) lists.entries (λ entry walked. ap (λ (w : Walked). w.end) walked.items) walks.entries);
-            unused_item_end = unused_item_end;
-          };
-      unused = subst (λ (us : List ℕ). AllByRecursion (λ item. is_allocated_at atlas.records.items item ≡ false) us) unused_items witnessed.unused;
-      space = witnessed.space;
+      spelled = spelled;
+      columns = valid.columns;
+      keeps = elim [
+        | Frame ↦ valid.frame
+        | Counts ↦ witnessed.counts
+        | Link ↦ record {
+          shelves = stops-none (length atlas.records.shelves) (shelf_walk atlas.records) shelf_end;
+          unused_shelves = stops-none (length atlas.records.shelves) (unused_shelf_walk atlas.records) unused_shelf_end;
+          unused_items = stops-none (length atlas.records.items) (unused_item_walk atlas.records) unused_item_end;
+          back = subst (λ (ns : List ℕ). LeadsBack (link_at shelf_chain.previous atlas.records.shelves) None ns) numbers linked.shelves.backward;
+          each_shelf = each (HasItemLinks atlas) (Each-three (IsEntry atlas.records) (IsPlaced atlas) (HasWalks atlas.records) (HasItemLinks atlas) (item-links atlas) lists.entries linked.entries witnessed.placed walks.entries);
+        }
+        | Shelves ↦ record {
+          columns = Each-weaken (IsShelf atlas.frame) (λ (shelf : Shelf). shelf.column < atlas.frame.columns) (state_spelled atlas).shelves (λ shelf is. is.column) valid.shelves;
+          ordered = valid.ordered;
+          along = each (λ (entry : Entry). along_of atlas.records.shelves entry.number % atlas.frame.column_width ≡ 0)
+              (Each-weaken (IsPlaced atlas) (λ (entry : Entry). along_of atlas.records.shelves entry.number % atlas.frame.column_width ≡ 0) lists.entries (λ entry placed. placed.along) witnessed.placed);
+          across = subst (λ (es : List Entry). AreStacked atlas.records.shelves atlas.frame.column_width [] (shelf_numbers es)) entries witnessed.stacked;
+          heights = Each-weaken (IsShelf atlas.frame) (λ (shelf : Shelf). 1 ≤ shelf.height) (state_spelled atlas).shelves (λ shelf is. is.height) valid.shelves;
+          filled = valid.heights;
+        }
+        | Runs ↦ each (HasItems atlas.frame atlas.records.shelves atlas.records.items)
+            (Each-three (IsPlaced atlas) (λ (entry : Entry). IsShelf atlas.frame (spelled_shelf atlas entry)) (HasFlag atlas) (HasItems atlas.frame atlas.records.shelves atlas.records.items)
+            (has-items atlas) lists.entries witnessed.placed are_shelves witnessed.flags)
+        | Neighbours ↦ record {
+          items = Each-weaken (IsShelf atlas.frame) (λ (shelf : Shelf). NoNeighbours both_free shelf.items) (state_spelled atlas).shelves (λ shelf is. is.apart) valid.shelves;
+          shelves = valid.apart;
+        }
+        | FreeList ↦ each (HasFreeList atlas) (Each-three (IsEntry atlas.records) (IsPlaced atlas) (HasWalks atlas.records) (HasFreeList atlas) (free-list atlas) lists.entries linked.entries witnessed.placed walks.entries)
+        | Sharing ↦ record {
+          shelves = subst (λ (ns : List ℕ). HasEachOnce (length atlas.records.shelves) (ns ++ (unused_shelf_walk atlas.records).met)) numbers
+              (subst (λ (us : List ℕ). HasEachOnce (length atlas.records.shelves) (shelf_numbers lists.entries ++ us)) unused_shelves
+              (two-of (length atlas.records.shelves) (shelf_numbers lists.entries) lists.unused_shelves linked.shelves_once));
+          items = subst (λ (es : List Entry). HasEachOnce (length atlas.records.items) (item_numbers es ++ (unused_item_walk atlas.records).met)) entries
+              (subst (λ (us : List ℕ). HasEachOnce (length atlas.records.items) (item_numbers lists.entries ++ us)) unused_items
+              (two-of (length atlas.records.items) (item_numbers lists.entries) lists.unused_items linked.items_once));
+          shelf_end = shelf_end;
+          unused_shelf_end = unused_shelf_end;
+          item_ends = each (λ (entry : Entry). (item_walk atlas.records entry.number).end ≡ no_link)
+              (Each-weaken (HasWalks atlas.records) (λ (entry : Entry). (item_walk atlas.records entry.number).end ≡ no_link) lists.entries (λ entry walked. ap (λ (w : Walked). w.end) walked.items) walks.entries);
+          unused_item_end = unused_item_end;
+        }
+        | Unused ↦ subst (λ (us : List ℕ). AllByRecursion (λ item. is_allocated_at atlas.records.items item ≡ false) us) unused_items witnessed.unused
+        | Space ↦ subst (λ (s : AtlasState). atlas.allocated_space ≡ pos (space_in s.shelves)) spelled witnessed.space
+        | Memory ↦ tt
+      ];
     }
 
 -- records that keep every rule stand for the state that they spell
-pub kept-stands : (frame : Frame) (records : Records) → AreKept frame records → StandsFor (atlas_of frame records) (state_of frame records)
+pub kept-stands : (frame : frames.Frame) (records : Records) → AreKept frame records → StandsFor (atlas_of frame records) (state_of frame records)
 kept-stands frame records kept = witnessed-stands (atlas_of frame records) (walked_lists records) (state_of frame records) kept
 
 -- records that spell lists keep every rule
-pub witnessed-kept : (frame : Frame) (records : Records) (lists : Lists) → Witnessed (atlas_of frame records) lists (state_of frame records) → AreKept frame records
+pub witnessed-kept : (frame : frames.Frame) (records : Records) (lists : Lists) → Witnessed (atlas_of frame records) lists (state_of frame records) → AreKept frame records
 witnessed-kept frame records lists witnessed =
     let same : lists ≡ walked_lists records =
     sym (linked-lists records lists (linked-walks records lists witnessed.counts.shelves.1 witnessed.counts.items.1 witnessed.linked)) in
     subst (λ (l : Lists). Witnessed (atlas_of frame records) l (state_of frame records)) same witnessed
 
 -- records that spell the lists of a state keep every rule, and spell that state
-pub kept-of : (frame : Frame) (records : Records) (lists : Lists) (state : AtlasState) → Witnessed (record { frame = frame; records = records; allocated_space = pos (space_in state.shelves) }) lists state → (state_of frame records ≡ state) × AreKept frame records
+pub kept-of : (frame : frames.Frame) (records : Records) (lists : Lists) (state : AtlasState) → Witnessed (record { frame = frame; records = records; allocated_space = pos (space_in state.shelves) }) lists state → (state_of frame records ≡ state) × AreKept frame records
 kept-of frame records lists state witnessed =
     let met : walked_lists records ≡ lists =
     linked-lists records lists (linked-walks records lists witnessed.counts.shelves.1 witnessed.counts.items.1 witnessed.linked) in

@@ -1,21 +1,13 @@
 -- The rules of a snapshot over lists that walks have met: what contracts of the private passes cite
 -- that judge them.
-use Rattle.std.specs.Prelude.{◌≡◌, ℕ, ◌+◌, ◌/◌, ◌%◌, ◌<◌, ◌≤◌, true, ◌&&◌, ◌||◌, ◌==◌, Bool, false, not, nat_le, nat_lt, pos, None, List, [], ◌∷◌, map, slice_index_or, if◌then◌else◌}
+use Rattle.std.specs.Prelude.{◌≡◌, ℕ, ◌+◌, ◌/◌, true, ◌&&◌, ◌||◌, ◌==◌, Bool, false, not, nat_le, nat_lt, pos, None, List, [], ◌∷◌, slice_index_or, if◌then◌else◌}
 use Rattle.etagere_base.specs.declared.frames.Frame.{Frame}
 use Rattle.etagere_base.specs.Frames.{across_side}
-use Rattle.std.specs.List.{AllByRecursion}
-use Rattle.etagere_base.specs.Lists.{NoNeighbours, times}
+use Rattle.etagere_base.specs.Lists.{times}
 use Rattle.shelf_links.specs.declared.records.LinkedItem.{LinkedItem}
 use Rattle.shelf_links.specs.declared.records.LinkedShelf.{LinkedShelf}
-use Rattle.etagere_links.specs.Chains.{LeadsBack}
-use Rattle.etagere_links.specs.Edits.{link_at}
-use Rattle.shelf_links.specs.RecordLists.{Entry, shelf_numbers}
-use Rattle.shelf_links.specs.Records.{free_list, item_chain}
-use Rattle.shelf_records.specs.AtlasRecords.{AtlasRecords, along_of, across_of, height_of, is_allocated_at, shelf_of, spelled_shelf}
-use Rattle.shelf_model.specs.Places.{column_height}
-use Rattle.shelf_records.specs.StandsFor.{AreStacked, ListsFree}
-use Rattle.shelf_model.specs.State.{Shelf}
-use Rattle.shelf_model.specs.Valid.{is_out_of_order}
+use Rattle.shelf_links.specs.RecordLists.{Entry}
+use Rattle.shelf_records.specs.AtlasRecords.{AtlasRecords, along_of, across_of, height_of, is_allocated_at, shelf_of}
 
 -- an atlas with these records; its links to first records and its space are looked at by no rule
 -- that a pass judges
@@ -68,22 +60,6 @@ FillFrom frame shelves column height (entry ∷ entries) =
     × FillFrom frame shelves (column_at frame shelves entry)
     (height_below frame shelves column height entry + height_of shelves entry.number) entries
 
--- the shelves fill each column, column after column; each record says where its shelf begins
-pub record HasShelvesIn (atlas : AtlasRecords) (entries : List Entry) : Type 0 where
-  pub columns :
-      AllByRecursion (λ (shelf : Shelf). shelf.column < atlas.frame.columns)
-      (map (spelled_shelf atlas) entries)
-  pub ordered : NoNeighbours is_out_of_order (map (spelled_shelf atlas) entries)
-  pub along :
-      AllByRecursion
-      (λ (entry : Entry). along_of atlas.records.shelves entry.number % atlas.frame.column_width ≡ 0)
-      entries
-  pub across : AreStacked atlas.records.shelves atlas.frame.column_width [] (shelf_numbers entries)
-  pub heights : AllByRecursion (λ (shelf : Shelf). 1 ≤ shelf.height) (map (spelled_shelf atlas) entries)
-  pub filled :
-      (column : ℕ) → column < atlas.frame.columns
-      → column_height column (map (spelled_shelf atlas) entries) ≡ across_side atlas.frame
-
 -- a record is marked as one in use, and names this shelf
 abbrev pub is_own : List LinkedItem → List Bool → ℕ → ℕ → Bool
 is_own items marks shelf item = slice_index_or marks item false && shelf_of items item == shelf
@@ -103,17 +79,3 @@ AreOwn items marks entry =
 abbrev pub is_own_free : List LinkedItem → List Bool → ℕ → ℕ → Bool
 is_own_free items marks shelf item =
     is_own items marks shelf item && not (is_allocated_at items item)
-
--- a free list has each free item of its shelf once, and no other, and links back to the one before
-pub record FreeBack (records : List LinkedItem) (entry : Entry) : Type 0 where
-  pub items : ListsFree records entry
-  pub back : LeadsBack (link_at free_list.previous records) None entry.free_list
-
--- items link back to the one before, and name their shelf
-pub record ItemsLinkBack (items : List LinkedItem) (shelf : ℕ) (numbers : List ℕ) : Type 0 where
-  pub back : LeadsBack (link_at item_chain.previous items) None numbers
-  pub owners : AllByRecursion (λ item. shelf_of items item ≡ shelf) numbers
-
--- the items of a shelf do
-abbrev pub LinkBack : List LinkedItem → Entry → Type 0
-LinkBack items entry = ItemsLinkBack items entry.number entry.items

@@ -13,8 +13,8 @@ use Rattle.shelf_model.specs.Space.{allocated_width}
 use Rattle.shelf_model.specs.State.{is_free}
 use Rattle.shelf_model.specs.Valid.{IsItem}
 use Rattle.shelf_records.specs.AtlasRecords.{is_allocated_at, item_at, shelf_of, width_of}
-use Rattle.shelf_records.specs.Private.Judging.{ItemsLinkBack}
-use Rattle.shelf_records.specs.StandsFor.{LieFrom, free_present}
+use Rattle.shelf_links.specs.RecordLists.{Entry}
+use Rattle.shelf_records.specs.StandsFor.{LieFrom, LinkBack, free_present}
 use Rattle.shelf_records.proofs.Spelled.SpelledPlaces.{free-spelled}
 use Rattle.shelf_restoring.specs.Private.Rules.{ApartFrom, LinkedFrom, RowFrom}
 
@@ -55,12 +55,12 @@ module _ (items : List LinkedItem) where
   parts-linked shelf before (number ∷ numbers) back owners = ((back.0, owners.0), parts-linked shelf (Some number) numbers back.1 owners.1)
 
   -- items link back and name their shelf just where they do so one after the other
-  pub linked-back : (shelf : ℕ) (numbers : List ℕ) → LinkedFrom items shelf None numbers → ItemsLinkBack items shelf numbers
-  linked-back shelf numbers linked = let parts = linked-parts shelf None numbers linked in record { back = parts.0; owners = parts.1 }
+  pub linked-back : (entry : Entry) → LinkedFrom items entry.number None entry.items → LinkBack items entry
+  linked-back entry linked = let parts = linked-parts entry.number None entry.items linked in record { back = parts.0; owners = parts.1 }
 
   -- and the other way round
-  pub back-linked : (shelf : ℕ) (numbers : List ℕ) → ItemsLinkBack items shelf numbers → LinkedFrom items shelf None numbers
-  back-linked shelf numbers back = parts-linked shelf None numbers back.back back.owners
+  pub back-linked : (entry : Entry) → LinkBack items entry → LinkedFrom items entry.number None entry.items
+  back-linked entry back = parts-linked entry.number None entry.items back.back back.owners
 
   -- items in a row lie side by side
   pub row-lies : (frame : Frame) (here : ℕ) (numbers : List ℕ) → RowFrom frame items here numbers

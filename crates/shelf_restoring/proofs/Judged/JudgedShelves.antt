@@ -9,8 +9,9 @@ use Rattle.etagere_base.specs.Lists.{NoNeighbours}
 use Rattle.shelf_links.specs.declared.records.LinkedItem.{LinkedItem}
 use Rattle.shelf_links.specs.declared.records.LinkedShelf.{LinkedShelf}
 use Rattle.shelf_links.specs.RecordLists.{Entry}
-use Rattle.shelf_records.specs.AtlasRecords.{along_of, height_of, spelled_shelf}
-use Rattle.shelf_records.specs.Private.Judging.{HasShelvesIn, atlas_of_records, column_at, height_below, is_later, StackFrom, FillFrom}
+use Rattle.shelf_records.specs.AtlasRecords.{along_of, height_of, spelled_shelf, spelled_state}
+use Rattle.shelf_records.specs.Private.Judging.{atlas_of_records, column_at, height_below, is_later, StackFrom, FillFrom}
+use Rattle.shelf_records.specs.StandsFor.{HasShelves}
 use Rattle.shelf_model.specs.State.{Shelf}
 use Rattle.shelf_model.specs.Valid.{is_out_of_order}
 use Rattle.shelf_restoring.specs.Private.Rules.{FollowFrom, IsNext}
@@ -82,7 +83,7 @@ module _ (frame : Frame) (shelves : List LinkedShelf) (items : List LinkedItem) 
   nothing false height e = refl
 
   -- shelves that keep the rule follow
-  pub shelves-follow : IsFrame longest_side frame → HasShelvesIn (atlas_of_records frame shelves items) entries → FollowFrom frame shelves 0 0 entries
+  pub shelves-follow : IsFrame longest_side frame → HasShelves shelves entries (spelled_state (atlas_of_records frame shelves items) entries) → FollowFrom frame shelves 0 0 entries
   shelves-follow is has =
       let rise = ordered-rises frame shelves items entries has.ordered in
       let fills : FillsRest frame shelves items 0 0 entries = λ k above within. omega (arith, nothing (0 == k) 0 refl, has.filled k within) in
@@ -93,7 +94,7 @@ module _ (frame : Frame) (shelves : List LinkedShelf) (items : List LinkedItem) 
       (each-unmap (λ (shelf : Shelf). 1 ≤ shelf.height) (spelled_shelf (atlas_of_records frame shelves items)) entries has.heights)
 
   -- shelves that follow keep the rule
-  pub follow-kept : FollowFrom frame shelves 0 0 entries → HasShelvesIn (atlas_of_records frame shelves items) entries
+  pub follow-kept : FollowFrom frame shelves 0 0 entries → HasShelves shelves entries (spelled_state (atlas_of_records frame shelves items) entries)
   follow-kept follow =
       let atlas = atlas_of_records frame shelves items in
       let parts = follow-parts frame shelves 0 0 entries follow in

@@ -6,7 +6,8 @@ use Rattle.etagere_base.specs.Lists.{times}
 use Rattle.etagere_links.specs.Lists.{HasEachOnce}
 use Rattle.shelf_links.specs.declared.records.LinkedItem.{LinkedItem}
 use Rattle.shelf_links.specs.RecordLists.{Entry, item_numbers, shelf_numbers}
-use Rattle.shelf_records.specs.Private.Judging.{AreOwn, AreUsed, FreeBack, LinkBack}
+use Rattle.shelf_records.specs.Private.Judging.{AreOwn, AreUsed}
+use Rattle.shelf_records.specs.StandsFor.{FreeBack, LinkBack}
 use Rattle.shelf_records.proofs.Judged.FreeLists.{lists-length, lists-own, own-lists}
 use Rattle.shelf_restoring.specs.Private.Rules.{FreeOwn}
 use Rattle.shelf_restoring.proofs.Judged.OwnItems.{NamesItsOwn, own-items}

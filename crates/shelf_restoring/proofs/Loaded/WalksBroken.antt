@@ -112,7 +112,7 @@ chain-broken atlas marks numbers i n Memory met within is breaks marked = tt
 
 -- a free item of a shelf is an item of it
 free-items : (atlas : AtlasRecords) (n k : ℕ) → HasFreeList atlas (walked_entry atlas.records n) → times k (free_walk atlas.records n).met ≤ times k (item_walk atlas.records n).met
-free-items atlas n k free = omega (arith, free.items k, filter-times (λ member. not (is_allocated_at atlas.records.items member)) (item_walk atlas.records n).met k)
+free-items atlas n k free = omega (arith, free.list.items k, filter-times (λ member. not (is_allocated_at atlas.records.items member)) (item_walk atlas.records n).met k)
 
 -- how often a number is a free item of shelves and of the next one, where free items are items: no more than of all items
 pub free-times : (atlas : AtlasRecords) (numbers : List ℕ) (i n k : ℕ) → AllByRecursion (HasFreeList atlas) (map (walked_entry atlas.records) numbers)

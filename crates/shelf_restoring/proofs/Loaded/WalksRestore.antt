@@ -4,8 +4,8 @@ use Rattle.std.proofs.Common.{◌≡◌, List, length, refl, ap, sym, ◌∙◌}
 use Rattle.etagere_base.specs.declared.faults.RestoreFault.{RestoreFault}
 use Rattle.etagere_base.specs.declared.faults.RestoreFault.TheVariants.{Frame, Counts, Link, Shelves, Runs, Neighbours, FreeList, Sharing, Unused, Space, Memory}
 use Rattle.shelf_links.specs.RecordLists.{Entry, item_numbers}
-use Rattle.shelf_records.specs.AtlasRecords.{AtlasRecords, walked_entries}
-use Rattle.shelf_records.specs.Snapshots.{IsBroken, state_spelled}
+use Rattle.shelf_records.specs.AtlasRecords.{AtlasRecords, state_spelled, walked_entries}
+use Rattle.shelf_records.specs.Snapshots.{IsBroken}
 use Rattle.shelf_records.specs.StandsFor.{StandsFor}
 use Rattle.shelf_model.specs.State.{items_in_use}
 use Rattle.shelf_records.proofs.Spelled.SpelledNumbers.{items_in_use-spelled}
@@ -19,14 +19,14 @@ module _ (atlas : AtlasRecords) where
 
   -- records that stand for what they spell are refused for want of memory alone
   pub stands-whole : StandsFor atlas (state_spelled atlas) → (fault : RestoreFault) → IsBroken atlas fault → fault ≡ Memory
-  stands-whole stands Frame broken = absurd (broken stands.frame)
-  stands-whole stands Counts broken = absurd (broken stands.counts)
-  stands-whole stands Link broken = absurd (broken stands.links)
-  stands-whole stands Shelves broken = absurd (broken stands.shelves)
-  stands-whole stands Runs broken = absurd (broken stands.items)
-  stands-whole stands Neighbours broken = absurd (broken stands.neighbours)
-  stands-whole stands FreeList broken = absurd (broken stands.free_lists)
-  stands-whole stands Sharing broken = absurd (broken stands.sharing)
-  stands-whole stands Unused broken = absurd (broken stands.unused)
-  stands-whole stands Space broken = absurd (broken stands.space)
+  stands-whole stands Frame broken = absurd (broken (stands.keeps Frame))
+  stands-whole stands Counts broken = absurd (broken (stands.keeps Counts))
+  stands-whole stands Link broken = absurd (broken (stands.keeps Link))
+  stands-whole stands Shelves broken = absurd (broken (stands.keeps Shelves))
+  stands-whole stands Runs broken = absurd (broken (stands.keeps Runs))
+  stands-whole stands Neighbours broken = absurd (broken (stands.keeps Neighbours))
+  stands-whole stands FreeList broken = absurd (broken (stands.keeps FreeList))
+  stands-whole stands Sharing broken = absurd (broken (stands.keeps Sharing))
+  stands-whole stands Unused broken = absurd (broken (stands.keeps Unused))
+  stands-whole stands Space broken = absurd (broken (stands.keeps Space))
   stands-whole stands Memory broken = refl

@@ -1,7 +1,5 @@
--- The rules of a snapshot over lists that walks have met, as passes judge them, by their faults.
-use Rattle.std.specs.Prelude.{◌≡◌, ℕ, ℤ, ◌+◌, ◌%◌, ◌≤◌, ◌&&◌, ◌||◌, ◌==◌, Bool, true, false, not, pos, Option, None, Some, List, [], ◌∷◌, length, map}
-use Rattle.etagere_base.specs.declared.faults.RestoreFault.{RestoreFault}
-use Rattle.etagere_base.specs.declared.faults.RestoreFault.TheVariants.{Link, Shelves, Runs, Neighbours, FreeList, Unused, Space, Memory}
+-- What is left of the rules of a snapshot, behind what a pass has seen of a list.
+use Rattle.std.specs.Prelude.{◌≡◌, ℕ, ◌+◌, ◌%◌, ◌≤◌, ◌&&◌, ◌||◌, ◌==◌, Bool, true, false, not, Option, None, Some, List, [], ◌∷◌, length}
 use Rattle.etagere_base.specs.declared.frames.Frame.{Frame}
 use Rattle.etagere_base.specs.Frames.{across_side}
 use Rattle.std.specs.List.{AllByRecursion}
@@ -11,34 +9,10 @@ use Rattle.shelf_links.specs.RecordLists.{Entry}
 use Rattle.etagere_links.specs.Chains.{LeadsBack}
 use Rattle.etagere_links.specs.Edits.{link_at}
 use Rattle.shelf_links.specs.Records.{free_list, item_chain}
-use Rattle.shelf_records.specs.AtlasRecords.{across_of, along_of, height_of, is_allocated_at, item_at, item_place_of, shelf_of, spelled_shelf, spelled_state, width_of}
-use Rattle.shelf_records.specs.Private.Judging.{FreeBack, HasShelvesIn, LinkBack, atlas_of_records, column_at, height_below, is_own_free}
+use Rattle.shelf_records.specs.AtlasRecords.{across_of, along_of, height_of, is_allocated_at, item_at, item_place_of, shelf_of, width_of}
+use Rattle.shelf_records.specs.Private.Judging.{column_at, height_below, is_own_free}
 use Rattle.shelf_model.specs.Valid.{IsItem}
-use Rattle.shelf_model.specs.Space.{space_in}
-use Rattle.shelf_records.specs.StandsFor.{HasItems, HasNeighbours, free_present}
-
--- all rules that are judged over lists
-pub record KeepsRules (frame : Frame) (shelves : List LinkedShelf) (items : List LinkedItem) (entries : List Entry) (unused : List ℕ) (space : ℤ) : Type 0 where
-  pub links : AllByRecursion (LinkBack items) entries
-  pub free_lists : AllByRecursion (FreeBack items) entries
-  pub stacked : HasShelvesIn (atlas_of_records frame shelves items) entries
-  pub filled : AllByRecursion (HasItems (atlas_of_records frame shelves items)) entries
-  pub neighbours : HasNeighbours (spelled_state (atlas_of_records frame shelves items) entries)
-  pub unused_free : AllByRecursion (λ item. is_allocated_at items item ≡ false) unused
-  pub sum : space ≡ pos (space_in (map (spelled_shelf (atlas_of_records frame shelves items)) entries))
-
--- the rule whose breach is this fault is broken; want of memory breaks none
-abbrev pub BreaksRule : Frame → List LinkedShelf → List LinkedItem → List Entry → List ℕ → ℤ → RestoreFault → Type 0
-BreaksRule frame shelves items entries unused space Link = AllByRecursion (LinkBack items) entries → ⊥
-BreaksRule frame shelves items entries unused space FreeList = AllByRecursion (FreeBack items) entries → ⊥
-BreaksRule frame shelves items entries unused space Shelves = HasShelvesIn (atlas_of_records frame shelves items) entries → ⊥
-BreaksRule frame shelves items entries unused space Runs = AllByRecursion (HasItems (atlas_of_records frame shelves items)) entries → ⊥
-BreaksRule frame shelves items entries unused space Neighbours = HasNeighbours (spelled_state (atlas_of_records frame shelves items) entries) → ⊥
-BreaksRule frame shelves items entries unused space Unused = AllByRecursion (λ item. is_allocated_at items item ≡ false) unused → ⊥
-BreaksRule frame shelves items entries unused space Space =
-    space ≡ pos (space_in (map (spelled_shelf (atlas_of_records frame shelves items)) entries)) → ⊥
-BreaksRule frame shelves items entries unused space Memory = Unit {0}
-BreaksRule frame shelves items entries unused space fault = ⊥
+use Rattle.shelf_records.specs.StandsFor.{free_present}
 
 -- a shelf stands where so much of this column is filled: it is of this column, or the first of the next one after this
 -- one was filled, and it begins where its column and the one before it say

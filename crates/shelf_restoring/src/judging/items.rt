@@ -1,6 +1,6 @@
 //! What one pass over the items of a shelf finds: of their links, their places, which are free, and their widths.
 //!
-//! Definitions: `ItemsLinkBack` of `Judging`, `LieFrom` of `StandsFor`, and `Rules` for what is left of a list.
+//! Definitions: `LinkBack` and `LieFrom` of `StandsFor`, and `Rules` for what is left of a list.
 
 ghost use Rattle.std.specs.Prelude.{◌≡◌, ◌≤◌, ◌*◌, ◌%◌, None, false, length, map};
 ghost use Rattle.etagere_base.specs.Deciding.{Decides};

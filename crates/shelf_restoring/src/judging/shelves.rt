@@ -1,8 +1,7 @@
 //! One pass over the shelves that walks have met: of each, what the rules say of its links, items and free list, and of
 //! where it stands.
 //!
-//! Definitions: `LinkBack` and `HasShelvesIn` of `Judging`, the latter being `HasShelves` of `StandsFor` over lists,
-//! `HasItems` and `HasNeighbours` of `StandsFor`, and `FreeOwn` of `Rules`.
+//! Definitions: `LinkBack`, `HasShelves`, `HasItems` and `HasNeighbours` of `StandsFor`, and `FreeOwn` of `Rules`.
 
 ghost use Rattle.std.specs.Prelude.{◌≡◌, ◌≤◌, ◌*◌, IsTrue, length, map};
 ghost use Rattle.etagere_base.specs.Deciding.{Decides};
@@ -14,8 +13,8 @@ ghost use Rattle.shelf_model.specs.Merging.{both_free};
 ghost use Rattle.shelf_model.specs.Space as space;
 ghost use Rattle.shelf_model.specs.State as state;
 ghost use Rattle.shelf_records.specs.AtlasRecords as spec;
-ghost use Rattle.shelf_records.specs.Private.Judging.{HasShelvesIn, LinkBack, atlas_of_records};
-ghost use Rattle.shelf_records.specs.StandsFor.{HasItems, HasNeighbours};
+ghost use Rattle.shelf_records.specs.Private.Judging.{atlas_of_records};
+ghost use Rattle.shelf_records.specs.StandsFor.{HasItems, HasNeighbours, HasShelves, LinkBack};
 ghost use Rattle.shelf_restoring.specs.Private.Rules.{FreeOwn};
 ghost use Rattle.std.specs.List.{AllByRecursion};
 
@@ -74,9 +73,10 @@ pub fn judge_shelves(
     ensures free { Decides result.have_free_lists
         (AllByRecursion (FreeOwn items.now marks.now) entries.now) }
     ensures stacked { Decides result.are_stacked
-        (HasShelvesIn (atlas_of_records frame.now shelves.now items.now) entries.now) }
+        (HasShelves shelves.now entries.now
+        (spec.spelled_state (atlas_of_records frame.now shelves.now items.now) entries.now)) }
     ensures filled { Decides result.are_filled
-        (AllByRecursion (HasItems (atlas_of_records frame.now shelves.now items.now)) entries.now) }
+        (AllByRecursion (HasItems frame.now shelves.now items.now) entries.now) }
     ensures apart { IsTrue result.are_stacked → Decides result.are_apart
         (HasNeighbours
         (spec.spelled_state (atlas_of_records frame.now shelves.now items.now) entries.now)) }
@@ -129,7 +129,7 @@ fn judge_shelf(
     ensures links { Decides result.is_linked (LinkBack items.now entry.now) }
     ensures free { Decides result.has_free_list (FreeOwn items.now marks.now entry.now) }
     ensures filled { Decides result.is_filled
-        (HasItems (atlas_of_records frame.now shelves.now items.now) entry.now) }
+        (HasItems frame.now shelves.now items.now entry.now) }
     ensures apart { Decides result.is_apart
         (NoNeighbours both_free (map (spec.item_at items.now) entry.now.items)) }
     ensures empty { result.is_empty ≡ state.is_one_free (map (spec.item_at items.now) entry.now.items) }

@@ -1,7 +1,7 @@
 //! Whether no unused record is allocated, and whether the allocated space is the sum that it should
 //! be.
 //!
-//! Definitions: the rules `unused` and `space` of `StandsFor`.
+//! Definitions: the rules `Unused` and `Space` of `Keeps`.
 
 ghost use Rattle.std.specs.Prelude.{◌≡◌, false, pos};
 ghost use Rattle.etagere_base.specs.Deciding.{Decides};

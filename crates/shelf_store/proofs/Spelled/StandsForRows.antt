@@ -1,14 +1,15 @@
 -- The records of a small atlas stand for its state, by computing.
+use Rattle.etagere_base.specs.declared.faults.RestoreFault.TheVariants.{Frame, Counts, Link, Shelves, Runs, Neighbours, FreeList, Sharing, Unused, Space, Memory}
 use Rattle.std.proofs.Common.{◌≡◌, ℕ, true, false, None, Some, [], ◌∷◌, refl, pos, arith, lit<}
 use Rattle.std.specs.Prelude.{nat_lt, if◌then◌else◌}
 use Rattle.etagere_base.specs.Lists.{times}
-use Rattle.etagere_base.specs.declared.frames.Frame.{Frame}
+use Rattle.etagere_base.specs.declared.frames.Frame as frames
 use Rattle.shelf_records.specs.AtlasRecords.{AtlasRecords, spelled_state, walked_entries}
 use Rattle.shelf_records.specs.StandsFor.{StandsFor}
 use Rattle.shelf_model.specs.State.{AtlasState}
 
 -- an atlas of 20 by 8
-abbrev small_frame : Frame
+abbrev small_frame : frames.Frame
 small_frame =
     record {
       width = 20;
@@ -100,57 +101,56 @@ small_stands : StandsFor small_records small_state
 small_stands =
     record {
       spelled = refl;
-      frame =
-          record {
-            width = (omega arith, omega arith);
-            height = (omega arith, omega arith);
-            area = lit< tt;
-            alignment_width = (omega arith, lit< tt);
-            alignment_height = (omega arith, lit< tt);
-            column_width = omega arith;
-            aligned = refl;
-            columns = (omega arith, omega arith);
-          };
       columns = refl;
-      counts = record { shelves = (omega arith, omega arith); items = (omega arith, omega arith) };
-      links =
+      keeps = elim [
+        | Frame ↦ record {
+          width = (omega arith, omega arith);
+          height = (omega arith, omega arith);
+          area = lit< tt;
+          alignment_width = (omega arith, lit< tt);
+          alignment_height = (omega arith, lit< tt);
+          column_width = omega arith;
+          aligned = refl;
+          columns = (omega arith, omega arith);
+        }
+        | Counts ↦ record { shelves = (omega arith, omega arith); items = (omega arith, omega arith) }
+        | Link ↦ record {
+          shelves = refl;
+          unused_shelves = refl;
+          unused_items = refl;
+          back = (refl, tt);
+          each_shelf =
+              (record { items = refl; free_list = refl; links = record { back = (refl, (refl, tt)); owners = (refl, (refl, tt)) } }, tt);
+        }
+        | Shelves ↦ record {
+          columns = (omega arith, tt);
+          ordered = tt;
+          along = (refl, tt);
+          across = (refl, tt);
+          heights = (omega arith, tt);
+          filled = λ column below. let first : column ≡ 0 = omega arith in rw first refl;
+        }
+        | Runs ↦ (
           record {
-            shelves = refl;
-            unused_shelves = refl;
-            unused_items = refl;
-            back = (refl, tt);
-            each_shelf =
-                (record { items = refl; free_list = refl; back = (refl, (refl, tt)); owners = (refl, (refl, tt)) }, tt);
-          };
-      shelves =
-          record {
-            columns = (omega arith, tt);
-            ordered = tt;
-            along = (refl, tt);
-            across = (refl, tt);
-            heights = (omega arith, tt);
-            filled = λ column below. let first : column ≡ 0 = omega arith in rw first refl;
-          };
-      items = (
-        record {
-          places = (refl, (refl, tt));
-          items = (record { width = omega arith; aligned = refl }, (record { width = omega arith; aligned = refl }, tt));
-          width = refl;
-          is_empty = refl;
-        },
-        tt,
-      );
-      neighbours = record { items = ((refl, tt), tt); shelves = tt };
-      free_lists = (record { items = λ item. refl; back = (refl, tt); ends = refl }, tt);
-      sharing =
-          record {
-            shelves = one-once;
-            items = two-once;
-            shelf_end = refl;
-            unused_shelf_end = refl;
-            item_ends = (refl, tt);
-            unused_item_end = refl;
-          };
-      unused = tt;
-      space = refl;
+            places = (refl, (refl, tt));
+            items = (record { width = omega arith; aligned = refl }, (record { width = omega arith; aligned = refl }, tt));
+            width = refl;
+            is_empty = refl;
+          },
+          tt,
+        )
+        | Neighbours ↦ record { items = ((refl, tt), tt); shelves = tt }
+        | FreeList ↦ (record { list = record { items = λ item. refl; back = (refl, tt) }; ends = refl }, tt)
+        | Sharing ↦ record {
+          shelves = one-once;
+          items = two-once;
+          shelf_end = refl;
+          unused_shelf_end = refl;
+          item_ends = (refl, tt);
+          unused_item_end = refl;
+        }
+        | Unused ↦ tt
+        | Space ↦ refl
+        | Memory ↦ tt
+      ];
     }

@@ -1,4 +1,4 @@
-use Rattle.std.proofs.Common.{◌≡◌, ℕ, List, length, ap, arith, refl, sym, ◌∙◌}
+use Rattle.std.proofs.Common.{ℕ, List, length, ap, arith, refl, ◌∙◌}
 use Rattle.std.proofs.lemmas.List.{length-map}
 use Rattle.shelf_links.specs.RecordLists.{shelf_walk, walked_entry}
 use Rattle.shelf_records.specs.AtlasRecords.{spelled_shelf, walked_entries}

@@ -2,11 +2,10 @@ use Rattle.std.specs.Prelude.{pos}
 use Rattle.std.proofs.Common.{◌≡◌, ◌≤◌, ℕ, length, ap, rules, subst, sym, SFits, w32, ◌∙◌}
 use Rattle.std.proofs.lemmas.Int.{to_z-of_z}
 use Rattle.etagere_base.specs.Sides.{side}
-use Rattle.shelf_records.specs.AtlasRecords.{AtlasRecords}
+use Rattle.shelf_records.specs.AtlasRecords.{AtlasRecords, state_spelled}
 use Rattle.shelf_model.specs.Atlas.{KeepsPromises}
 use Rattle.shelf_heights.specs.Private.ByHeight.{AreByHeight}
 use Rattle.shelf_records.specs.Private.Kept.{AreKept}
-use Rattle.shelf_records.specs.Snapshots.{state_spelled}
 use Rattle.shelf_model.specs.Space.{space_in}
 use Rattle.shelf_model.specs.State.{items_in_use}
 use Rattle.shelf_model.proofs.Promises.{promises}

@@ -9,8 +9,7 @@ use Rattle.shelf_links.specs.RecordLists.{Entry}
 use Rattle.shelf_model.specs.Merging.{both_free}
 use Rattle.shelf_model.specs.State as state
 use Rattle.shelf_records.specs.AtlasRecords.{along_of, is_empty_at, item_at}
-use Rattle.shelf_records.specs.Private.Judging.{LinkBack, atlas_of_records}
-use Rattle.shelf_records.specs.StandsFor.{HasItems}
+use Rattle.shelf_records.specs.StandsFor.{HasItems, LinkBack}
 use Rattle.shelf_restoring.specs.Private.Rules.{ApartFrom, LinkedFrom, RowFrom}
 use Rattle.shelf_restoring.proofs.Judged.ItemPasses.{all-apart, apart-all, back-linked, linked-back, lies-row, row-lies}
 use Rattle.shelf_restoring.proofs.judging.shelves.judge_shelf.Goals as goal
@@ -30,7 +29,7 @@ returns-clause-links c =
     let numbers : c.entry.inside.items.now ≡ entry.items = ap (λ (e : Entry). e.items) c.entry.view_is in
     let own : c.entry.inside.number ≡ entry.number = ap (λ (e : Entry). e.number) c.entry.view_is in
     decides-map found.are_linked (LinkedFrom items entry.number None entry.items) (LinkBack items entry)
-    (linked-back items entry.number entry.items) (back-linked items entry.number entry.items)
+    (linked-back items entry) (back-linked items entry)
     (subst (λ (n : ℕ). Decides found.are_linked (LinkedFrom items n None entry.items)) own
     (subst (λ (ns : List ℕ). Decides found.are_linked (LinkedFrom items c.entry.inside.number None ns)) numbers c.judge_items-found.ensures.links))
 
@@ -41,7 +40,6 @@ returns-clause-filled c =
     let items = c.args.items.now in
     let entry = c.args.entry.now in
     let found = c.judge_items-found.result in
-    let atlas = atlas_of_records frame shelves items in
     let numbers : c.entry.inside.items.now ≡ entry.items = ap (λ (e : Entry). e.items) c.entry.view_is in
     let own : c.from-shelf.result ≡ entry.number = c.from-shelf.ensures ∙ ap (λ (e : Entry). e.number) c.entry.view_is in
     let start : c.along-start.result ≡ along_of shelves entry.number = c.along-start.ensures ∙ ap (along_of shelves) own in
@@ -59,7 +57,7 @@ returns-clause-filled c =
     let Row : Type 0 = RowFrom frame items (along_of shelves entry.number) entry.items in
     let Full : Type 0 = state.total_width (map (item_at items) entry.items) ≡ frame.column_width in
     let Says : Type 0 = c.is_empty.result ≡ c.is_one_free-is_empty.result in
-    decides-map ((found.lie_in_row && (found.width == frame.column_width)) && beq c.is_empty.result c.is_one_free-is_empty.result) ((Row × Full) × Says) (HasItems atlas entry)
+    decides-map ((found.lie_in_row && (found.width == frame.column_width)) && beq c.is_empty.result c.is_one_free-is_empty.result) ((Row × Full) × Says) (HasItems frame shelves items entry)
     (λ all. let lies = row-lies items frame (along_of shelves entry.number) entry.items all.0.0 in
     record { places = lies.0; items = lies.1; width = all.0.1; is_empty = sym says ∙ all.1 ∙ one })
     (λ has. ((lies-row items frame (along_of shelves entry.number) entry.items has.places has.items, has.width), says ∙ has.is_empty ∙ sym one))

@@ -11,8 +11,8 @@ use Rattle.shelf_model.specs.Merging.{both_free}
 use Rattle.shelf_model.specs.Space.{space_in}
 use Rattle.shelf_model.specs.State.{is_empty}
 use Rattle.shelf_records.specs.AtlasRecords.{along_of, height_of, item_at, spelled_shelf, spelled_state}
-use Rattle.shelf_records.specs.Private.Judging.{HasShelvesIn, LinkBack, atlas_of_records, column_at, height_below}
-use Rattle.shelf_records.specs.StandsFor.{HasItems, HasNeighbours}
+use Rattle.shelf_records.specs.Private.Judging.{atlas_of_records, column_at, height_below}
+use Rattle.shelf_records.specs.StandsFor.{HasItems, HasNeighbours, HasShelves, LinkBack}
 use Rattle.shelf_restoring.specs.Private.Rules.{FollowFrom, FreeOwn, IsNext}
 use Rattle.shelf_restoring.proofs.Judged.ColumnStarts.{filled-here, filled-other, same-column}
 use Rattle.shelf_restoring.proofs.Judged.FlagPasses.{IsFlagged, both-true, flagged-end, flagged-more, flagged-same, flagged-where}
@@ -82,7 +82,7 @@ loop-entry-preserved c =
           i entries entry entry (λ later h. h) (λ later h. h) below is one.ensures.free kept.free;
       stacked = subst (λ (n : ℕ). IsFlagged stacked Whole (FollowFrom frame shelves n (c.if-along-start.below + c.from-in-loop-entry-2.result)) (i + 1) entries) column
           (flagged-same stacked Whole (λ (h : ℕ). FollowFrom frame shelves (column_at frame shelves entry) h) own (c.if-along-start.below + c.from-in-loop-entry-2.result) (i + 1) entries high follows);
-      filled = flagged-more one.result.is_filled judged.are_filled (AllByRecursion (HasItems atlas) entries) (AllByRecursion (HasItems atlas)) (AllByRecursion (HasItems atlas)) (HasItems atlas entry)
+      filled = flagged-more one.result.is_filled judged.are_filled (AllByRecursion (HasItems frame shelves items) entries) (AllByRecursion (HasItems frame shelves items)) (AllByRecursion (HasItems frame shelves items)) (HasItems frame shelves items entry)
           i entries entry entry (λ later h. h) (λ later h. h) below is one.ensures.filled kept.filled;
       apart = λ e. subst (λ (n : ℕ). IsFlagged ((one.result.is_apart && not test) && judged.are_apart) (StandApart atlas 0 false entries) (StandApart atlas n one.result.is_empty) (i + 1) entries) column
           (subst (λ (b : Bool). IsFlagged ((one.result.is_apart && not test) && judged.are_apart) (StandApart atlas 0 false entries) (StandApart atlas (column_at frame shelves entry) b) (i + 1) entries) own_empty (apart e));
@@ -105,7 +105,7 @@ returns-clause-stacked c =
     let entries = c.args.entries.now in
     let kept = c.loop-entry.invariant in
     let i = c.loop-entry.entry-index in
-    decides-map (c.fills_columns.result && c.loop-entry.judged.are_stacked) (FollowFrom frame shelves 0 0 entries) (HasShelvesIn (atlas_of_records frame shelves items) entries)
+    decides-map (c.fills_columns.result && c.loop-entry.judged.are_stacked) (FollowFrom frame shelves 0 0 entries) (HasShelves shelves entries (spelled_state (atlas_of_records frame shelves items) entries))
     (follow-kept frame shelves items entries) (shelves-follow frame shelves items entries c.requires.frame)
     (flagged-end c.fills_columns.result c.loop-entry.judged.are_stacked (FollowFrom frame shelves 0 0 entries) (FollowFrom frame shelves (c.loop-entry.start / frame.column_width) c.loop-entry.height)
     i entries (drop_all i entries (omega (arith, c.loop-entry-test.false))) (c.fills_columns.ensures shelves) kept.stacked)

@@ -3,8 +3,8 @@ use Rattle.std.specs.List.{AllByRecursion}
 use Rattle.shelf_links.specs.RecordLists.{Entry}
 use Rattle.shelf_model.specs.Space as space
 use Rattle.shelf_records.specs.AtlasRecords.{spelled_shelf}
-use Rattle.shelf_records.specs.Private.Judging.{LinkBack, atlas_of_records}
-use Rattle.shelf_records.specs.StandsFor.{HasItems}
+use Rattle.shelf_records.specs.Private.Judging.{atlas_of_records}
+use Rattle.shelf_records.specs.StandsFor.{HasItems, LinkBack}
 use Rattle.shelf_restoring.specs.Private.Rules.{FollowFrom, FreeOwn}
 use Rattle.shelf_restoring.proofs.Judged.FlagPasses.{IsFlagged}
 use Rattle.shelf_restoring.proofs.Judged.NeighbourPasses.{StandApart}
@@ -18,7 +18,7 @@ invariant-loop-entry l =
       links : IsFlagged l.judged.are_linked (AllByRecursion (LinkBack l.items) l.entries) (AllByRecursion (LinkBack l.items)) l.entry-index l.entries;
       free : IsFlagged l.judged.have_free_lists (AllByRecursion (FreeOwn l.items l.marks) l.entries) (AllByRecursion (FreeOwn l.items l.marks)) l.entry-index l.entries;
       stacked : IsFlagged l.judged.are_stacked (FollowFrom l.frame l.shelves 0 0 l.entries) (FollowFrom l.frame l.shelves column l.height) l.entry-index l.entries;
-      filled : IsFlagged l.judged.are_filled (AllByRecursion (HasItems atlas) l.entries) (AllByRecursion (HasItems atlas)) l.entry-index l.entries;
+      filled : IsFlagged l.judged.are_filled (AllByRecursion (HasItems l.frame l.shelves l.items) l.entries) (AllByRecursion (HasItems l.frame l.shelves l.items)) l.entry-index l.entries;
       apart : l.judged.are_stacked ≡ true → IsFlagged l.judged.are_apart (StandApart atlas 0 false l.entries) (StandApart atlas column l.was_empty) l.entry-index l.entries;
       sum : l.judged.space + space.space_in (map (spelled_shelf atlas) (drop l.entry-index l.entries)) ≡ space.space_in (map (spelled_shelf atlas) l.entries);
       small : l.judged.space ≤ 281462092005375 * l.entry-index;
