@@ -64,3 +64,7 @@ spelled_shelf frame buckets shelf =
 abbrev pub spelled_state : Frame → List LinkedBucketShelf → List LinkedBucket → BucketedState
 spelled_state frame shelves buckets =
     record { frame = frame; shelves = map (spelled_shelf frame buckets) shelves }
+
+-- the state that the records of an atlas spell, whether they keep the rules or not
+abbrev pub state_of : BucketRecords → BucketedState
+state_of atlas = spelled_state atlas.frame atlas.shelves atlas.buckets

@@ -1,20 +1,16 @@
 -- What a snapshot of a bucketed atlas stands for, and which of its rules a refusal names.
-use Rattle.std.specs.Prelude.{◌≡◌, false, map}
-use Rattle.std.specs.List.{AllByRecursion}
+use Rattle.std.specs.Prelude.{map}
 use Rattle.etagere_base.specs.declared.faults.RestoreFault.{RestoreFault}
-use Rattle.etagere_base.specs.declared.faults.RestoreFault.TheVariants.{Frame, Counts, Link, Shelves, Runs, Neighbours, FreeList, Sharing, Unused, Space, Memory}
+use Rattle.etagere_base.specs.declared.faults.RestoreFault.TheVariants.{Memory}
 use Rattle.etagere_base.specs.Sides.{side}
 use Rattle.etagere_links.specs.Links.{link_of}
-use Rattle.bucketed_model.specs.Frames.{IsBucketedFrame}
-use Rattle.bucketed_model.specs.State.{BucketedState}
-use Rattle.bucketed_model.specs.Valid.{ends_idle}
 use Rattle.bucketed_records.specs.declared.records.LinkedBucket.{LinkedBucket}
 use Rattle.bucketed_records.specs.declared.records.LinkedBucketShelf.{LinkedBucketShelf}
 use Rattle.bucketed_snapshots.specs.declared.BucketRecord.{BucketRecord}
 use Rattle.bucketed_snapshots.specs.declared.BucketShelfRecord.{BucketShelfRecord}
 use Rattle.bucketed_snapshots.specs.declared.BucketedSnapshot.{BucketedSnapshot}
-use Rattle.bucketed_records.specs.BucketRecords.{BucketRecords, bucket_walk, spelled_state}
-use Rattle.bucketed_records.specs.StandsFor.{HasBuckets, HasCounts, HasLinks, HasShelves, IsShared, live_of, used_area}
+use Rattle.bucketed_records.specs.BucketRecords.{BucketRecords}
+use Rattle.bucketed_records.specs.StandsFor.{Keeps}
 
 -- the linked shelf for which a saved one stands
 abbrev pub linked_shelf : BucketShelfRecord → LinkedBucketShelf
@@ -60,24 +56,6 @@ snapshot_records snapshot =
       available_height = snapshot.available_height;
       allocated_space = snapshot.allocated_space;
     }
-
--- the state that records spell
-abbrev pub state_of : BucketRecords → BucketedState
-state_of atlas = spelled_state atlas.frame atlas.shelves atlas.buckets
-
--- the rule that a fault names holds; memory is no rule, nor is there one of free lists
-abbrev pub Keeps : BucketRecords → RestoreFault → Type 0
-Keeps atlas Frame = IsBucketedFrame atlas.frame
-Keeps atlas Counts = HasCounts atlas
-Keeps atlas Link = HasLinks atlas
-Keeps atlas Shelves = HasShelves atlas (state_of atlas)
-Keeps atlas Runs = AllByRecursion (HasBuckets atlas) atlas.shelves
-Keeps atlas Neighbours = ends_idle (state_of atlas).shelves ≡ false
-Keeps atlas FreeList = Unit {0}
-Keeps atlas Sharing = IsShared atlas
-Keeps atlas Unused = AllByRecursion (λ bucket. live_of atlas.buckets bucket ≡ 0) (bucket_walk atlas.buckets atlas.unused).met
-Keeps atlas Space = atlas.allocated_space ≡ used_area atlas.buckets atlas.shelves
-Keeps atlas Memory = Unit {0}
 
 -- the rule that a fault names is broken, or memory was wanting
 abbrev pub Breaks : BucketRecords → RestoreFault → Type 0

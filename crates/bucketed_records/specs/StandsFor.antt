@@ -1,6 +1,8 @@
 -- When the records of a bucketed atlas stand for a state: the rules that a snapshot has to keep.
 use Rattle.std.specs.Prelude.{◌≡◌, ℕ, ℤ, pos, ◌+ℤ◌, ◌-ℤ◌, ◌*ℤ◌, suc, ◌+◌, ◌-◌, ◌*◌, ◌/◌, ◌%◌, ◌<◌, ◌≤◌, ◌||◌, false, List, [], ◌∷◌, ◌++◌, IfSome, IsTrue, length, map, nat_lt, slice_get, ◌==◌, if◌then◌else◌}
 use Rattle.std.specs.List.{AllByRecursion}
+use Rattle.etagere_base.specs.declared.faults.RestoreFault.{RestoreFault}
+use Rattle.etagere_base.specs.declared.faults.RestoreFault.TheVariants as faults
 use Rattle.etagere_base.specs.declared.frames.Frame.{Frame}
 use Rattle.etagere_base.specs.Frames.{across_side, alignment_along}
 use Rattle.etagere_links.specs.Links.{no_link}
@@ -12,7 +14,7 @@ use Rattle.bucketed_model.specs.State.{BucketShelf, BucketedState, available_hei
 use Rattle.bucketed_model.specs.Valid.{OpenColumns, ends_idle}
 use Rattle.bucketed_records.specs.declared.records.LinkedBucket.{LinkedBucket}
 use Rattle.bucketed_records.specs.declared.records.LinkedBucketShelf.{LinkedBucketShelf}
-use Rattle.bucketed_records.specs.BucketRecords.{BucketRecords, bucket_walk, spelled_state}
+use Rattle.bucketed_records.specs.BucketRecords.{BucketRecords, bucket_walk, state_of}
 
 -- there are at most as many records of a kind as buckets can be in use
 pub record HasCounts (atlas : BucketRecords) : Type 0 where
@@ -163,17 +165,22 @@ pub record IsShared (atlas : BucketRecords) : Type 0 where
       atlas.shelves
   pub unused_end : (bucket_walk atlas.buckets atlas.unused).end ≡ no_link
 
+-- records keep the rule whose breach is this fault; want of memory breaks none, and there are no free lists
+abbrev pub Keeps : BucketRecords → RestoreFault → Type 0
+Keeps atlas faults.Frame = IsBucketedFrame atlas.frame
+Keeps atlas faults.Counts = HasCounts atlas
+Keeps atlas faults.Link = HasLinks atlas
+Keeps atlas faults.Shelves = HasShelves atlas (state_of atlas)
+Keeps atlas faults.Runs = AllByRecursion (HasBuckets atlas) atlas.shelves
+Keeps atlas faults.Neighbours = ends_idle (state_of atlas).shelves ≡ false
+Keeps atlas faults.FreeList = Unit {0}
+Keeps atlas faults.Sharing = IsShared atlas
+Keeps atlas faults.Unused = AllByRecursion (λ bucket. live_of atlas.buckets bucket ≡ 0) (bucket_walk atlas.buckets atlas.unused).met
+Keeps atlas faults.Space = atlas.allocated_space ≡ used_area atlas.buckets atlas.shelves
+Keeps atlas faults.Memory = Unit {0}
+
 -- the records keep each rule, and spell the state
 pub record StandsFor (atlas : BucketRecords) (state : BucketedState) : Type 0 where
-  pub spelled : state ≡ spelled_state atlas.frame atlas.shelves atlas.buckets
-  pub frame : IsBucketedFrame atlas.frame
-  pub counts : HasCounts atlas
-  pub links : HasLinks atlas
-  pub shelves : HasShelves atlas state
-  pub buckets : AllByRecursion (HasBuckets atlas) atlas.shelves
-  pub neighbours : ends_idle state.shelves ≡ false
-  pub sharing : IsShared atlas
-  pub unused : AllByRecursion (λ bucket. live_of atlas.buckets bucket ≡ 0)
-      (bucket_walk atlas.buckets atlas.unused).met
-  pub space : atlas.allocated_space ≡ used_area atlas.buckets atlas.shelves
+  pub spelled : state ≡ state_of atlas
+  pub keeps : (fault : RestoreFault) → Keeps atlas fault
   pub generations : AllByRecursion (HasGenerations atlas) atlas.shelves

@@ -1,6 +1,6 @@
 //! Tests the rules of a snapshot: those of a shelf by one pass over its buckets, each other one by one pass.
 //!
-//! Definitions: `Judging`. The rules themselves are the fields of `StandsFor`.
+//! Definitions: `Judging`. The rules themselves are in `Keeps` of `StandsFor`.
 
 ghost use Rattle.std.specs.Prelude.{◌≡◌, ◌+◌, ◌*◌, ◌<◌, ◌≤◌, ◌^◌, IfErr, IfOk, IfSome, IsTrue, length};
 ghost use Rattle.std.specs.List.{AllByRecursion, list_all};

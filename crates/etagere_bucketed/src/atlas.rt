@@ -26,7 +26,8 @@ ghost use Rattle.bucketed_model.specs.Tied.{AreTied};
 ghost use Rattle.bucketed_model.specs.Usage as usages;
 ghost use Rattle.bucketed_model.specs.declared.faults.GrowFault.TheVariants as grow_faults;
 ghost use Rattle.bucketed_records.specs.Private.Restored.{IsSnapshotJudged, linked_records};
-ghost use Rattle.bucketed_records.specs.Restoring.{Breaks, snapshot_records, state_of};
+ghost use Rattle.bucketed_records.specs.BucketRecords.{state_of};
+ghost use Rattle.bucketed_records.specs.Restoring.{Breaks, snapshot_records};
 ghost use Rattle.bucketed_records.specs.StandsFor.{StandsFor};
 
 use crate::restored::restore_bucketed;

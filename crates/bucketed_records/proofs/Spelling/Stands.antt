@@ -1,5 +1,5 @@
 -- Records that spell a valid state, and tell its totals, keep each rule of a snapshot.
-use Rattle.std.proofs.Common.{◌≡◌, ℕ, pos, suc, ◌+◌, ◌-◌, ◌*◌, ◌/◌, ◌%◌, ◌<◌, ◌≤◌, Option, List, [], ◌∷◌, ◌++◌, length, map, cond, refl, ap, arith, sym, ◌∙◌, subst, ◌==◌}
+use Rattle.std.proofs.Common.{◌≡◌, ℕ, pos, suc, ◌+◌, ◌-◌, ◌*◌, ◌/◌, ◌%◌, ◌<◌, ◌≤◌, Option, List, [], ◌∷◌, ◌++◌, length, map, cond, false, refl, ap, arith, sym, ◌∙◌, subst, ◌==◌}
 use Rattle.std.proofs.Math.Nat.{mul-mod_left}
 use Rattle.std.proofs.lemmas.List.{length-map, map-append}
 use Rattle.std.proofs.lemmas.Nat.{div-mul-add}
@@ -8,15 +8,16 @@ use Rattle.std.specs.Prelude.{IfSome, slice_get}
 use Rattle.std.specs.List.{AllByRecursion}
 use Rattle.etagere_base.proofs.EachLemmas.{Each-weaken}
 use Rattle.etagere_base.proofs.TimesLemmas.{times-append}
+use Rattle.etagere_base.specs.declared.faults.RestoreFault.TheVariants as faults
 use Rattle.etagere_base.specs.declared.frames.Frame.{Frame}
-use Rattle.etagere_base.specs.Frames.{alignment_along}
+use Rattle.etagere_base.specs.Frames.{across_side, alignment_along}
 use Rattle.etagere_links.specs.Links.{no_link}
 use Rattle.etagere_links.specs.Lists.{HasEachOnce}
 use Rattle.etagere_links.specs.Walks.{Walked}
 use Rattle.etagere_links.proofs.WalkedLists.{IsPart, part-of, walk_by-spelled}
 use Rattle.bucketed_model.specs.Space.{allocated_space}
-use Rattle.bucketed_model.specs.State.{Bucket, BucketShelf, BucketedState, bucket_numbers, column_height, column_place, generations}
-use Rattle.bucketed_model.specs.Valid.{IsBucket, IsShelf, StandBetween}
+use Rattle.bucketed_model.specs.State.{Bucket, BucketShelf, BucketedState, available_height, bucket_numbers, column_height, column_place, current_column, generations}
+use Rattle.bucketed_model.specs.Valid.{IsBucket, IsShelf, OpenColumns, StandBetween, ends_idle}
 use Rattle.bucketed_model.proofs.Shelving.Shelves.{numbers_of, few-shelves}
 use Rattle.bucketed_records.specs.declared.records.LinkedBucket.{LinkedBucket}
 use Rattle.bucketed_records.specs.declared.records.LinkedBucketShelf.{LinkedBucketShelf}
@@ -210,34 +211,39 @@ witnessed-stands state stored unused column height in_use space witnessed totals
     let has = each (HasBuckets records) (buckets-in frame stored column height space 0 [] ss wide few part valid.shelves.each spells.buckets) in
     record {
       spelled = sym read;
-      frame = valid.frame;
-      counts = record {
-        shelves = omega (arith, length-map stored.shelves shelf_record, ap (λ (ks : List KeptShelf). length ks) spells.shelves, length-kept frame [] ss, few-shelves frame ss wide valid.shelves.each, valid.shelves.few);
-        buckets = spells.pool.few;
-      };
-      links = record {
-        shelves = subst (AreLinked stored.buckets 0) kept (linked frame stored.buckets 0 [] ss few part spells.buckets);
-        unused = stops (length stored.buckets) (bucket_walk stored.buckets stored.unused) (ap (λ (w : Walked). w.end) walked);
-      };
-      shelves = record {
-        wide = λ _. wide;
-        columns = Each-weaken (IsShelf frame) _ ss (λ shelf is. is.column) valid.shelves.each;
-        opened = valid.shelves.columns;
-        along = each _ (alongs frame [] ss);
-        across = subst (AreStacked frame.column_width []) kept (stacked frame [] ss wide);
-        heights = valid.shelves.heights;
-        current_column = totals.column;
-        available_height = totals.height;
-      };
-      buckets = has;
-      neighbours = valid.ends;
-      sharing = record {
-        once = subst (λ (ns : List ℕ). HasEachOnce (length stored.buckets) (ns ++ (bucket_walk stored.buckets stored.unused).met)) (sym met.0 ∙ ap (walked_numbers stored.buckets) kept)
-            (subst (λ (w : Walked). HasEachOnce (length stored.buckets) (bucket_numbers ss ++ w.met)) (sym walked) spells.pool.once);
-        ends = each _ met.1;
-        unused_end = ap (λ (w : Walked). w.end) walked;
-      };
-      unused = subst (λ (w : Walked). AllByRecursion (λ (n : ℕ). live_of stored.buckets n ≡ 0) w.met) (sym walked) spells.pool.idle;
-      space = ap (λ (n : ℕ). pos n) totals.space ∙ ap (λ (s : BucketedState). pos (allocated_space s)) (sym read) ∙ sym (area-used records (map shelf_record stored.shelves) has);
+      keeps = elim [
+        | faults.Frame ↦ valid.frame
+        | faults.Counts ↦ record {
+          shelves = omega (arith, length-map stored.shelves shelf_record, ap (λ (ks : List KeptShelf). length ks) spells.shelves, length-kept frame [] ss, few-shelves frame ss wide valid.shelves.each, valid.shelves.few);
+          buckets = spells.pool.few;
+        }
+        | faults.Link ↦ record {
+          shelves = subst (AreLinked stored.buckets 0) kept (linked frame stored.buckets 0 [] ss few part spells.buckets);
+          unused = stops (length stored.buckets) (bucket_walk stored.buckets stored.unused) (ap (λ (w : Walked). w.end) walked);
+        }
+        | faults.Shelves ↦ record {
+          wide = λ _. wide;
+          columns = subst (λ (s : BucketedState). AllByRecursion (λ (shelf : BucketShelf). shelf.column < s.frame.columns) s.shelves) (sym read)
+              (Each-weaken (IsShelf frame) _ ss (λ shelf is. is.column) valid.shelves.each);
+          opened = subst (λ (s : BucketedState). OpenColumns 0 s.shelves) (sym read) valid.shelves.columns;
+          along = each _ (alongs frame [] ss);
+          across = subst (AreStacked frame.column_width []) kept (stacked frame [] ss wide);
+          heights = subst (λ (s : BucketedState). (column : ℕ) → column_height column s.shelves ≤ across_side s.frame) (sym read) valid.shelves.heights;
+          current_column = subst (λ (s : BucketedState). column ≡ current_column s.shelves) (sym read) totals.column;
+          available_height = subst (λ (s : BucketedState). height ≡ available_height s.frame s.shelves) (sym read) totals.height;
+        }
+        | faults.Runs ↦ has
+        | faults.Neighbours ↦ subst (λ (s : BucketedState). ends_idle s.shelves ≡ false) (sym read) valid.ends
+        | faults.FreeList ↦ tt
+        | faults.Sharing ↦ record {
+          once = subst (λ (ns : List ℕ). HasEachOnce (length stored.buckets) (ns ++ (bucket_walk stored.buckets stored.unused).met)) (sym met.0 ∙ ap (walked_numbers stored.buckets) kept)
+              (subst (λ (w : Walked). HasEachOnce (length stored.buckets) (bucket_numbers ss ++ w.met)) (sym walked) spells.pool.once);
+          ends = each _ met.1;
+          unused_end = ap (λ (w : Walked). w.end) walked;
+        }
+        | faults.Unused ↦ subst (λ (w : Walked). AllByRecursion (λ (n : ℕ). live_of stored.buckets n ≡ 0) w.met) (sym walked) spells.pool.idle
+        | faults.Space ↦ ap (λ (n : ℕ). pos n) totals.space ∙ ap (λ (s : BucketedState). pos (allocated_space s)) (sym read) ∙ sym (area-used records (map shelf_record stored.shelves) has)
+        | faults.Memory ↦ tt
+      ];
       generations = each (HasGenerations records) (ages-in frame stored column height space 0 [] ss few part valid.shelves.each spells.buckets);
     }

@@ -7,6 +7,7 @@ use Rattle.std.specs.Prelude.{◌+◌, IfSome, option_and_then, slice_get, nat_l
 use Rattle.std.specs.List.{AllByRecursion}
 use Rattle.etagere_base.proofs.EachLemmas.{Each-back, Each-front}
 use Rattle.etagere_base.proofs.TimesLemmas.{times-append}
+use Rattle.etagere_base.specs.declared.faults.RestoreFault.TheVariants as faults
 use Rattle.etagere_base.specs.declared.frames.Frame.{Frame}
 use Rattle.etagere_base.specs.Frames.{alignment_along}
 use Rattle.etagere_base.specs.Lists.{times}
@@ -23,11 +24,11 @@ use Rattle.bucketed_model.proofs.Shelving.Shares.{aligned-times}
 use Rattle.bucketed_model.proofs.Shelving.Shelves.{numbers_of, in-use-length}
 use Rattle.bucketed_records.specs.declared.records.LinkedBucket.{LinkedBucket}
 use Rattle.bucketed_records.specs.declared.records.LinkedBucketShelf.{LinkedBucketShelf}
-use Rattle.bucketed_records.specs.BucketRecords.{BucketRecords, bucket_at, bucket_walk, next_of, spelled_bucket, spelled_shelf, spelled_state}
+use Rattle.bucketed_records.specs.BucketRecords.{BucketRecords, bucket_at, bucket_walk, next_of, spelled_bucket, spelled_shelf, spelled_state, state_of}
 use Rattle.bucketed_records.specs.Private.Restored.{LinkFits, LinksFit, stored_from}
 use Rattle.bucketed_records.specs.Private.Store.{AreBucketsSpelled, AreShelvesSpelled, IsPool, first_link, record_of}
 use Rattle.bucketed_records.specs.Private.Witnessed.{Witnessed}
-use Rattle.bucketed_records.specs.StandsFor.{AreBuckets, AreLinked, HasBuckets, HasGenerations, IsFilled, StandDown, StandsFor, free_of, generation_of, place_of, shelf_of, walked_numbers}
+use Rattle.bucketed_records.specs.StandsFor.{AreBuckets, AreLinked, HasBuckets, HasGenerations, IsFilled, StandDown, StandsFor, free_of, generation_of, place_of, shelf_of, walked_numbers, HasCounts, HasLinks, HasShelves, IsShared}
 use Rattle.bucketed_records.proofs.Spelling.UsedAreas.{frees-filled}
 
 -- the bucket of a number has that number
@@ -221,12 +222,25 @@ module _ (atlas : BucketRecords) (fit : LinksFit atlas) (stands : StandsFor atla
   abbrev unused : List ℕ
   unused = (bucket_walk atlas.buckets atlas.unused).met
 
+  -- the rules that are records
+  counts : HasCounts atlas
+  counts = stands.keeps faults.Counts
+
+  links : HasLinks atlas
+  links = stands.keeps faults.Link
+
+  shelves : HasShelves atlas (state_of atlas)
+  shelves = stands.keeps faults.Shelves
+
+  sharing : IsShared atlas
+  sharing = stands.keeps faults.Sharing
+
   few : length atlas.buckets ≤ no_link
-  few = omega (arith, stands.counts.buckets)
+  few = omega (arith, counts.buckets)
 
   once : HasEachOnce (length atlas.buckets) (bucket_numbers spelled ++ unused)
   once =
-      subst (λ (ns : List ℕ). HasEachOnce (length atlas.buckets) (ns ++ unused)) (sym (all-numbers atlas.frame atlas.buckets atlas.shelves)) stands.sharing.once
+      subst (λ (ns : List ℕ). HasEachOnce (length atlas.buckets) (ns ++ unused)) (sym (all-numbers atlas.frame atlas.buckets atlas.shelves)) sharing.once
 
   part : IsPart (length atlas.buckets) (bucket_numbers spelled)
   part = part-of (length atlas.buckets) (bucket_numbers spelled ++ unused) (bucket_numbers spelled) once (λ k. omega (arith, times-append k (bucket_numbers spelled) unused))
@@ -238,11 +252,11 @@ module _ (atlas : BucketRecords) (fit : LinksFit atlas) (stands : StandsFor atla
   pool : IsPool atlas.buckets atlas.unused (bucket_numbers spelled) unused
   pool =
       record {
-        pile = walk_by-leads (λ (bucket : LinkedBucket). bucket.next) atlas.buckets atlas.unused fit.next fit.unused few stands.sharing.unused_end;
+        pile = walk_by-leads (λ (bucket : LinkedBucket). bucket.next) atlas.buckets atlas.unused fit.next fit.unused few sharing.unused_end;
         once = once;
         count = sym all-count;
-        few = stands.counts.buckets;
-        idle = stands.unused;
+        few = counts.buckets;
+        idle = stands.keeps faults.Unused;
       }
 
   within : AllByRecursion (λ (n : ℕ). n < length atlas.buckets) (walked_numbers atlas.buckets atlas.shelves)
@@ -253,15 +267,15 @@ module _ (atlas : BucketRecords) (fit : LinksFit atlas) (stands : StandsFor atla
   valid : IsValid (spelled_state atlas.frame atlas.shelves atlas.buckets)
   valid =
       record {
-        frame = stands.frame;
+        frame = stands.keeps faults.Frame;
         shelves = record {
-          each = each-shelf atlas atlas.shelves stands.frame stands.counts.buckets stands.shelves.along stands.shelves.columns within stands.buckets stands.generations;
-          columns = stands.shelves.opened;
-          heights = stands.shelves.heights;
+          each = each-shelf atlas atlas.shelves (stands.keeps faults.Frame) counts.buckets shelves.along shelves.columns within (stands.keeps faults.Runs) stands.generations;
+          columns = shelves.opened;
+          heights = shelves.heights;
           numbers = part.once;
-          few = omega (arith, in-use-length spelled, all-count, stands.counts.buckets);
+          few = omega (arith, in-use-length spelled, all-count, counts.buckets);
         };
-        ends = stands.neighbours;
+        ends = stands.keeps faults.Neighbours;
       }
 
   spelled-witnessed : Witnessed (stored_from atlas (spelled_state atlas.frame atlas.shelves atlas.buckets)) unused (spelled_state atlas.frame atlas.shelves atlas.buckets)
@@ -269,7 +283,7 @@ module _ (atlas : BucketRecords) (fit : LinksFit atlas) (stands : StandsFor atla
       record {
         spells = record {
           shelves = refl;
-          buckets = shelves-spelled atlas 0 atlas.shelves few fit.next fit.first stands.links.shelves stands.buckets stands.sharing.ends within;
+          buckets = shelves-spelled atlas 0 atlas.shelves few fit.next fit.first links.shelves (stands.keeps faults.Runs) sharing.ends within;
           pool = pool;
         };
         valid = valid;

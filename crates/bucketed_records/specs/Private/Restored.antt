@@ -7,11 +7,10 @@ use Rattle.etagere_links.specs.Links.{bits_of, link_of}
 use Rattle.bucketed_model.specs.State.{BucketedState}
 use Rattle.bucketed_records.specs.declared.records.LinkedBucketShelf.{LinkedBucketShelf}
 use Rattle.bucketed_records.specs.declared.saving.LinkedSnapshot.{LinkedSnapshot}
-use Rattle.bucketed_records.specs.BucketRecords.{BucketRecords, bucket_walk, next_of}
+use Rattle.bucketed_records.specs.BucketRecords.{BucketRecords, bucket_walk, next_of, state_of}
 use Rattle.bucketed_records.specs.declared.records.KeptShelf.{KeptShelf}
 use Rattle.bucketed_records.specs.Private.Store.{Stored, kept_shelves}
 use Rattle.bucketed_records.specs.Private.Witnessed.{HasTotals, Witnessed}
-use Rattle.bucketed_records.specs.Restoring.{state_of}
 use Rattle.bucketed_records.specs.StandsFor.{StandsFor}
 
 -- the records of a snapshot whose links were read

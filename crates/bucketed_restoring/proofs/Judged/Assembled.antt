@@ -17,13 +17,12 @@ use Rattle.bucketed_model.specs.Valid.{ends_idle}
 use Rattle.bucketed_model.proofs.Shelving.Shelves.{in-use-length}
 use Rattle.bucketed_records.specs.declared.records.LinkedBucket.{LinkedBucket}
 use Rattle.bucketed_records.specs.declared.records.LinkedBucketShelf.{LinkedBucketShelf}
-use Rattle.bucketed_records.specs.BucketRecords.{BucketRecords, bucket_at, bucket_walk, next_of, spelled_shelf}
+use Rattle.bucketed_records.specs.BucketRecords.{BucketRecords, bucket_at, bucket_walk, next_of, spelled_shelf, state_of}
 use Rattle.bucketed_records.specs.Private.Store.{is_kept_idle, first_link, kept_shelf, kept_shelves}
 use Rattle.bucketed_records.specs.Private.Restored.{LinkFits, LinksFit}
 use Rattle.bucketed_records.specs.declared.records.KeptShelf.{KeptShelf}
 use Rattle.bucketed_records.specs.Private.Witnessed.{HasTotals, Witnessed}
-use Rattle.bucketed_records.specs.Restoring.{Keeps, state_of}
-use Rattle.bucketed_records.specs.StandsFor.{AreLinked, AreStacked, HasBuckets, HasGenerations, StandsFor, StopsInRange, used_area}
+use Rattle.bucketed_records.specs.StandsFor.{AreLinked, AreStacked, HasBuckets, HasGenerations, StandsFor, StopsInRange, used_area, Keeps}
 use Rattle.bucketed_records.proofs.Spelling.KeptShelves.{live-idle}
 use Rattle.bucketed_records.proofs.Spelling.StandsKept.{all-numbers, first-spelled, stands-witnessed}
 use Rattle.bucketed_records.proofs.Spelling.UsedAreas.{area-used}
@@ -82,18 +81,22 @@ module _ (atlas : BucketRecords) (all : List KeptShelf) (used area : ℕ) (lists
   assembled =
       record {
         spelled = refl;
-        frame = frame;
-        counts = counts;
-        links = record {
-          shelves = links-judged atlas.frame atlas.buckets 0 atlas.shelves lists.judged;
-          unused = stops (length atlas.buckets) (bucket_walk atlas.buckets atlas.unused) lists.ends;
-        };
-        shelves = shelves;
-        buckets = buckets-judged atlas 0 atlas.shelves lists.judged;
-        neighbours = neighbours;
-        sharing = record { once = lists.once; ends = ends-judged atlas.frame atlas.buckets 0 atlas.shelves lists.judged; unused_end = lists.ends };
-        unused = lists.idle;
-        space = space ∙ area-judged atlas all used area lists;
+        keeps = elim [
+          | faults.Frame ↦ frame
+          | faults.Counts ↦ counts
+          | faults.Link ↦ record {
+            shelves = links-judged atlas.frame atlas.buckets 0 atlas.shelves lists.judged;
+            unused = stops (length atlas.buckets) (bucket_walk atlas.buckets atlas.unused) lists.ends;
+          }
+          | faults.Shelves ↦ shelves
+          | faults.Runs ↦ buckets-judged atlas 0 atlas.shelves lists.judged
+          | faults.Neighbours ↦ neighbours
+          | faults.FreeList ↦ tt
+          | faults.Sharing ↦ record { once = lists.once; ends = ends-judged atlas.frame atlas.buckets 0 atlas.shelves lists.judged; unused_end = lists.ends }
+          | faults.Unused ↦ lists.idle
+          | faults.Space ↦ space ∙ area-judged atlas all used area lists
+          | faults.Memory ↦ tt
+        ];
         generations = ages-judged atlas 0 atlas.shelves lists.judged;
       }
 

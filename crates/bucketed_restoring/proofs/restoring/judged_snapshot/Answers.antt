@@ -8,12 +8,11 @@ use Rattle.etagere_base.specs.declared.frames.Frame.{Frame}
 use Rattle.bucketed_model.specs.Frames.{IsBucketedFrame}
 use Rattle.bucketed_model.specs.Valid.{ends_idle}
 use Rattle.bucketed_records.specs.declared.records.LinkedBucketShelf.{LinkedBucketShelf}
-use Rattle.bucketed_records.specs.BucketRecords.{BucketRecords}
+use Rattle.bucketed_records.specs.BucketRecords.{BucketRecords, state_of}
 use Rattle.bucketed_records.specs.declared.records.KeptShelf.{KeptShelf}
 use Rattle.bucketed_records.specs.Private.Witnessed.{HasTotals}
 use Rattle.bucketed_records.specs.Private.Restored.{linked_records}
-use Rattle.bucketed_records.specs.Restoring.{Keeps, state_of}
-use Rattle.bucketed_records.specs.StandsFor.{HasCounts, HasShelves}
+use Rattle.bucketed_records.specs.StandsFor.{HasCounts, HasShelves, Keeps}
 use Rattle.bucketed_restoring.specs.Private.Judging as judging
 use Rattle.bucketed_restoring.specs.Private.Judging.{is_stacked}
 use Rattle.bucketed_restoring.proofs.Judged.Assembled.{area-judged, assembled, columns-said, idle-kept, restored, same-lists, totals}

@@ -3,12 +3,11 @@ use Rattle.etagere_base.specs.declared.frames.Frame.{Frame}
 use Rattle.bucketed_model.specs.Atlas.{KeepsPromises}
 use Rattle.bucketed_model.specs.State.{BucketedState}
 use Rattle.bucketed_model.proofs.Promises.{valid-promises}
-use Rattle.bucketed_records.specs.BucketRecords.{BucketRecords, bucket_walk}
+use Rattle.bucketed_records.specs.BucketRecords.{BucketRecords, bucket_walk, state_of}
 use Rattle.bucketed_records.specs.Private.Restored.{IsSnapshotJudged, linked_records}
 use Rattle.bucketed_records.specs.Private.Store.{Stored, stored_state}
 use Rattle.bucketed_records.specs.declared.records.KeptShelf.{KeptShelf}
 use Rattle.bucketed_records.specs.Private.Witnessed.{HasTotals, Witnessed}
-use Rattle.bucketed_records.specs.Restoring.{state_of}
 use Rattle.bucketed_records.proofs.Spelling.ReadBack.{state-read}
 use Rattle.etagere_bucketed.proofs.atlas.BucketedAtlasAllocator.of_judged.Goals as goal
 
