@@ -2,7 +2,7 @@
 //!
 //! Definitions: `Usage`, and `Asking` for the counts by records.
 
-ghost use Rattle.std.specs.Prelude.{◌≡◌, ◌+◌, ◌≤◌, ◌<◌, length, if◌then◌else◌};
+ghost use Rattle.std.specs.Prelude.{◌≡◌, ◌+◌, ◌≤◌, ◌<◌, length};
 ghost use Rattle.etagere_base.specs.Lists.{times};
 ghost use Rattle.etagere_links.specs.Links.{no_link};
 ghost use Rattle.shelf_links.specs.RecordLists.{IsLinked, shelf_walk, walked_lists};
@@ -14,7 +14,7 @@ ghost use Rattle.shelf_store.specs.Private.Asking.{free_of, tally_of, tally_with
 
 use crate::choosing::MOST_ITEMS;
 use crate::free_items::free_items_of;
-use etagere_base::{Frame, Size};
+use etagere_base::{Frame, Sides, Size, swapped_axes};
 use etagere_links::{Chain, next_of};
 use shelf_links::{LinkedShelf, Records};
 use shelf_model::usage::Usage;
@@ -62,16 +62,14 @@ pub fn largest_free(frame: &Frame, records: &Records) -> Size
 fn size_at(frame: &Frame, along: u16, across: u16) -> Size
     ensures { result ≡ spec.size_at frame.now along across }
 {
-    if frame.vertical {
-        Size {
-            width: i32::from(across),
-            height: i32::from(along),
-        }
-    } else {
-        Size {
-            width: i32::from(along),
-            height: i32::from(across),
-        }
+    let sides = Sides {
+        along: u32::from(along),
+        across: u32::from(across),
+    };
+    let swapped = swapped_axes(frame.vertical, sides);
+    Size {
+        width: swapped.along as i32,
+        height: swapped.across as i32,
     }
 }
 
@@ -115,19 +113,11 @@ fn with_shelf(records: &Records, tally: Tally, shelf: usize) -> Tally
     let shelves = records.shelves();
     Tally {
         shelves: tally.shelves + 1,
-        empty_shelves: tally.empty_shelves + one_if(fields::is_empty(shelves, shelf)),
+        empty_shelves: tally.empty_shelves + u32::from(fields::is_empty(shelves, shelf)),
         free_items: tally.free_items + free.count,
         width: tally.width.max(free.widest),
         height: tallest(tally, free.widest, fields::height(shelves, shelf)),
     }
-}
-
-/// How much a shelf adds to a count: one where it counts.
-fn one_if(counts: bool) -> u32
-    ensures value { result ≡ if counts then 1 else 0 }
-    ensures few { result ≤ 1 }
-{
-    u32::from(counts)
 }
 
 /// How tall the tallest of the widest items is, where one more comes.
