@@ -1,19 +1,15 @@
 -- The last word of a line: bytes with a space spell no key and no capacity.
-use Rattle.std.proofs.Common.{◌≡◌, ℕ, Bool, true, false, cond, List, ◌∷◌, Some, None, refl}
+use Rattle.std.proofs.Common.{◌≡◌, ℕ, List, ◌∷◌, Some, refl}
 use Rattle.run_scripts.specs.Lines.{words_of, Lacks}
 use Rattle.run_scripts.specs.Words.{direction_of, size_of}
 use Rattle.run_scripts.specs.Numbers.{number_of}
 use Rattle.run_scripts.proofs.DigitsLack.{natural-lacks}
 use Rattle.run_scripts.proofs.LastWord.{bound, last-word}
-use Rattle.glyph_run.specs.Words.{Setup, cache_in, cache_of, capacity_of, frame_in, key_in, key_of}
+use Rattle.glyph_run.specs.Words.{Setup, cache_in, cache_of, capacity_of, key_of}
 
 -- a key has no space
 key-lacks : (bytes : List ℕ) (key : ℕ) → key_of bytes ≡ Some key → Lacks 32 bytes
 key-lacks bytes key h = natural-lacks 32 refl _ key bytes h
-
--- a key is the last bytes, if they stand for one
-pub key_in-words : (bytes : List ℕ) → key_in (words_of bytes) ≡ key_of bytes
-key_in-words bytes = last-word key_in bytes (λ first second rest. refl) (λ key h. key-lacks bytes key h)
 
 -- the capacity of a cache has no space
 cache-lacks : (width height alignment_width alignment_height columns direction capacity : List ℕ) (setup : Setup)
@@ -36,12 +32,4 @@ cache_in-words width height alignment_width alignment_height columns direction c
     (λ first second rest. refl)
     (λ setup h. cache-lacks width height alignment_width alignment_height columns direction capacity setup h)
 
--- bytes are never no words, so that a frame has none behind its name
-frame_in-words : (bytes : List ℕ) → frame_in (words_of bytes) ≡ None
-frame_in-words bytes = last-word frame_in bytes (λ first second rest. refl) (λ command h. cc)
-
-pub no_frame-words : (test : Bool) (bytes : List ℕ) → cond test (frame_in (words_of bytes)) None ≡ None
-no_frame-words true bytes = frame_in-words bytes
-no_frame-words false bytes = refl
-
-pub ruleset last_words = (key_in-words, cache_in-words)
+pub ruleset last_words = (cache_in-words)

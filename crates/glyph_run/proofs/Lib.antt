@@ -1,6 +1,7 @@
 mod EntriesTold
 mod HeaderLine
 mod LastWord
+mod LetteredCommands
 mod PartsSent
 mod RenamedCaches
 mod RenamedSteps

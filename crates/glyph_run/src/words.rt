@@ -1,6 +1,7 @@
 //! What the words of a line stand for: a header, or a command for a cache.
 //!
-//! Definitions: `Words`, over `Lines` and `Words` of `run_scripts`. A new command goes into the table here and there.
+//! Definitions: `Words`, over `Lines` and `Words` of `run_scripts`. A new command goes into the table here, its
+//! `Spelled`, and into the one there.
 
 ghost use Rattle.std.specs.Prelude.{◌≡◌, option_map};
 ghost use Rattle.run_scripts.specs.Lines.{words_of};
@@ -8,11 +9,11 @@ ghost use Rattle.glyph_run.specs.Words as spec;
 ghost use Rattle.glyph_run.specs.Setups.{setup_in};
 
 use crate::commands::GlyphCommand;
-use crate::keys::{capacity_of, key_of};
+use crate::keys::capacity_of;
 use etagere::{AllocatorOptions, Size};
 use run_scripts::lines::split_word;
 use run_scripts::numbers::number_of;
-use run_scripts::words::{Spelled, direction_of, size_in, size_of};
+use run_scripts::words::{Spelled, direction_of, size_of};
 use std::num::NonZeroUsize;
 
 /// The cache of a script.
@@ -64,23 +65,18 @@ impl Spelled for GlyphCommand {
 
     ghost meaning = { spec.glyph_command_named };
 
-    fn clear() -> GlyphCommand {
-        GlyphCommand::Clear
-    }
-
-    fn alone(name: &[u8]) -> Option<GlyphCommand> {
-        match name {
-            b"f" => Some(GlyphCommand::BeginFrame),
+    fn alone(letter: u8) -> Option<GlyphCommand> {
+        match letter {
+            b'f' => Some(GlyphCommand::BeginFrame),
+            b'c' => Some(GlyphCommand::Clear),
             _ => None,
         }
     }
 
-    #[tactic(auto, using(crate::proofs::LastWord::last_words))]
-    fn named(name: &[u8], words: &[u8]) -> Option<GlyphCommand> {
-        match name {
-            b"p" => place_in(words),
-            b"g" => Some(GlyphCommand::Get(key_in(words)?)),
-            b"r" => Some(GlyphCommand::Remove(key_in(words)?)),
+    fn with_number(letter: u8, number: u64) -> Option<GlyphCommand> {
+        match letter {
+            b'g' => Some(GlyphCommand::Get(number)),
+            b'r' => Some(GlyphCommand::Remove(number)),
             _ => None,
         }
     }
@@ -89,27 +85,13 @@ impl Spelled for GlyphCommand {
         None
     }
 
-    fn with_position(letter: u8, position: usize) -> Option<GlyphCommand> {
+    fn with_number_and_size(letter: u8, number: u64, size: Size) -> Option<GlyphCommand> {
         match letter {
-            b'g' => Some(GlyphCommand::Get(position as u64)),
-            b'r' => Some(GlyphCommand::Remove(position as u64)),
+            b'p' => Some(GlyphCommand::Place(number, size)),
             _ => None,
         }
     }
-}
 
-/// The placement that the words after its letter spell.
-fn place_in(words: &[u8]) -> Option<GlyphCommand>
-    ensures { result ≡ spec.place_in (words_of words.now) }
-{
-    let (key, words) = split_word(words)?;
-    let size = size_in(words)?;
-    Some(GlyphCommand::Place(key_of(key)?, size))
-}
-
-/// The key that one word spells.
-fn key_in(words: &[u8]) -> Option<u64>
-    ensures { result ≡ spec.key_in (words_of words.now) }
-{
-    key_of(words)
+    #[tactic(auto, using(crate::proofs::LetteredCommands::lettered_commands))]
+    fn lettered() {}
 }

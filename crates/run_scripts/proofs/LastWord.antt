@@ -7,8 +7,9 @@ use Rattle.std.specs.Prelude.{◌==◌, ◌^◌, ◌-◌, pos, neg_ℤ, option_m
 use Rattle.std.proofs.lemmas.List.Elements.{All-nil, All-head, All-tail}
 use Rattle.run_scripts.specs.declared.words.AtlasKind.{AtlasKind}
 use Rattle.run_scripts.specs.Lines.{before_pieces, words_of, Lacks}
-use Rattle.run_scripts.specs.Numbers.{number_of, position_of, natural_of}
-use Rattle.run_scripts.specs.Words.{Header, atlas_in, atlas_of, size_in, size_of, position_in, direction_of, command_of, ◌>>=◌}
+use Rattle.run_scripts.specs.Numbers.{number_of, natural_of}
+use Rattle.run_scripts.specs.Private.Arguments.{NumberAndSize, arguments_in}
+use Rattle.run_scripts.specs.Words.{Header, atlas_in, atlas_of, size_of, direction_of, command_of, ◌>>=◌}
 use Rattle.etagere_base.specs.declared.geometry.Size.{Size}
 use Rattle.run_scripts.proofs.DigitsLack.{natural-lacks}
 use Rattle.run_scripts.proofs.Pieces.{Lacks-cons, before_pieces-other, before_pieces-separator}
@@ -106,13 +107,26 @@ last-word f bytes none lacks = by_shape (shape bytes)
     by_shape (More first second rest more space) =
         ap f more ∙ none first second rest ∙ sym (none-spaced bytes (f (bytes ∷ [])) lacks space)
 
--- a position is the last bytes, if they stand for one
-pub position_in-words : (bytes : List ℕ) → position_in (words_of bytes) ≡ position_of bytes
-position_in-words bytes = last-word position_in bytes (λ first second rest. refl) (λ n h. natural-lacks 32 refl _ n bytes h)
+-- a number and a size are the last bytes, if they stand for them
+pub arguments_in-words : (word width height : List ℕ)
+    → arguments_in (word ∷ width ∷ words_of height) ≡ (natural_of (2 ^ 64 - 1) word >>= (λ n. size_of width height >>= (λ size. Some (NumberAndSize n size))))
+arguments_in-words word width height =
+    last-word (λ words. arguments_in (word ∷ width ∷ words)) height (λ first second rest. refl)
+    (λ arguments h.
+    let after = bound (natural_of (2 ^ 64 - 1) word) _ arguments h in
+    let size = bound (size_of width height) _ arguments after.2 in
+    size-lacks width height size.0 size.1)
 
--- the height of a size is the last bytes
-pub size_in-words : (width height : List ℕ) → size_in (width ∷ words_of height) ≡ size_of width height
-size_in-words width height = last-word (λ words. size_in (width ∷ words)) height (λ first second rest. refl) (λ size h. size-lacks width height size h)
+-- the same where the words are read one after another
+module _ (words first width height : List ℕ) (read : words_of words ≡ first ∷ width ∷ words_of height) where
+  pub no-number : natural_of (2 ^ 64 - 1) first ≡ None → arguments_in (words_of words) ≡ None
+  no-number none = ap arguments_in read ∙ arguments_in-words first width height ∙ rw none refl
+
+  pub no-size : (n : ℕ) → natural_of (2 ^ 64 - 1) first ≡ Some n → size_of width height ≡ None → arguments_in (words_of words) ≡ None
+  no-size n number none = ap arguments_in read ∙ arguments_in-words first width height ∙ rw (number, none) refl
+
+  pub both-there : (n : ℕ) (size : Size) → natural_of (2 ^ 64 - 1) first ≡ Some n → size_of width height ≡ Some size → arguments_in (words_of words) ≡ Some (NumberAndSize n size)
+  both-there n size number sized = ap arguments_in read ∙ arguments_in-words first width height ∙ rw (number, sized) refl
 
 -- the direction of an atlas has no space
 atlas-lacks : (kind : AtlasKind) (width height alignment_width alignment_height columns direction : List ℕ) (header : Header) → atlas_of kind width height alignment_width alignment_height columns direction ≡ Some header → Lacks 32 direction
@@ -137,4 +151,4 @@ several-words clear named name words (More first second rest more space) = rw mo
 pub command_of-words : {C : Type 0} (clear : C) (named : List ℕ → List (List ℕ) → Option C) (name words : List ℕ) → command_of clear named (name ∷ words_of words) ≡ named name (words_of words)
 command_of-words clear named name words = several-words clear named name words (shape words)
 
-pub ruleset last_words = (size_in-words, atlas_in-words, command_of-words)
+pub ruleset last_words = (atlas_in-words, command_of-words)

@@ -4,9 +4,9 @@ pub mod Digits
 pub mod DigitsLack
 pub mod HeaderLine
 pub mod LastWord
+pub mod LetteredCommands
 pub mod LineLengths
 pub mod LineSending
-pub mod LoneNames
 pub mod Pieces
 pub mod PlainLines
 pub mod ScriptRows

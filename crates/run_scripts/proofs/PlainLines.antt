@@ -1,6 +1,6 @@
 -- Lines that are read in one pass: the digits so far, and a letter before one or two numbers.
 use Rattle.std.proofs.Common.{◌≡◌, ◌≢◌, ℕ, suc, ◌+◌, ◌-◌, ◌*◌, ◌^◌, ◌<◌, ◌≤◌, Bool, true, cond, ◌&&◌, pos, List, [], ◌∷◌, ◌++◌, length, get_or, take, drop, Option, Some, None, refl, ap, ◌∙◌, sym, arith, append_assoc, length-append}
-use Rattle.std.specs.Prelude.{nat_le}
+use Rattle.std.specs.Prelude.{nat_le, option_map}
 use Rattle.std.specs.Char.{is_ascii_digit}
 use Rattle.std.proofs.Math.Nat.{pow-le-pow_right, pow-suc}
 use Rattle.std.proofs.lemmas.Bool.Decides.{nat_tests}
@@ -8,7 +8,8 @@ use Rattle.std.proofs.lemmas.List.{append-nil, length-take-le, take_all, take_mo
 use Rattle.std.proofs.lemmas.List.Elements.{All-append, All-nil}
 use Rattle.run_scripts.specs.Lines.{Lacks, lines_of, words_of}
 use Rattle.run_scripts.specs.Numbers.{natural_of}
-use Rattle.run_scripts.specs.Words.{command_of, position_in, size_in}
+use Rattle.run_scripts.specs.Words.{command_of}
+use Rattle.run_scripts.specs.Private.Arguments.{Number, Sized, arguments_in}
 use Rattle.run_scripts.specs.Private.PlainLines.{BeginsWithCommand, BeginsWithNumber}
 use Rattle.run_scripts.proofs.Digits.{natural_after, natural_after-cons, natural_after-nil, natural_after-zero}
 use Rattle.run_scripts.proofs.DigitsLack.{natural-lacks, number-natural}
@@ -64,11 +65,11 @@ digits-end greatest v i bytes some within low so_far =
 module _ {C : Type 0} (clear : C) (named : List ℕ → List (List ℕ) → Option C) (letter : ℕ) (bytes after : List ℕ) (command : C) (visible : 32 < letter) where
   -- a letter and one number
   pub one-number : (n : ℕ) (numbers behind : List ℕ) → bytes ≡ letter ∷ 32 ∷ numbers → BeginsWithNumber numbers n behind → behind ≡ 10 ∷ after
-      → ((words : List (List ℕ)) → position_in words ≡ Some n → named (letter ∷ []) words ≡ Some command)
+      → ((words : List (List ℕ)) → arguments_in words ≡ Some (Number n) → command_of clear named ((letter ∷ []) ∷ words) ≡ Some command)
       → BeginsWithCommand clear named bytes command after
   one-number n numbers behind is number feed means =
       let digits = number.digits in
-      let natural = number.natural (2 ^ 32 - 1) (omega arith) in
+      let natural = number.natural (2 ^ 64 - 1) (omega arith) in
       let whole : bytes ≡ (letter ∷ 32 ∷ digits) ++ 10 ∷ after = rw (is, number.whole, feed) refl in
       let no_feed : Lacks 10 (letter ∷ 32 ∷ digits) =
       Lacks-cons 10 letter (32 ∷ digits) (search arith) (Lacks-cons 10 32 digits (search arith) (natural-lacks 10 refl _ n digits natural)) in
@@ -79,14 +80,15 @@ module _ {C : Type 0} (clear : C) (named : List ℕ → List (List ℕ) → Opti
         first = letter;
         others = 32 ∷ digits;
         lines = ap lines_of whole ∙ parted-append 10 [] (letter ∷ 32 ∷ digits) after no_feed;
-        spells = ap (command_of clear named) words ∙ means (digits ∷ []) natural;
+        spells = ap (command_of clear named) words ∙ means (digits ∷ []) (ap (option_map Number) natural);
         shorter = rw whole (omega (arith, length-append (letter ∷ 32 ∷ digits) (10 ∷ after)));
       }
 
   -- a letter and two numbers
   pub two-numbers : (width height : ℕ) (numbers behind rest end : List ℕ) → bytes ≡ letter ∷ 32 ∷ numbers → BeginsWithNumber numbers width behind → behind ≡ 32 ∷ rest
       → BeginsWithNumber rest height end → end ≡ 10 ∷ after
-      → ((words : List (List ℕ)) → size_in words ≡ Some (record { width = pos width; height = pos height }) → named (letter ∷ []) words ≡ Some command)
+      → ((words : List (List ℕ)) → arguments_in words ≡ Some (Sized (record { width = pos width; height = pos height }))
+      → command_of clear named ((letter ∷ []) ∷ words) ≡ Some command)
       → BeginsWithCommand clear named bytes command after
   two-numbers width height numbers behind rest end is first space second feed means =
       let one = first.digits in
@@ -103,7 +105,7 @@ module _ {C : Type 0} (clear : C) (named : List ℕ → List (List ℕ) → Opti
       parted-append 32 ([] ∷ []) (letter ∷ []) (one ++ 32 ∷ two) (Lacks-cons 32 letter [] (search arith) (All-nil (λ byte. byte ≢ 32)))
       ∙ ap (λ l. (letter ∷ []) ∷ l) (parted-append 32 ([] ∷ []) one two (natural-lacks 32 refl _ width one natural-one))
       ∙ ap (λ l. (letter ∷ []) ∷ one ∷ l) (parted-one 32 two (natural-lacks 32 refl _ height two natural-two)) in
-      let size : size_in (one ∷ two ∷ []) ≡ Some (record { width = pos width; height = pos height }) =
+      let size : arguments_in (one ∷ two ∷ []) ≡ Some (Sized (record { width = pos width; height = pos height })) =
       rw (number-natural width one natural-one, number-natural height two natural-two) refl in
       record {
         first = letter;

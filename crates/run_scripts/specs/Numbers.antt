@@ -37,9 +37,9 @@ number_of (first ∷ rest) =
 abbrev pub position_of : List ℕ → Option ℕ
 position_of word = natural_of (2 ^ 32 - 1) word
 
--- a value and one more digit behind it, where it fits a `u32`
+-- a value and one more digit behind it, where it fits a `u64`
 abbrev pub with_digit : ℕ → ℕ → Option ℕ
 with_digit value byte =
-    if is_ascii_digit byte && nat_le (value * 10 + (byte - digit_zero)) (2 ^ 32 - 1)
+    if is_ascii_digit byte && nat_le (value * 10 + (byte - digit_zero)) (2 ^ 64 - 1)
     then Some (value * 10 + (byte - digit_zero))
     else None

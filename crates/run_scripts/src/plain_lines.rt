@@ -28,7 +28,10 @@ pub fn plain_command<C: Spelled>(bytes: &[u8]) -> Option<(C, &[u8])>
     }
     let (first, behind) = leading_number(numbers)?;
     match behind {
-        [b'\n', after @ ..] => Some((C::with_position(*letter, first as usize)?, after)),
+        [b'\n', after @ ..] => {
+            let number = u64::from(first);
+            Some((C::with_number(*letter, number)?, after))
+        }
         [b' ', numbers @ ..] => {
             let (second, behind) = leading_number(numbers)?;
             let [b'\n', after @ ..] = behind else {

@@ -1,13 +1,15 @@
 //! What the words of a line stand for: a header, or a command for an atlas of one kind.
 //!
-//! Definitions: `Words`, over `Lines` and `Numbers`. A new command goes into the table of its atlas here and there.
+//! Definitions: `Words`, over `Lines` and `Numbers`. A new command goes into the table of its atlas here and there: here that
+//! is its `Spelled`, by which lines are read in one pass and word by word.
 
-ghost use Rattle.std.specs.Prelude.{◌≡◌, ℕ, List, [], ◌∷◌, Option, Some, IfSome};
+ghost use Rattle.std.specs.Prelude.{◌≡◌, ◌≢◌, ℕ, List, [], ◌∷◌, Option, IfNone, IfSome, length};
 ghost use Rattle.run_scripts.specs.Lines.{words_of};
 ghost use Rattle.run_scripts.specs.Words as spec;
+ghost use Rattle.run_scripts.specs.Private.Arguments.{AreLettered, IsSpelled, Nothing, Number, NumberAndSize, Sized};
 
 use crate::lines::split_word;
-use crate::numbers::{number_of, position_of};
+use crate::numbers::{natural_of, number_of, position};
 use etagere_base::{AllocatorOptions, Size};
 use run_commands::commands::{AtlasCommand, BucketedCommand};
 
@@ -80,44 +82,71 @@ pub fn direction_of(direction: &[u8]) -> Option<bool>
     }
 }
 
-/// The commands for one kind of atlas, as lines spell them.
+/// The commands for one kind of atlas, as lines spell them: each is a letter, and what may stand behind one.
+///
+/// This is the table of the commands: in one pass and word by word, lines are read by it alone.
 pub trait Spelled: Copy {
     ghost cleared: { Self };
 
     ghost meaning: { List ℕ → List (List ℕ) → Option Self };
 
-    /// The command to clear the atlas.
-    fn clear() -> Self
-        ensures { result ≡ cleared };
+    /// The command of a letter alone.
+    fn alone(letter: u8) -> Option<Self>
+        ensures { IsSpelled cleared meaning letter Nothing result };
 
-    /// The command of a name alone. `c` is left to `clear`.
-    fn alone(name: &[u8]) -> Option<Self>
-        ensures { result ≡ meaning name.now [] };
+    /// The command of a letter and a number.
+    fn with_number(letter: u8, number: u64) -> Option<Self>
+        ensures { IsSpelled cleared meaning letter (Number number) result };
 
-    /// The command of a name and the words after it.
-    fn named(name: &[u8], words: &[u8]) -> Option<Self>
-        ensures { result ≡ meaning name.now (words_of words.now) };
-
-    /// The command of a letter and a size. What it doesn't know is left to `named`.
+    /// The command of a letter and a size.
     fn with_size(letter: u8, size: Size) -> Option<Self>
-        ensures { IfSome result (λ command. (words : List (List ℕ)) → spec.size_in words ≡ Some size
-            → meaning (letter ∷ []) words ≡ Some command) };
+        ensures { IsSpelled cleared meaning letter (Sized size) result };
 
-    /// The command of a letter and a position. What it doesn't know is left to `named`.
-    fn with_position(letter: u8, position: usize) -> Option<Self>
-        ensures { IfSome result (λ command. (words : List (List ℕ))
-            → spec.position_in words ≡ Some position → meaning (letter ∷ []) words ≡ Some command) };
+    /// The command of a letter, a number and a size.
+    fn with_number_and_size(letter: u8, number: u64, size: Size) -> Option<Self>
+        ensures { IsSpelled cleared meaning letter (NumberAndSize number size) result };
+
+    /// Does nothing: there is no command but of a letter and what may stand behind one.
+    fn lettered()
+        ensures { AreLettered cleared meaning };
 }
 
 /// The command that a line spells.
-#[tactic(auto, using(crate::proofs::LastWord::last_words))]
 pub fn command_of<C: Spelled>(line: &[u8]) -> Option<C>
     ensures { result ≡ spec.command_of C.cleared C.meaning (words_of line.now) }
 {
+    C::lettered();
     match split_word(line) {
-        Some((name, words)) => C::named(name, words),
-        None if line == b"c".as_slice() => Some(C::clear()),
-        None => C::alone(line),
+        Some((name, words)) => command_with(letter_of(name)?, words),
+        None => C::alone(letter_of(line)?),
+    }
+}
+
+/// The letter that a name is, if it is one.
+fn letter_of(name: &[u8]) -> Option<u8>
+    ensures letter { IfSome result (λ letter. name.now ≡ letter ∷ []) }
+    ensures none { IfNone result (length name.now ≢ 1) }
+{
+    match name {
+        [letter] => Some(*letter),
+        _ => None,
+    }
+}
+
+/// The command of a letter and the words behind it.
+fn command_with<C: Spelled>(letter: u8, words: &[u8]) -> Option<C>
+    ensures { result ≡ spec.command_of C.cleared C.meaning ((letter ∷ []) ∷ words_of words.now) }
+{
+    C::lettered();
+    let Some((first, words)) = split_word(words) else {
+        return C::with_number(letter, natural_of(words)?);
+    };
+    match split_word(words) {
+        Some((width, height)) => {
+            let number = natural_of(first)?;
+            C::with_number_and_size(letter, number, size_of(width, height)?)
+        }
+        None => C::with_size(letter, size_of(first, words)?),
     }
 }
 
@@ -128,22 +157,17 @@ impl Spelled for AtlasCommand {
 
     ghost meaning = { spec.atlas_command_named };
 
-    fn clear() -> AtlasCommand {
-        AtlasCommand::Clear
+    fn alone(letter: u8) -> Option<AtlasCommand> {
+        match letter {
+            b'c' => Some(AtlasCommand::Clear),
+            _ => None,
+        }
     }
 
-    #[tactic(auto, using(crate::proofs::LoneNames::lone_names))]
-    fn alone(_name: &[u8]) -> Option<AtlasCommand> {
-        None
-    }
-
-    #[tactic(auto, using(crate::proofs::LastWord::last_words))]
-    fn named(name: &[u8], words: &[u8]) -> Option<AtlasCommand> {
-        match name {
-            b"a" => Some(AtlasCommand::Allocate(size_in(words)?)),
-            b"r" => Some(AtlasCommand::Return(position_in(words)?)),
-            b"l" => Some(AtlasCommand::Look(position_in(words)?)),
-            b"g" => Some(AtlasCommand::Grow(size_in(words)?)),
+    fn with_number(letter: u8, number: u64) -> Option<AtlasCommand> {
+        match letter {
+            b'r' => Some(AtlasCommand::Return(position(number)?)),
+            b'l' => Some(AtlasCommand::Look(position(number)?)),
             _ => None,
         }
     }
@@ -156,13 +180,12 @@ impl Spelled for AtlasCommand {
         }
     }
 
-    fn with_position(letter: u8, position: usize) -> Option<AtlasCommand> {
-        match letter {
-            b'r' => Some(AtlasCommand::Return(position)),
-            b'l' => Some(AtlasCommand::Look(position)),
-            _ => None,
-        }
+    fn with_number_and_size(_letter: u8, _number: u64, _size: Size) -> Option<AtlasCommand> {
+        None
     }
+
+    #[tactic(auto, using(crate::proofs::LetteredCommands::lettered_commands))]
+    fn lettered() {}
 }
 
 impl Spelled for BucketedCommand {
@@ -172,21 +195,16 @@ impl Spelled for BucketedCommand {
 
     ghost meaning = { spec.bucketed_command_named };
 
-    fn clear() -> BucketedCommand {
-        BucketedCommand::Clear
+    fn alone(letter: u8) -> Option<BucketedCommand> {
+        match letter {
+            b'c' => Some(BucketedCommand::Clear),
+            _ => None,
+        }
     }
 
-    #[tactic(auto, using(crate::proofs::LoneNames::lone_names))]
-    fn alone(_name: &[u8]) -> Option<BucketedCommand> {
-        None
-    }
-
-    #[tactic(auto, using(crate::proofs::LastWord::last_words))]
-    fn named(name: &[u8], words: &[u8]) -> Option<BucketedCommand> {
-        match name {
-            b"a" => Some(BucketedCommand::Allocate(size_in(words)?)),
-            b"r" => Some(BucketedCommand::Return(position_in(words)?)),
-            b"g" => Some(BucketedCommand::Grow(size_in(words)?)),
+    fn with_number(letter: u8, number: u64) -> Option<BucketedCommand> {
+        match letter {
+            b'r' => Some(BucketedCommand::Return(position(number)?)),
             _ => None,
         }
     }
@@ -199,28 +217,12 @@ impl Spelled for BucketedCommand {
         }
     }
 
-    fn with_position(letter: u8, position: usize) -> Option<BucketedCommand> {
-        match letter {
-            b'r' => Some(BucketedCommand::Return(position)),
-            _ => None,
-        }
+    fn with_number_and_size(_letter: u8, _number: u64, _size: Size) -> Option<BucketedCommand> {
+        None
     }
-}
 
-/// The position that one word spells.
-fn position_in(words: &[u8]) -> Option<usize>
-    ensures { result ≡ spec.position_in (words_of words.now) }
-{
-    position_of(words)
-}
-
-/// The size that two words spell.
-#[tactic(auto, using(crate::proofs::LastWord::last_words))]
-pub fn size_in(words: &[u8]) -> Option<Size>
-    ensures { result ≡ spec.size_in (words_of words.now) }
-{
-    let (width, height) = split_word(words)?;
-    size_of(width, height)
+    #[tactic(auto, using(crate::proofs::LetteredCommands::lettered_commands))]
+    fn lettered() {}
 }
 
 /// The size that a word for the width and one for the height spell.

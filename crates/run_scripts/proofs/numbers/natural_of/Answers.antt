@@ -2,7 +2,7 @@ use Rattle.std.proofs.Common.{◌-◌, ◌^◌, sym, ◌∙◌, arith, rules}
 use Rattle.std.proofs.lemmas.Bool.Decides.{nat_tests}
 use Rattle.std.proofs.lemmas.List.{at_drop_all}
 use Rattle.run_scripts.proofs.Digits.{natural_after, natural_after-stop, natural_after-go, natural_after-zero, natural_after-nil}
-use Rattle.glyph_run.proofs.keys.key_of.Goals as goal
+use Rattle.run_scripts.proofs.numbers.natural_of.Goals as goal
 
 pub returns-in_err-value : goal.returns-in_err-value
 returns-in_err-value c =
