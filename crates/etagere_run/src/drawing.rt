@@ -14,7 +14,7 @@ ghost use Rattle.run_scripts.specs.Script.{script_of};
 use crate::saved::refusal;
 use etagere::{AllocatorOptions, AtlasAllocator, OptionsFault, Size};
 use etagere_bucketed::BucketedAtlasAllocator;
-use run_answers::running::{Beginning, Room, answer_all};
+use run_answers::running::{Beginning, run_new};
 use run_commands::commands::Reply;
 use run_commands::faults::{Checked, Drawing, Outcome, ReplayFault, RunFault};
 use run_scripts::reading::read_all;
@@ -196,12 +196,8 @@ fn atlas_after<A: Beginning>(
     ensures accepted { OnOk result (IsAccepted A.longest size options.now) }
     ensures err { IfErr result (RefusesRun A.longest size options.now) }
 {
-    let Ok(room) = Room::with_capacity(alloc, commands.len()) else {
-        return Err(RunFault::Memory);
-    };
-    let mut atlas = A::begin(alloc, size, options).map_err(RunFault::Options)?;
-    let replies = answer_all(&mut atlas, room, commands);
-    with_all_answered(atlas, replies.as_slice())
+    let answered = run_new::<A>(alloc, size, options, commands)?;
+    with_all_answered(answered.atlas, answered.replies.as_slice())
 }
 
 /// The atlas, if memory was there for every command that has these replies.

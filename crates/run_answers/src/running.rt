@@ -62,20 +62,27 @@ pub trait Beginning: Answering + Drop {
 
 /// Room for a run: for its replies, and for the ledger of what is live.
 #[derive(Drop)]
-pub struct Room {
-    pub replies: Vec<Reply>,
-    pub ledger: Ledger,
+struct Room {
+    replies: Vec<Reply>,
+    ledger: Ledger,
 }
 
 impl Room {
     /// Room for so many commands.
-    pub fn with_capacity(alloc: Global, count: usize) -> Result<Room, AllocError>
+    fn with_capacity(alloc: Global, count: usize) -> Result<Room, AllocError>
         ensures empty { IfOk result (λ room. IsEmptyRoom count room) }
     {
         let replies = Vec::with_capacity(alloc, count)?;
         let ledger = Ledger::with_capacity(alloc, count)?;
         Ok(Room { replies, ledger })
     }
+}
+
+/// A new atlas that has answered commands, and its replies.
+#[derive(Drop)]
+pub struct Answered<A: Drop> {
+    pub atlas: A,
+    pub replies: Vec<Reply>,
 }
 
 /// The replies of a new atlas to the commands, one after another. `run_atlas` says which faults come, and what memory is
@@ -93,19 +100,37 @@ pub fn run<A: Beginning>(
     ensures accepted { OnOk result (IsAccepted A.longest size options.now) }
     ensures err { IfErr result (RefusesRun A.longest size options.now) }
 {
+    Ok(run_new::<A>(alloc, size, options, commands)?.replies)
+}
+
+/// A new atlas that has answered the commands, one after another. As `run`.
+pub fn run_new<A: Beginning>(
+    alloc: Global,
+    size: Size,
+    options: &AllocatorOptions,
+    commands: &[A::Command],
+) -> Result<Answered<A>, RunFault>
+    ensures last { IfOk result (λ answered. Runs A.kind 0 [] (A.kind.fresh (A.framed size options.now))
+        commands.now answered.replies.items answered.atlas) }
+    ensures promises { IfOk result (λ answered.
+        RunKeepsPromisesThroughout A.kind (A.framed size options.now)
+        commands.now answered.replies.items) }
+    ensures accepted { OnOk result (IsAccepted A.longest size options.now) }
+    ensures err { IfErr result (RefusesRun A.longest size options.now) }
+{
     let Ok(room) = Room::with_capacity(alloc, commands.len()) else {
         return Err(RunFault::Memory);
     };
     let mut atlas = A::begin(alloc, size, options).map_err(RunFault::Options)?;
-    Ok(answer_all(&mut atlas, room, commands))
+    let replies = answer_all(&mut atlas, room, commands);
+    Ok(Answered { atlas, replies })
 }
 
 /// The replies of an atlas to the commands, one after another.
-pub fn answer_all<A: Answering>(atlas: &mut A, room: Room, commands: &[A::Command]) -> Vec<Reply>
+fn answer_all<A: Answering>(atlas: &mut A, room: Room, commands: &[A::Command]) -> Vec<Reply>
     requires suits { SuitsRuns A.kind A.Tied }
     requires new { IsNew A.kind A.Tied atlas.old }
     requires room { IsEmptyRoom (length commands.now) room }
-    ensures run { RunsTo A.kind (A.kind.frame atlas.old) commands.now result.items }
     ensures last { Runs A.kind 0 [] (A.kind.fresh (A.kind.frame atlas.old))
         commands.now result.items atlas.new }
     ensures promises { RunKeepsPromisesThroughout A.kind (A.kind.frame atlas.old)

@@ -2,16 +2,18 @@
 //!
 //! Definition: `GoingOn`, over `Runs`. What is told of a command is said by `Explaining`.
 
-ghost use Rattle.std.specs.Prelude.{◌≡◌, ◌≤◌, ◌+◌, ◌++◌, ◌↔◌, [], All, IfOk, IsTrue, OnOk, length, vec_capacity, vec_len};
+ghost use Rattle.std.specs.Prelude.{◌≡◌, ◌≤◌, ◌+◌, ◌++◌, ◌↔◌, [], All, IfErr, IfOk, IsTrue, OnOk, length, vec_capacity, vec_len};
+ghost use Rattle.etagere_base.specs.Frames.{IsAccepted};
 ghost use Rattle.run_answers.specs.Live.{live_from};
-ghost use Rattle.run_answers.specs.Runs.{effects};
+ghost use Rattle.run_answers.specs.Runs.{RefusesRun, effects, live_in};
 ghost use Rattle.run_answers.specs.Private.Tables.{entries_of};
 ghost use Rattle.traffic.specs.GoingOn.{GoesOn, HasMemory, with_finding};
 
-use etagere::{BucketedRefusal, Refusal, Size};
+use etagere::{AllocatorOptions, BucketedRefusal, Refusal, Size};
 use run_answers::ledger::Ledger;
-use run_answers::running::{Answering, answer_next};
+use run_answers::running::{Beginning, answer_next};
 use run_commands::commands::Reply;
+use run_commands::faults::RunFault;
 use std::alloc::{AllocError, Global};
 
 /// Why a command was refused.
@@ -43,8 +45,8 @@ pub struct Finding {
     pub refused: Refused,
 }
 
-/// An atlas that tells why it refused a command.
-pub trait Explaining: Answering {
+/// An atlas on which runs begin, and that tells why it refused a command.
+pub trait Explaining: Beginning {
     ghost use Rattle.std.specs.Prelude.{Option};
     ghost use Rattle.run_commands.specs.declared.commands.Reply.{Reply};
     ghost use Rattle.traffic.specs.declared.going_on.Refused.{Refused};
@@ -61,6 +63,47 @@ pub trait Explaining: Answering {
 pub struct Answers {
     pub replies: Vec<Reply>,
     pub findings: Vec<Finding>,
+}
+
+/// A new atlas that has answered commands, the ledger of what is live in it, and what it answered.
+#[derive(Drop)]
+pub struct Gone<A: Drop> {
+    pub atlas: A,
+    pub ledger: Ledger,
+    pub answers: Answers,
+}
+
+/// Runs the commands in order on a new atlas of this size in pixels.
+///
+/// `Options` has the first fault of the size and options, or `OptionsFault::Memory` where these have none and there was
+/// no memory for the atlas. `Memory` comes where there is none for the ledger, the replies or the findings. Takes memory
+/// for a slot in the ledger for each command, beside what the atlas and `go_on` take.
+pub fn go_on_new<A: Explaining>(
+    alloc: Global,
+    size: Size,
+    options: &AllocatorOptions,
+    commands: &[A::Command],
+) -> Result<Gone<A>, RunFault>
+    ensures answers { IfOk result (λ gone.
+        GoesOn A.kind A.told 0 [] (A.kind.fresh (A.framed size options.now))
+        commands.now gone.answers.replies.items gone.answers.findings.items gone.atlas) }
+    ensures live { IfOk result (λ gone.
+        entries_of gone.ledger ≡ live_in A.kind commands.now gone.answers.replies.items) }
+    ensures accepted { OnOk result (IsAccepted A.longest size options.now) }
+    ensures err { IfErr result (RefusesRun A.longest size options.now) }
+{
+    let Ok(mut ledger) = Ledger::with_capacity(alloc, commands.len()) else {
+        return Err(RunFault::Memory);
+    };
+    let mut atlas = A::begin(alloc, size, options).map_err(RunFault::Options)?;
+    let Ok(answers) = go_on(alloc, &mut atlas, &mut ledger, commands) else {
+        return Err(RunFault::Memory);
+    };
+    Ok(Gone {
+        atlas,
+        ledger,
+        answers,
+    })
 }
 
 /// Runs the commands in order on an atlas that a ledger goes with, whatever was run before.

@@ -10,9 +10,8 @@ ghost use Rattle.run_answers.specs.BucketedRuns.{bucketed_atlas};
 ghost use Rattle.run_answers.specs.Runs.{RefusesRun};
 ghost use Rattle.traffic.specs.Refusals.{IsExplainedBy, atlas_told, bucketed_told};
 
-use crate::going_on::{Explaining, Finding, Reason, Refused, go_on, had_memory};
+use crate::going_on::{Explaining, Finding, Reason, Refused, go_on_new, had_memory};
 use etagere::{AllocatorOptions, AtlasAllocator, BucketedAtlasAllocator, Size};
-use run_answers::ledger::Ledger;
 use run_commands::commands::{AtlasCommand, BucketedCommand, Reply};
 use run_commands::faults::RunFault;
 use std::alloc::Global;
@@ -76,17 +75,7 @@ pub fn explain_atlas(
     ensures accepted { OnOk result (IsAccepted longest_side size options.now) }
     ensures err { IfErr result (RefusesRun longest_side size options.now) }
 {
-    let Ok(mut ledger) = Ledger::with_capacity(alloc, commands.len()) else {
-        return Err(RunFault::Memory);
-    };
-    let mut atlas = AtlasAllocator::with_options(alloc, size, options).map_err(RunFault::Options)?;
-    let Ok(answers) = go_on(alloc, &mut atlas, &mut ledger, commands) else {
-        return Err(RunFault::Memory);
-    };
-    if !had_memory(answers.replies.as_slice()) {
-        return Err(RunFault::Memory);
-    }
-    Ok(answers.findings)
+    explain::<AtlasAllocator>(alloc, size, options, commands)
 }
 
 /// What is told of the commands that a new bucketed atlas of this size in pixels refuses, in order. As `explain_atlas`.
@@ -101,15 +90,23 @@ pub fn explain_buckets(
     ensures accepted { OnOk result (IsAccepted longest_bucketed_side size options.now) }
     ensures err { IfErr result (RefusesRun longest_bucketed_side size options.now) }
 {
-    let Ok(mut ledger) = Ledger::with_capacity(alloc, commands.len()) else {
-        return Err(RunFault::Memory);
-    };
-    let mut atlas = BucketedAtlasAllocator::with_options(alloc, size, options).map_err(
-        RunFault::Options,
-    )?;
-    let Ok(answers) = go_on(alloc, &mut atlas, &mut ledger, commands) else {
-        return Err(RunFault::Memory);
-    };
+    explain::<BucketedAtlasAllocator>(alloc, size, options, commands)
+}
+
+/// What is told of the commands that a new atlas of either kind refuses, in order. As `explain_atlas`.
+fn explain<A: Explaining>(
+    alloc: Global,
+    size: Size,
+    options: &AllocatorOptions,
+    commands: &[A::Command],
+) -> Result<Vec<Finding>, RunFault>
+    ensures told { IfOk result (λ findings. IsExplainedBy A.kind A.told (A.framed size options.now)
+        commands.now findings.items) }
+    ensures accepted { OnOk result (IsAccepted A.longest size options.now) }
+    ensures err { IfErr result (RefusesRun A.longest size options.now) }
+{
+    let gone = go_on_new::<A>(alloc, size, options, commands)?;
+    let answers = gone.answers;
     if !had_memory(answers.replies.as_slice()) {
         return Err(RunFault::Memory);
     }

@@ -6,13 +6,13 @@ ghost use Rattle.std.specs.Prelude.{IfErr, IfOk, OnOk};
 ghost use Rattle.etagere_base.specs.Frames.{IsAccepted, atlas_frame, longest_side};
 ghost use Rattle.bucketed_model.specs.Frames.{bucketed_frame, longest_bucketed_side};
 ghost use Rattle.run_answers.specs.Runs.{RefusesRun};
-ghost use Rattle.traffic.specs.Saving.{SavesAtlas, SavesBuckets};
+ghost use Rattle.traffic.specs.Saving.{LeadsTo, SavesAtlas, SavesBuckets};
 
 use crate::going_on::had_memory;
 use etagere::{
     AllocatorOptions, AtlasAllocator, AtlasSnapshot, BucketedAtlasAllocator, BucketedSnapshot, Size,
 };
-use run_answers::running::{Room, answer_all};
+use run_answers::running::{Beginning, run_new};
 use run_commands::commands::{AtlasCommand, BucketedCommand};
 use run_commands::faults::RunFault;
 use std::alloc::Global;
@@ -32,14 +32,7 @@ pub fn save_atlas(
     ensures accepted { OnOk result (IsAccepted longest_side size options.now) }
     ensures err { IfErr result (RefusesRun longest_side size options.now) }
 {
-    let Ok(room) = Room::with_capacity(alloc, commands.len()) else {
-        return Err(RunFault::Memory);
-    };
-    let mut atlas = AtlasAllocator::with_options(alloc, size, options).map_err(RunFault::Options)?;
-    let replies = answer_all(&mut atlas, room, commands);
-    if !had_memory(replies.as_slice()) {
-        return Err(RunFault::Memory);
-    }
+    let atlas = atlas_after::<AtlasAllocator>(alloc, size, options, commands)?;
     let Ok(snapshot) = atlas.snapshot() else {
         return Err(RunFault::Memory);
     };
@@ -57,18 +50,28 @@ pub fn save_buckets(
     ensures accepted { OnOk result (IsAccepted longest_bucketed_side size options.now) }
     ensures err { IfErr result (RefusesRun longest_bucketed_side size options.now) }
 {
-    let Ok(room) = Room::with_capacity(alloc, commands.len()) else {
-        return Err(RunFault::Memory);
-    };
-    let mut atlas = BucketedAtlasAllocator::with_options(alloc, size, options).map_err(
-        RunFault::Options,
-    )?;
-    let replies = answer_all(&mut atlas, room, commands);
-    if !had_memory(replies.as_slice()) {
-        return Err(RunFault::Memory);
-    }
+    let atlas = atlas_after::<BucketedAtlasAllocator>(alloc, size, options, commands)?;
     let Ok(snapshot) = atlas.snapshot() else {
         return Err(RunFault::Memory);
     };
     Ok(snapshot)
+}
+
+/// A new atlas that has answered the commands, if memory was there for each.
+fn atlas_after<A: Beginning>(
+    alloc: Global,
+    size: Size,
+    options: &AllocatorOptions,
+    commands: &[A::Command],
+) -> Result<A, RunFault>
+    ensures led { IfOk result (λ atlas.
+        LeadsTo A.kind (A.framed size options.now) commands.now atlas) }
+    ensures accepted { OnOk result (IsAccepted A.longest size options.now) }
+    ensures err { IfErr result (RefusesRun A.longest size options.now) }
+{
+    let answered = run_new::<A>(alloc, size, options, commands)?;
+    if !had_memory(answered.replies.as_slice()) {
+        return Err(RunFault::Memory);
+    }
+    Ok(answered.atlas)
 }

@@ -8,12 +8,11 @@ ghost use Rattle.bucketed_model.specs.Frames.{bucketed_frame, longest_bucketed_s
 ghost use Rattle.run_answers.specs.Runs.{RefusesRun};
 ghost use Rattle.traffic.specs.Stats.{AreAtlasStats, AreBucketedStats};
 
-use crate::going_on::go_on;
+use crate::going_on::go_on_new;
 use crate::tallies::{Tally, asked_space, tally_of};
 use etagere::{
     AllocatorOptions, AtlasAllocator, BucketedAtlasAllocator, BucketedUsage, Size, Usage,
 };
-use run_answers::ledger::Ledger;
 use run_commands::commands::{AtlasCommand, BucketedCommand};
 use run_commands::faults::RunFault;
 use std::alloc::Global;
@@ -59,19 +58,13 @@ pub fn atlas_stats(
     ensures accepted { OnOk result (IsAccepted longest_side size options.now) }
     ensures err { IfErr result (RefusesRun longest_side size options.now) }
 {
-    let Ok(mut ledger) = Ledger::with_capacity(alloc, commands.len()) else {
-        return Err(RunFault::Memory);
-    };
-    let mut atlas = AtlasAllocator::with_options(alloc, size, options).map_err(RunFault::Options)?;
-    let Ok(answers) = go_on(alloc, &mut atlas, &mut ledger, commands) else {
-        return Err(RunFault::Memory);
-    };
+    let gone = go_on_new::<AtlasAllocator>(alloc, size, options, commands)?;
     Ok(AtlasStats {
-        tally: tally_of(commands, answers.replies.as_slice()),
-        asked: asked_space(&ledger, commands),
-        allocated: atlas.allocated_space(),
-        free: atlas.free_space(),
-        usage: atlas.usage(),
+        tally: tally_of(commands, gone.answers.replies.as_slice()),
+        asked: asked_space(&gone.ledger, commands),
+        allocated: gone.atlas.allocated_space(),
+        free: gone.atlas.free_space(),
+        usage: gone.atlas.usage(),
     })
 }
 
@@ -86,20 +79,12 @@ pub fn bucketed_stats(
     ensures accepted { OnOk result (IsAccepted longest_bucketed_side size options.now) }
     ensures err { IfErr result (RefusesRun longest_bucketed_side size options.now) }
 {
-    let Ok(mut ledger) = Ledger::with_capacity(alloc, commands.len()) else {
-        return Err(RunFault::Memory);
-    };
-    let mut atlas = BucketedAtlasAllocator::with_options(alloc, size, options).map_err(
-        RunFault::Options,
-    )?;
-    let Ok(answers) = go_on(alloc, &mut atlas, &mut ledger, commands) else {
-        return Err(RunFault::Memory);
-    };
+    let gone = go_on_new::<BucketedAtlasAllocator>(alloc, size, options, commands)?;
     Ok(BucketedStats {
-        tally: tally_of(commands, answers.replies.as_slice()),
-        asked: asked_space(&ledger, commands),
-        allocated: atlas.allocated_space(),
-        free: atlas.free_space(),
-        usage: atlas.usage(),
+        tally: tally_of(commands, gone.answers.replies.as_slice()),
+        asked: asked_space(&gone.ledger, commands),
+        allocated: gone.atlas.allocated_space(),
+        free: gone.atlas.free_space(),
+        usage: gone.atlas.usage(),
     })
 }

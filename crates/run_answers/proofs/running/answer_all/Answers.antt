@@ -49,4 +49,4 @@ returns g c =
     let end = ends kind g.A.Answering.Tied (kind.frame c.args.atlas.now) c.args.commands.now c.loop-position.position
     c.loop-position.replies.items (entries_of c.loop-position.ledger) c.loop-position.atlas all
     c.loop-position.invariant.way c.loop-position.invariant.throughout in
-    record { run = (c.loop-position.atlas, end.0); last = end.0; promises = end.1 }
+    record { last = end.0; promises = end.1 }
