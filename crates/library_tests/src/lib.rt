@@ -1,11 +1,7 @@
-//! Tests of what no clause and no row says, over several crates.
+//! Tests of what no clause and no row says, of atlases and of streams.
 #![tactic(auto)]
 
 #[cfg(test)]
 mod atlases;
-#[cfg(test)]
-mod maps;
-#[cfg(test)]
-mod pages;
 #[cfg(test)]
 mod streams;

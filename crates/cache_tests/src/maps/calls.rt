@@ -1,8 +1,9 @@
 //! Each call once, with ample memory.
 
+use crate::assertions::equal;
 use crate::maps::support::{
-    Pictures, begin_frame, clear, counts, equal, get, grow, is_empty, is_in_order, keep_even,
-    keep_one, keep_others, look_up, name_of, new_pictures, peek, place_all, remove, use_name,
+    Pictures, begin_frame, clear, counts, get, grow, is_empty, is_in_order, keep_even, keep_one,
+    keep_others, look_up, name_of, new_pictures, peek, place_all, remove, use_name,
 };
 use std::alloc::{AllocError, Global};
 use std::process::Abort;

@@ -1,6 +1,6 @@
 //! A map of pictures under names, by calls that promise nothing, so that a test is proved safe in little time.
 
-use crate::streams::assertions::equal_at;
+use crate::assertions::{equal, equal_at};
 use cache_runs::maps::{answer_on_map, retain_on_map};
 use cache_runs::{MapCall, MapReply};
 use etagere::{DEFAULT_OPTIONS, OptionsFault, size2};
@@ -20,10 +20,6 @@ pub struct Picture {
 }
 
 pub type Pictures = GlyphMap<String, Picture>;
-
-pub fn equal<T: PartialEq + Debug>(rt: &impl Abort, found: &T, wanted: &T) {
-    assert_eq!(rt; found, wanted);
-}
 
 /// A map of so many names over an atlas of 64x64.
 pub fn pictures(alloc: Global, capacity: usize) -> Result<Pictures, OptionsFault> {

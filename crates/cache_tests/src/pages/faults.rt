@@ -1,5 +1,6 @@
 //! Faults of pages: which comes, their numbers and their names.
 
+use crate::assertions::equal;
 use atlas_pages::{
     AtlasPages, FewerPages, PageChoice, PageOptions, PagesFault, PagesRestoreFault, PagesSnapshot,
 };
@@ -7,14 +8,7 @@ use etagere::{DEFAULT_OPTIONS, OptionsFault, RestoreFault, Size, size2};
 use padding::{NO_PADDING, Padding};
 use shelf_model::faults::Refusal;
 use std::alloc::Global;
-use std::fmt::Debug;
-use std::process::Abort;
 use std::test::Fail;
-
-/// A comparison that promises nothing, so that a test is proved safe in little time.
-fn equal<T: PartialEq + Debug>(rt: &impl Abort, found: &T, wanted: &T) {
-    assert_eq!(rt; found, wanted);
-}
 
 fn page_options(size: Size, most_pages: u32) -> PageOptions {
     PageOptions {

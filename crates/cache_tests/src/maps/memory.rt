@@ -1,8 +1,9 @@
 //! Where memory is refused, each name and its picture is in the map or comes back. To refuse the Nth request for
 //! memory: `rt try --test --fail-alloc N`.
 
+use crate::assertions::equal;
 use crate::maps::support::{
-    Picture, Pictures, counts, equal, keep_even, pair_of, pictures, restore, save,
+    Picture, Pictures, counts, keep_even, pair_of, pictures, restore, save,
 };
 use etagere::size2;
 use glyph_map::{MapFault, Refused};

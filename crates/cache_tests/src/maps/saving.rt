@@ -1,8 +1,9 @@
 //! A map that is saved and restored, and what comes back where it can't be.
 
+use crate::assertions::equal;
 use crate::maps::support::{
-    Picture, Pictures, begin_frame, counts, equal, is_in_order, look_up, name_of, new_pictures,
-    pair_of, peek, place, place_all, refusal, restore, save,
+    Picture, Pictures, begin_frame, counts, is_in_order, look_up, name_of, new_pictures, pair_of,
+    peek, place, place_all, refusal, restore, save,
 };
 use etagere::Rectangle;
 use glyph_shelf::CacheSnapshot;

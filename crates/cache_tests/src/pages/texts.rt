@@ -1,10 +1,10 @@
 //! The text of saved pages, which is read as it was written.
 
+use crate::assertions::holds;
 use atlas_pages::{AtlasPages, PageChoice, PageOptions, PagesSnapshot};
 use etagere::{DEFAULT_OPTIONS, size2};
 use saved_pages::{read_saved_pages, write_saved_pages};
 use std::alloc::Global;
-use std::process::Abort;
 use std::test::Fail;
 
 /// A page of 10 by 10 pixels that is full, of three at most.
@@ -30,10 +30,6 @@ fn text_of(alloc: Global, saved: &PagesSnapshot) -> Option<Vec<u8>> {
 
 fn read(alloc: Global, text: &str) -> Option<PagesSnapshot> {
     read_saved_pages(alloc, text.as_bytes()).ok()
-}
-
-fn holds(rt: &impl Abort, is_so: bool) {
-    assert!(rt; is_so);
 }
 
 #[test]
