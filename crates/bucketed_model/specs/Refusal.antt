@@ -4,8 +4,7 @@ use Rattle.std.specs.List.{list_any}
 use Rattle.etagere_base.specs.declared.frames.Frame.{Frame}
 use Rattle.etagere_base.specs.declared.geometry.Size.{Size}
 use Rattle.etagere_base.specs.declared.sides.Sides.{Sides}
-use Rattle.etagere_base.specs.Frames.{across_side, asked, longest_side, rounded}
-use Rattle.etagere_base.specs.Sides.{side}
+use Rattle.etagere_base.specs.Frames.{across_side, asked, is_not_positive, is_too_long, rounded}
 use Rattle.bucketed_model.specs.declared.refusals.BucketedRefusal.{BucketedRefusal}
 use Rattle.bucketed_model.specs.declared.refusals.BucketedRefusal.TheVariants as reasons
 use Rattle.bucketed_model.specs.Adding.{Remaining, has_later_column, left_to}
@@ -16,9 +15,8 @@ use Rattle.bucketed_model.specs.State.{Bucket, BucketShelf, BucketedState, most_
 -- the first reason why no shelf of a frame, however empty, could take a size
 abbrev pub size_refusal : Frame → Size → Option BucketedRefusal
 size_refusal frame size =
-    if side size.width == 0 || side size.height == 0 then Some reasons.NotPositive
-    else (if nat_lt longest_side (side size.width) || nat_lt longest_side (side size.height)
-    then Some reasons.TooLong
+    if is_not_positive size then Some reasons.NotPositive
+    else (if is_too_long size then Some reasons.TooLong
     else (if nat_lt frame.column_width (rounded frame size).along then Some reasons.WiderThanColumn
     else (if nat_lt (across_side frame) (rounded frame size).across
     then Some reasons.TallerThanAtlas

@@ -7,7 +7,7 @@ ghost use Rattle.bucketed_model.specs.Adding as adding;
 ghost use Rattle.bucketed_model.specs.Refusal as spec;
 
 use crate::adding::{Remaining, has_later_column};
-use etagere_base::{Frame, LONGEST_SIDE, Size, rounded, side};
+use etagere_base::{Frame, Size, is_not_positive, is_too_long, rounded};
 use thiserror::Error;
 
 /// Why a bucketed atlas has no place for a size. The first is returned, in this order. `along` and `across` are meant
@@ -70,11 +70,10 @@ pub fn size_refusal(frame: &Frame, size: Size) -> Option<BucketedRefusal>
         (frame.now.alignment_height < 2 ^ 31) }
     ensures { result ≡ spec.size_refusal frame.now size }
 {
-    let longest = u32::from(LONGEST_SIDE);
-    if side(size.width) == 0 || side(size.height) == 0 {
+    if is_not_positive(size) {
         return Some(BucketedRefusal::NotPositive);
     }
-    if longest < side(size.width) || longest < side(size.height) {
+    if is_too_long(size) {
         return Some(BucketedRefusal::TooLong);
     }
     let sides = rounded(frame, size);

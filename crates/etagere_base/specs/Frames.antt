@@ -25,6 +25,15 @@ is_side longest length = nat_lt 0 (side length) && nat_le (side length) longest
 abbrev pub are_sides : ℕ → Size → Bool
 are_sides longest size = is_side longest size.width && is_side longest size.height
 
+-- a side of a size is below 1
+abbrev pub is_not_positive : Size → Bool
+is_not_positive size = side size.width == 0 || side size.height == 0
+
+-- a side of a size is longer than that of any atlas
+abbrev pub is_too_long : Size → Bool
+is_too_long size =
+    nat_lt longest_side (side size.width) || nat_lt longest_side (side size.height)
+
 -- the area of a size is above the greatest
 abbrev pub is_too_large : Size → Bool
 is_too_large size = nat_lt largest_area (side size.width * side size.height)

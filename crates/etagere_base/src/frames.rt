@@ -197,6 +197,21 @@ pub(crate) fn are_sides(longest: u16, size: Size) -> bool
     is_side(longest, size.width) && is_side(longest, size.height)
 }
 
+/// Whether a side of a size is below 1.
+pub fn is_not_positive(size: Size) -> bool
+    ensures { result ≡ spec.is_not_positive size }
+{
+    side(size.width) == 0 || side(size.height) == 0
+}
+
+/// Whether a side of a size is longer than that of any atlas.
+pub fn is_too_long(size: Size) -> bool
+    ensures { result ≡ spec.is_too_long size }
+{
+    let longest = u32::from(LONGEST_SIDE);
+    longest < side(size.width) || longest < side(size.height)
+}
+
 /// Whether an atlas may have a side of this length, where none may be longer than `longest`.
 fn is_side(longest: u16, length: i32) -> bool
     ensures { result ≡ spec.is_side longest length }

@@ -19,7 +19,10 @@ mod sides;
 pub use drawing::{Colour, Drawn};
 pub use faults::{OptionsFault, ResizeFault, RestoreFault, UnknownId};
 pub use frame_ranges::is_frame;
-pub use frames::{Frame, LONGEST_SIDE, asked, atlas_frame, column_width, options_fault, rounded};
+pub use frames::{
+    Frame, LONGEST_SIDE, asked, atlas_frame, column_width, is_not_positive, is_too_long,
+    options_fault, rounded,
+};
 pub use geometry::{Point, Rectangle, Size, point2, size2};
 pub use growing::{grown_frame, resize_fault};
 pub use ids::{AllocId, Allocation, INDEX_MODULUS};

@@ -4,12 +4,12 @@ use Rattle.std.proofs.lemmas.Bool.Decides.{nat_tests}
 use Rattle.std.specs.Prelude.{◌&&◌, ◌||◌, option_and_then}
 use Rattle.etagere_base.specs.declared.geometry.Size.{Size}
 use Rattle.etagere_base.specs.declared.sides.Sides.{Sides}
-use Rattle.etagere_base.specs.Frames.{are_sides, fitting, longest_side, rounded}
+use Rattle.etagere_base.specs.Frames.{are_sides, fitting, is_not_positive, is_too_long, longest_side, rounded}
 use Rattle.etagere_base.specs.Sides.{side}
 use Rattle.shelf_model.specs.declared.faults.Refusal.{Refusal}
 use Rattle.shelf_model.specs.declared.faults.Refusal.TheVariants.{NotPositive, TooLong}
 use Rattle.shelf_model.specs.Choice.{IsRefused, Placement, chosen, most_items, splits}
-use Rattle.shelf_model.specs.Refusal.{is_not_positive, is_too_long, refusal}
+use Rattle.shelf_model.specs.Refusal.{refusal}
 use Rattle.shelf_model.specs.State.{AtlasState, items_in_use}
 use Rattle.padding.specs.declared.sides.Padding.{Padding}
 use Rattle.padding.specs.Padding.{padded, padded_side, padding_refusal}

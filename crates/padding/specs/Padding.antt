@@ -9,7 +9,7 @@ use Rattle.etagere_base.specs.Rectangles.{AreApart, IsInside}
 use Rattle.etagere_base.specs.Sides.{side}
 use Rattle.shelf_model.specs.declared.faults.Refusal.{Refusal}
 use Rattle.shelf_model.specs.declared.faults.Refusal.TheVariants.{NotPositive, TooLong}
-use Rattle.shelf_model.specs.Refusal.{is_not_positive, is_too_long}
+use Rattle.etagere_base.specs.Frames.{is_not_positive, is_too_long}
 use Rattle.padding.specs.declared.sides.Padding as sides
 
 -- a length with the pixels before and after it; one that isn't positive gets none

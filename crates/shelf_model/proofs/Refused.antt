@@ -6,14 +6,14 @@ use Rattle.std.specs.Option.{option_map_or}
 use Rattle.etagere_base.specs.declared.frames.Frame.{Frame}
 use Rattle.etagere_base.specs.declared.geometry.Size.{Size}
 use Rattle.etagere_base.specs.declared.sides.Sides.{Sides}
-use Rattle.etagere_base.specs.Frames.{across_side, asked, rounded}
+use Rattle.etagere_base.specs.Frames.{across_side, asked, is_not_positive, is_too_long, rounded}
 use Rattle.etagere_base.specs.Sides.{side}
 use Rattle.etagere_base.proofs.AskedSides.{asked-sides}
 use Rattle.shelf_model.specs.declared.faults.Refusal.{Refusal}
 use Rattle.shelf_model.specs.declared.faults.Refusal.TheVariants.{NotPositive, TooLong, WiderThanColumn, TallerThanAtlas, NoRoom, NoRecords}
 use Rattle.shelf_model.specs.Choice.{Placement, chosen, placement_of, shelf_height, splits}
 use Rattle.shelf_model.specs.Laws.{FitsShelf}
-use Rattle.shelf_model.specs.Refusal.{has_no_room, is_not_positive, is_taller_than_atlas, is_too_long, is_wider_than_column, lacks_records, refusal, widest_for}
+use Rattle.shelf_model.specs.Refusal.{has_no_room, is_taller_than_atlas, is_wider_than_column, lacks_records, refusal, widest_for}
 use Rattle.shelf_model.specs.RefusalLaws.{HasNoRoom, SomeFits}
 use Rattle.shelf_model.specs.State.{AtlasState, Item, Shelf, is_free, items_in_use}
 use Rattle.shelf_model.specs.Valid.{IsValid}

@@ -4,8 +4,7 @@ use Rattle.std.specs.Option.{option_map_or}
 use Rattle.etagere_base.specs.declared.frames.Frame.{Frame}
 use Rattle.etagere_base.specs.declared.geometry.Size.{Size}
 use Rattle.etagere_base.specs.declared.sides.Sides.{Sides}
-use Rattle.etagere_base.specs.Frames.{across_side, longest_side, rounded}
-use Rattle.etagere_base.specs.Sides.{side}
+use Rattle.etagere_base.specs.Frames.{across_side, is_not_positive, is_too_long, rounded}
 use Rattle.shelf_model.specs.declared.faults.Refusal.{Refusal}
 use Rattle.shelf_model.specs.declared.faults.Refusal.TheVariants.{NotPositive, TooLong, WiderThanColumn, TallerThanAtlas, NoRoom, NoRecords}
 use Rattle.shelf_model.specs.Choice.{chosen, most_items, shelf_height, splits}
@@ -20,15 +19,6 @@ refusal_number WiderThanColumn = 3
 refusal_number TallerThanAtlas = 4
 refusal_number (NoRoom widest) = 5
 refusal_number NoRecords = 6
-
--- a side is below 1
-abbrev pub is_not_positive : Size → Bool
-is_not_positive size = side size.width == 0 || side size.height == 0
-
--- a side is above the longest
-abbrev pub is_too_long : Size → Bool
-is_too_long size =
-    nat_lt longest_side (side size.width) || nat_lt longest_side (side size.height)
 
 -- the side along is above the width of a column
 abbrev pub is_wider_than_column : Frame → Size → Bool

@@ -19,7 +19,7 @@ use crate::choosing::{
     Candidate, MOST_ITEMS, Searched, placement_at, rank_of, search_free_list, shelf_height,
 };
 use crate::free_items::free_items_of;
-use etagere_base::{Frame, LONGEST_SIDE, Sides, Size, rounded, side};
+use etagere_base::{Frame, Sides, Size, is_not_positive, is_too_long, rounded};
 use etagere_links::{Chain, next_of};
 use shelf_links::{LinkedShelf, Records};
 use shelf_model::faults::Refusal;
@@ -57,21 +57,6 @@ pub fn refusal(frame: &Frame, records: &Records, items_in_use: u32, size: Size) 
         return Some(Refusal::NoRecords);
     }
     None
-}
-
-/// Whether a side is below 1.
-fn is_not_positive(size: Size) -> bool
-    ensures { result ≡ spec.is_not_positive size }
-{
-    side(size.width) == 0 || side(size.height) == 0
-}
-
-/// Whether a side is above the longest.
-fn is_too_long(size: Size) -> bool
-    ensures { result ≡ spec.is_too_long size }
-{
-    let longest = u32::from(LONGEST_SIDE);
-    longest < side(size.width) || longest < side(size.height)
 }
 
 /// That a size has no room, where the widest free item is so wide.
