@@ -1,37 +1,36 @@
 -- Tests that decide a fact: both of two, one for each element, and one for the rest of a list that a loop has left.
-use Rattle.std.proofs.Common.{◌≡◌, ℕ, ◌+◌, ◌<◌, Bool, true, false, ◌&&◌, List, ◌∷◌, length, drop, get_or, refl, ap, subst, sym, arith, ◌∙◌}
+use Rattle.std.proofs.Common.{◌≡◌, ℕ, ◌+◌, ◌<◌, Bool, true, false, ◌&&◌, List, ◌∷◌, length, drop, get_or, refl, ap, subst, sym, ◌∙◌}
 use Rattle.std.proofs.lemmas.List.{drop_more}
-use Rattle.std.specs.Prelude.{◌==◌}
-use Rattle.etagere_base.specs.Deciding.{Decides}
+use Rattle.std.proofs.lemmas.Bool.Decides.{Decides-and, Decides-eqb, Decides-like, not_from_Decides}
+use Rattle.std.specs.Prelude.{Decides, ◌==◌}
+
+-- a proof is a yes
+pub decides-yes : {P : Type 0} → P → Decides true P
+decides-yes p = (λ e. p, λ q. refl)
+
+-- a refutation is a no
+pub decides-no : {P : Type 0} → (P → ⊥) → Decides false P
+decides-no not = (λ e. absurd (cc), λ p. absurd (not p))
 
 -- a yes is a proof
 pub granted : (b : Bool) (P : Type 0) → Decides b P → b ≡ true → P
-granted true P decides e = decides
-granted false P decides e = absurd (cc)
+granted b P decides e = decides.0 e
 
 -- a no is a refutation
 pub denied : (b : Bool) (P : Type 0) → Decides b P → b ≡ false → P → ⊥
-denied true P decides e = absurd (cc)
-denied false P decides e = decides
+denied b P decides e = not_from_Decides b decides e
 
 -- the same test decides a fact that holds where the first does
 pub decides-map : (b : Bool) (P Q : Type 0) → (P → Q) → (Q → P) → Decides b P → Decides b Q
-decides-map true P Q to from decides = to decides
-decides-map false P Q to from decides = λ q. decides (from q)
+decides-map b P Q to from decides = Decides-like b to from decides
 
 -- two tests decide two facts
 pub decides-both : (b c : Bool) (P Q : Type 0) → Decides b P → Decides c Q → Decides (b && c) (P × Q)
-decides-both true true P Q p q = (p, q)
-decides-both true false P Q p q = λ both. q both.1
-decides-both false c P Q p q = λ both. p both.0
+decides-both b c P Q p q = Decides-and b c p q
 
 -- whether two numbers are equal decides a fact that holds where they are
 pub decides-equal : (m n : ℕ) (P : Type 0) → (m ≡ n → P) → (P → m ≡ n) → Decides (m == n) P
-decides-equal m n P to from = by_test (m == n) refl
-  where
-    by_test : (b : Bool) → (m == n) ≡ b → Decides b P
-    by_test true e = to (grind arith)
-    by_test false e = λ p. let same : m ≡ n = from p in grind arith
+decides-equal m n P to from = Decides-like (m == n) to from (Decides-eqb m n)
 
 -- a loop has left the rest of a list: a fact of this rest is as much as the fact of the whole
 pub record IsLeft {X : Type 0} (whole : Type 0) (Rest : List X → Type 0) (i : ℕ) (xs : List X) : Type 0 where

@@ -1,4 +1,3 @@
-pub mod Deciding
 pub mod Drawing
 pub mod Faults
 pub mod Frames

@@ -2,8 +2,7 @@
 //!
 //! Definition: `IsFrame` of `Frames`. All is computed wide, so nothing wraps.
 
-ghost use Rattle.std.specs.Prelude.{◌≤◌, ◌<◌, ◌^◌};
-ghost use Rattle.etagere_base.specs.Deciding.{Decides};
+ghost use Rattle.std.specs.Prelude.{◌≤◌, ◌<◌, ◌^◌, Decides};
 ghost use Rattle.etagere_base.specs.Frames.{IsFrame};
 
 use crate::frames::Frame;

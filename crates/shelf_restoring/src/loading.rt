@@ -2,8 +2,7 @@
 //!
 //! Definitions: `Snapshots`.
 
-ghost use Rattle.std.specs.Prelude.{◌≡◌, ◌≤◌, ◌⊎◌, IfErr, IfOk, OnOk};
-ghost use Rattle.etagere_base.specs.Deciding.{Decides};
+ghost use Rattle.std.specs.Prelude.{◌≡◌, ◌≤◌, ◌⊎◌, Decides, IfErr, IfOk, OnOk};
 ghost use Rattle.etagere_base.specs.declared.faults.RestoreFault.TheVariants as faults;
 ghost use Rattle.etagere_base.specs.Frames.{IsFrame, longest_side};
 ghost use Rattle.etagere_links.specs.Links.{no_link};

@@ -4,10 +4,9 @@ use Rattle.std.proofs.lemmas.Bool.{eqb-true}
 use Rattle.std.proofs.lemmas.Option.{slice_get_cases}
 use Rattle.std.specs.List.{AllByRecursion, list_all}
 use Rattle.std.specs.Option.{option_map_or}
-use Rattle.std.specs.Prelude.{IfSome, nat_le, nat_lt, option_and_then, slice_get}
-use Rattle.etagere_base.proofs.DecidingLemmas.{decides-both, decides-map, denied, granted}
+use Rattle.std.specs.Prelude.{Decides, IfSome, nat_le, nat_lt, option_and_then, slice_get}
+use Rattle.etagere_base.proofs.DecidingLemmas.{decides-both, decides-map, decides-no, decides-yes, denied, granted}
 use Rattle.etagere_base.specs.declared.frames.Frame.{Frame}
-use Rattle.etagere_base.specs.Deciding.{Decides}
 use Rattle.etagere_base.specs.Frames.{alignment_along}
 use Rattle.bucketed_model.specs.Space.{used_width}
 use Rattle.bucketed_model.specs.State.{most_given}
@@ -31,7 +30,7 @@ there buckets n within =
 -- a test of each of some numbers, where a test of the record decides a fact
 pub all-decided : (buckets : List LinkedBucket) (test : ℕ → Bool) (P : ℕ → Type 0) (ns : List ℕ) → ((n : ℕ) → n < length buckets → Decides (test n) (P n))
     → AllByRecursion (λ (n : ℕ). n < length buckets) ns → Decides (list_all test ns) (AllByRecursion P ns)
-all-decided buckets test P [] one within = tt
+all-decided buckets test P [] one within = decides-yes tt
 all-decided buckets test P (n ∷ ns) one within =
     decides-both (test n) (list_all test ns) (P n) (AllByRecursion P ns) (one n within.0) (all-decided buckets test P ns one within.1)
 
@@ -119,7 +118,7 @@ module _ (buckets : List LinkedBucket) where
   -- each other one stands before the one tried before it
   pub stand-decided : (alignment width begin end : ℕ) (ns : List ℕ) → AllByRecursion (λ (n : ℕ). n < length buckets) ns
       → Decides (stand_together alignment width buckets begin end ns) (StandDown alignment width begin end (map (place_of buckets) ns))
-  stand-decided alignment width begin end [] within = λ none. none
+  stand-decided alignment width begin end [] within = decides-no (λ none. none)
   stand-decided alignment width begin end (n ∷ []) within = begins-decided width begin end n within.0
   stand-decided alignment width begin end (n ∷ m ∷ ms) within =
       let is = there buckets n within.0 in
@@ -144,7 +143,7 @@ module _ (buckets : List LinkedBucket) where
           ((x % alignment ≡ 0) × (x + width ≤ end) × StandDown alignment width begin x (map (place_of buckets) (m ∷ ms)))
           (λ rest. (here.0, here.1, rest)) (λ all. all.2) later
       by_test x false e both later =
-          λ all. denied (x % alignment == 0 && nat_le (x + width) end) ((x % alignment ≡ 0) × (x + width ≤ end)) both e (all.0, all.1)
+          decides-no (λ all. denied (x % alignment == 0 && nat_le (x + width) end) ((x % alignment ≡ 0) × (x + width ≤ end)) both e (all.0, all.1))
 
   -- with one column buckets are wide
   wide-decided : (columns width : ℕ) → Decides (not (columns == 1) || nat_le 1 width) (columns ≡ 1 → 1 ≤ width)
@@ -153,7 +152,7 @@ module _ (buckets : List LinkedBucket) where
       by_test : (t : Bool) → (columns == 1) ≡ t → Decides (not t || nat_le 1 width) (columns ≡ 1 → 1 ≤ width)
       by_test true e =
           decides-map (nat_le 1 width) (1 ≤ width) (columns ≡ 1 → 1 ≤ width) (λ p _. p) (λ wide. wide (eqb-true columns 1 e)) (decides-le 1 width)
-      by_test false e = λ same. let here : (columns == 1) ≡ true = rw same refl in absurd (cc)
+      by_test false e = decides-yes (λ same. let here : (columns == 1) ≡ true = rw same refl in absurd (cc))
 
   -- the tests decide whether these are the buckets of a shelf
   pub buckets-decided : (frame : Frame) (shelf : LinkedBucketShelf) (ns : List ℕ) → AllByRecursion (λ (n : ℕ). n < length buckets) ns

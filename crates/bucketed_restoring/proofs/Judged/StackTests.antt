@@ -1,13 +1,13 @@
 -- The pass over the shelves decides whether they stand in the columns as they must.
 use Rattle.std.proofs.Common.{◌≡◌, ◌≢◌, ℕ, suc, ◌+◌, ◌-◌, ◌/◌, ◌%◌, ◌<◌, ◌≤◌, ◌⊎◌, inl, inr, Bool, true, false, ◌&&◌, ◌||◌, cond, Option, None, Some, List, [], ◌∷◌, ◌++◌, map, refl, ap, arith, sym, ◌∙◌, subst, ⊎_elim, append_assoc, ◌==◌}
 use Rattle.std.proofs.lemmas.Bool.{eqb-true, eq-eqb}
+use Rattle.std.proofs.lemmas.Bool.Decides.{Decides-or}
 use Rattle.std.proofs.lemmas.List.{append-nil}
 use Rattle.std.specs.Option.{option_map_or}
-use Rattle.std.specs.Prelude.{nat_le, nat_lt, option_and_then}
+use Rattle.std.specs.Prelude.{Decides, nat_le, nat_lt, option_and_then}
 use Rattle.std.specs.List.{AllByRecursion}
-use Rattle.etagere_base.proofs.DecidingLemmas.{decides-both, decides-map, denied, granted}
+use Rattle.etagere_base.proofs.DecidingLemmas.{decides-both, decides-map, decides-no, denied, granted}
 use Rattle.etagere_base.specs.declared.frames.Frame.{Frame}
-use Rattle.etagere_base.specs.Deciding.{Decides}
 use Rattle.etagere_base.specs.Frames.{across_side}
 use Rattle.bucketed_model.specs.State.{BucketShelf, available_height, column_height, current_column}
 use Rattle.bucketed_model.specs.Valid.{OpenColumns}
@@ -19,12 +19,6 @@ use Rattle.bucketed_records.specs.StandsFor.{AreStacked, HasShelves, height_befo
 use Rattle.bucketed_restoring.specs.declared.judging.Stack.{Stack}
 use Rattle.bucketed_restoring.specs.Private.Judging.{is_stacked, stack_end}
 use Rattle.bucketed_restoring.proofs.Judged.Comparisons.{decides-eq, decides-le, decides-lt}
-
--- one of two tests
-decides-or : (b c : Bool) (P Q : Type 0) → Decides b P → Decides c Q → Decides (b || c) (P ⊎ Q)
-decides-or true c P Q p q = inl p
-decides-or false true P Q p q = inr q
-decides-or false false P Q p q = λ one. ⊎_elim p q one
 
 module _ (frame : Frame) (buckets : List LinkedBucket) where
   abbrev spelled : List LinkedBucketShelf → List BucketShelf
@@ -98,7 +92,7 @@ module _ (frame : Frame) (buckets : List LinkedBucket) where
         decides-both _ _ Along (GoesOn × Across)
         (decides-both _ _ (s.x % frame.column_width ≡ 0) (column < frame.columns) (decides-eq (s.x % frame.column_width) 0) (decides-lt column frame.columns))
         (decides-both _ _ GoesOn Across
-        (decides-or (column + 1 == stack.opened) (column == stack.opened && nat_le 1 s.height) (suc column ≡ stack.opened) ((column ≡ stack.opened) × (1 ≤ s.height))
+        (Decides-or (column + 1 == stack.opened) (column == stack.opened && nat_le 1 s.height)
         (decides-map (column + 1 == stack.opened) (column + 1 ≡ stack.opened) (suc column ≡ stack.opened) (λ e. omega (arith, e)) (λ e. omega (arith, e)) (decides-eq (column + 1) stack.opened))
         (decides-both (column == stack.opened) (nat_le 1 s.height) (column ≡ stack.opened) (1 ≤ s.height) (decides-eq column stack.opened) (decides-le 1 s.height)))
         (decides-both (s.y == below) (nat_le (below + s.height) (across_side frame)) (s.y ≡ below) (below + s.height ≤ across_side frame) (decides-eq s.y below) (decides-le (below + s.height) (across_side frame))))
@@ -230,7 +224,7 @@ stacked-decided atlas wide = by_end (stack_end atlas.frame (none-yet atlas.frame
     by_end : (end : Option Stack) → Told atlas.frame atlas.buckets [] atlas.shelves 0 end
         → Decides (option_map_or (λ (stack : Stack). stack.opened - 1 == atlas.current_column && across_side atlas.frame - stack.height == atlas.available_height) end false)
         (HasShelves atlas (spelled_state atlas.frame atlas.shelves atlas.buckets))
-    by_end None told = λ has. told (record { columns = has.columns; opens = has.opened; along = has.along; across = has.across; heights = λ c. omega (arith, has.heights c) })
+    by_end None told = decides-no (λ has. told (record { columns = has.columns; opens = has.opened; along = has.along; across = has.across; heights = λ c. omega (arith, has.heights c) }))
     by_end (Some end) told =
         let is = ends atlas.frame atlas.buckets atlas.shelves end told in
         decides-map (end.opened - 1 == atlas.current_column && across_side atlas.frame - end.height == atlas.available_height)

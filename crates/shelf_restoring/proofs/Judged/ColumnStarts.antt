@@ -2,8 +2,8 @@
 use Rattle.std.proofs.Common.{◌≡◌, ◌≢◌, ℕ, ◌+◌, ◌*◌, ◌/◌, ◌%◌, ◌≤◌, Bool, true, false, List, ap, arith, refl, sym, ◌∙◌}
 use Rattle.std.proofs.lemmas.Nat.{div-add-mod'}
 use Rattle.std.proofs.Math.Nat.{add-div_right, add-mod_right}
-use Rattle.std.specs.Prelude.{◌==◌, nat_le}
-use Rattle.etagere_base.specs.Deciding.{Decides}
+use Rattle.std.specs.Prelude.{◌==◌, Decides, nat_le}
+use Rattle.etagere_base.proofs.DecidingLemmas.{decides-no, decides-yes}
 use Rattle.etagere_base.specs.declared.frames.Frame.{Frame}
 use Rattle.etagere_base.specs.Frames.{across_side}
 use Rattle.shelf_links.specs.declared.records.LinkedShelf.{LinkedShelf}
@@ -53,8 +53,8 @@ pub decides-tall : (here height : ℕ) (P : Type 0) → here ≡ height → (1 �
 decides-tall here height P is to from = by_test (nat_le 1 here) refl
   where
     by_test : (b : Bool) → nat_le 1 here ≡ b → Decides b P
-    by_test true e = to (grind (arith, e, is))
-    by_test false e = λ p. absurd (grind (arith, e, is, from p))
+    by_test true e = decides-yes (to (grind (arith, e, is)))
+    by_test false e = decides-no (λ p. absurd (grind (arith, e, is, from p)))
 
 module _ (frame : Frame) (shelves : List LinkedShelf) (entry : Entry) (start height : ℕ) (wide : 1 ≤ frame.column_width) (at_column : start % frame.column_width ≡ 0) where
   -- a shelf of the column that starts here

@@ -1,8 +1,8 @@
 -- A pass that keeps in a flag whether a fact holds of a list so far.
 use Rattle.std.proofs.Common.{◌≡◌, ℕ, ◌+◌, ◌<◌, Bool, true, false, ◌&&◌, List, [], ◌∷◌, length, drop, get_or, refl, ap, subst, sym, ◌∙◌}
 use Rattle.std.proofs.lemmas.List.{drop_more}
-use Rattle.etagere_base.specs.Deciding.{Decides}
-use Rattle.etagere_base.proofs.DecidingLemmas.{IsLeft, left-less}
+use Rattle.std.specs.Prelude.{Decides}
+use Rattle.etagere_base.proofs.DecidingLemmas.{IsLeft, decides-no, decides-yes, denied, granted, left-less}
 
 -- while the flag is set, the fact of the rest is as much as that of the whole; else that does not hold
 pub record IsFlagged {X : Type 0} (flag : Bool) (whole : Type 0) (Rest : List X → Type 0) (i : ℕ) (xs : List X) : Type 0 where
@@ -15,10 +15,10 @@ pub flagged-where : {X : Type 0} (now flag : Bool) (whole : Type 0) (Rest Next :
     → i < length xs → x ≡ get_or xs i d → (flag ≡ true → Decides now Here)
     → IsFlagged flag whole Rest i xs → IsFlagged (now && flag) whole Next (i + 1) xs
 flagged-where true true whole Rest Next Here i xs d x to from below is here left =
-    record { kept = λ e. left-less whole Rest Next Here i xs d x to from below is (here refl) (left.kept refl); broken = λ e. absurd (cc) }
+    record { kept = λ e. left-less whole Rest Next Here i xs d x to from below is (granted true Here (here refl) refl) (left.kept refl); broken = λ e. absurd (cc) }
 flagged-where {X} false true whole Rest Next Here i xs d x to from below is none left =
     let more : drop i xs ≡ x ∷ drop (i + 1) xs = drop_more xs i d below ∙ ap (λ y. y ∷ drop (i + 1) xs) (sym is) in
-    record { kept = λ e. absurd (cc); broken = λ e all. none refl (to (drop (i + 1) xs) (subst Rest more ((left.kept refl).to all))).0 }
+    record { kept = λ e. absurd (cc); broken = λ e all. denied false Here (none refl) refl (to (drop (i + 1) xs) (subst Rest more ((left.kept refl).to all))).0 }
 flagged-where true false whole Rest Next Here i xs d x to from below is here left =
     record { kept = λ e. absurd (cc); broken = λ e. left.broken refl }
 flagged-where false false whole Rest Next Here i xs d x to from below is here left =
@@ -35,10 +35,10 @@ flagged-more now flag whole Rest Next Here i xs d x to from below is here left =
 -- all were looked at, and a test decides the fact of what is left
 pub flagged-end : {X : Type 0} (now flag : Bool) (whole : Type 0) (Rest : List X → Type 0) (i : ℕ) (xs : List X)
     → drop i xs ≡ [] → Decides now (Rest []) → IsFlagged flag whole Rest i xs → Decides (now && flag) whole
-flagged-end true true whole Rest i xs none ends left = (left.kept refl).from (subst Rest (sym none) ends)
-flagged-end false true whole Rest i xs none ends left = λ all. ends (subst Rest none ((left.kept refl).to all))
-flagged-end true false whole Rest i xs none ends left = left.broken refl
-flagged-end false false whole Rest i xs none ends left = left.broken refl
+flagged-end true true whole Rest i xs none ends left = decides-yes ((left.kept refl).from (subst Rest (sym none) (granted true (Rest []) ends refl)))
+flagged-end false true whole Rest i xs none ends left = decides-no (λ all. denied false (Rest []) ends refl (subst Rest none ((left.kept refl).to all)))
+flagged-end true false whole Rest i xs none ends left = decides-no (left.broken refl)
+flagged-end false false whole Rest i xs none ends left = decides-no (left.broken refl)
 
 -- what is left is named otherwise, where the flag is set
 pub flagged-same : {X Y : Type 0} (flag : Bool) (whole : Type 0) (Rest : Y → List X → Type 0) (a b : Y) (i : ℕ) (xs : List X)

@@ -1,9 +1,10 @@
 -- What one more item of a shelf adds, and what the rests of lists say of a whole one.
 use Rattle.std.proofs.Common.{◌≡◌, ℕ, ◌+◌, Bool, true, false, not, ◌&&◌, List, [], ◌∷◌, length, map, None, Option, Some, refl, ap, sym, arith, ◌∙◌}
-use Rattle.etagere_base.specs.Deciding.{Decides}
+use Rattle.etagere_base.proofs.DecidingLemmas.{decides-no, decides-yes}
 use Rattle.etagere_base.specs.declared.frames.Frame.{Frame}
 use Rattle.etagere_base.specs.Lists.{NoNeighbours}
 use Rattle.std.specs.List.{AllByRecursion}
+use Rattle.std.specs.Prelude.{Decides}
 use Rattle.etagere_links.specs.Chains.{LeadsBack}
 use Rattle.etagere_links.specs.Edits.{link_at}
 use Rattle.shelf_links.specs.declared.records.LinkedItem.{LinkedItem}
@@ -20,8 +21,8 @@ use Rattle.shelf_restoring.specs.Private.Rules.{ApartFrom, LinkedFrom, RowFrom}
 
 -- a test decides that what it denies is not so
 pub decides-not : (b : Bool) → Decides (not b) (b ≡ false)
-decides-not true = λ e. absurd (cc)
-decides-not false = refl
+decides-not true = decides-no (λ e. absurd (cc))
+decides-not false = decides-yes refl
 
 module _ (items : List LinkedItem) where
   -- a free item counts

@@ -3,8 +3,7 @@
 //! Definitions: `HasFreeList` of `StandsFor`, `AreOwn` of `Judging` for the marks by which an item of the shelf is
 //! known without a search, and `FreeOwn` of `Rules`.
 
-ghost use Rattle.std.specs.Prelude.{◌≡◌, true, IfOk, length};
-ghost use Rattle.etagere_base.specs.Deciding.{Decides};
+ghost use Rattle.std.specs.Prelude.{◌≡◌, true, Decides, IfOk, length};
 ghost use Rattle.std.specs.List.{AllByRecursion};
 ghost use Rattle.shelf_links.specs.RecordLists.{Entry};
 ghost use Rattle.shelf_records.specs.Private.Judging as judging;

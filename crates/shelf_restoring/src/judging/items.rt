@@ -2,8 +2,7 @@
 //!
 //! Definitions: `LinkBack` and `LieFrom` of `StandsFor`, and `Rules` for what is left of a list.
 
-ghost use Rattle.std.specs.Prelude.{◌≡◌, ◌≤◌, ◌*◌, ◌%◌, None, false, length, map};
-ghost use Rattle.etagere_base.specs.Deciding.{Decides};
+ghost use Rattle.std.specs.Prelude.{◌≡◌, ◌≤◌, ◌*◌, ◌%◌, None, false, Decides, length, map};
 ghost use Rattle.etagere_base.specs.Frames.{IsFrame, alignment_along, longest_side};
 ghost use Rattle.etagere_base.specs.declared.frames.Frame.{Frame};
 ghost use Rattle.etagere_links.specs.Edits.{link_at};

@@ -1,8 +1,7 @@
 //! Links back along lists that walks have met.
 //!
 //! Definitions: `LeadsBack` of `Chains`.
-ghost use Rattle.std.specs.Prelude.{◌≡◌, None};
-ghost use Rattle.etagere_base.specs.Deciding.{Decides};
+ghost use Rattle.std.specs.Prelude.{◌≡◌, None, Decides};
 ghost use Rattle.etagere_links.specs.Chains.{LeadsBack};
 ghost use Rattle.etagere_links.specs.Edits.{link_at};
 

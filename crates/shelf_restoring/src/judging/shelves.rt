@@ -3,8 +3,7 @@
 //!
 //! Definitions: `LinkBack`, `HasShelves`, `HasItems` and `HasNeighbours` of `StandsFor`, and `FreeOwn` of `Rules`.
 
-ghost use Rattle.std.specs.Prelude.{◌≡◌, ◌≤◌, ◌*◌, IsTrue, length, map};
-ghost use Rattle.etagere_base.specs.Deciding.{Decides};
+ghost use Rattle.std.specs.Prelude.{◌≡◌, ◌≤◌, ◌*◌, Decides, IsTrue, length, map};
 ghost use Rattle.etagere_base.specs.Frames.{IsFrame, longest_side};
 ghost use Rattle.etagere_base.specs.Lists.{NoNeighbours};
 ghost use Rattle.etagere_links.specs.Links.{no_link};

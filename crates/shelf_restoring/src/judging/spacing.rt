@@ -3,8 +3,7 @@
 //!
 //! Definitions: the rules `Unused` and `Space` of `Keeps`.
 
-ghost use Rattle.std.specs.Prelude.{◌≡◌, false, pos};
-ghost use Rattle.etagere_base.specs.Deciding.{Decides};
+ghost use Rattle.std.specs.Prelude.{◌≡◌, false, pos, Decides};
 ghost use Rattle.std.specs.List.{AllByRecursion};
 ghost use Rattle.shelf_records.specs.AtlasRecords as spec;
 

@@ -3,8 +3,7 @@
 //! Definitions: `IsNext` and `FollowFrom` of `Rules`: since columns rise, a pass keeps the height of one column alone,
 //! and where it starts, so no shelf takes a division.
 
-ghost use Rattle.std.specs.Prelude.{◌≡◌, ◌≤◌, ◌/◌, ◌%◌, List, []};
-ghost use Rattle.etagere_base.specs.Deciding.{Decides};
+ghost use Rattle.std.specs.Prelude.{◌≡◌, ◌≤◌, ◌/◌, ◌%◌, List, [], Decides};
 ghost use Rattle.etagere_base.specs.Frames.{longest_side};
 ghost use Rattle.etagere_links.specs.Links.{no_link};
 ghost use Rattle.shelf_links.specs.declared.records.LinkedShelf.{LinkedShelf};

@@ -1,8 +1,8 @@
 use Rattle.std.proofs.Common.{pos, ◌≡◌, ◌∙◌, ◌%◌, ◌/◌, ◌<◌, ℕ, Bool, true, false, List, ap, arith, refl, subst, sym}
 use Rattle.std.proofs.lemmas.Result.{err_from_is_err_and}
 use Rattle.std.specs.List.{AllByRecursion}
+use Rattle.std.specs.Prelude.{Decides}
 use Rattle.etagere_base.proofs.DecidingLemmas.{denied, granted}
-use Rattle.etagere_base.specs.Deciding.{Decides}
 use Rattle.etagere_base.specs.declared.faults.RestoreFault.TheVariants as faults
 use Rattle.etagere_base.specs.declared.frames.Frame.{Frame}
 use Rattle.bucketed_model.specs.Frames.{IsBucketedFrame}

@@ -1,9 +1,9 @@
 -- The rules that passes find kept or broken are those of the atlas whose parts they are handed.
 use Rattle.std.proofs.Common.{◌≡◌, ◌≤◌, ◌∙◌, ℕ, Bool, true, false, List, ap, length, not, pos, refl, rules, subst, sym}
 use Rattle.std.specs.List.{AllByRecursion}
+use Rattle.std.specs.Prelude.{Decides}
 use Rattle.etagere_base.proofs.DecidingLemmas.{denied, granted}
 use Rattle.etagere_base.proofs.EachLemmas.{Each-weaken}
-use Rattle.etagere_base.specs.Deciding.{Decides}
 use Rattle.etagere_base.specs.declared.faults.RestoreFault.TheVariants.{Frame, Counts, Link, Shelves, Runs, Neighbours, FreeList, Sharing, Unused, Space, Memory}
 use Rattle.etagere_links.specs.Links.{no_link}
 use Rattle.shelf_links.specs.declared.records.LinkedItem.{LinkedItem}

@@ -1,9 +1,8 @@
 -- What the pass over its items says of a shelf.
 use Rattle.std.proofs.Common.{◌≡◌, ℕ, Bool, true, false, ◌&&◌, List, None, map, ap, refl, subst, sym, ◌∙◌}
 use Rattle.std.proofs.Math.Bool.{beq}
-use Rattle.std.specs.Prelude.{◌==◌}
-use Rattle.etagere_base.proofs.DecidingLemmas.{decides-both, decides-equal, decides-map}
-use Rattle.etagere_base.specs.Deciding.{Decides}
+use Rattle.std.specs.Prelude.{◌==◌, Decides}
+use Rattle.etagere_base.proofs.DecidingLemmas.{decides-both, decides-equal, decides-map, decides-no, decides-yes}
 use Rattle.etagere_base.specs.Lists.{NoNeighbours}
 use Rattle.shelf_links.specs.RecordLists.{Entry}
 use Rattle.shelf_model.specs.Merging.{both_free}
@@ -16,10 +15,10 @@ use Rattle.shelf_restoring.proofs.judging.shelves.judge_shelf.Goals as goal
 
 -- whether two tests agree decides that they do
 decides-same : (a b : Bool) → Decides (beq a b) (a ≡ b)
-decides-same true true = refl
-decides-same true false = λ e. absurd (cc)
-decides-same false true = λ e. absurd (cc)
-decides-same false false = refl
+decides-same true true = decides-yes refl
+decides-same true false = decides-no (λ e. absurd (cc))
+decides-same false true = decides-no (λ e. absurd (cc))
+decides-same false false = decides-yes refl
 
 pub returns-clause-links : goal.returns-clause-links
 returns-clause-links c =

@@ -2,10 +2,9 @@
 use Rattle.std.proofs.Common.{◌≡◌, ℕ, ◌+◌, ◌/◌, ◌%◌, ◌≤◌, Bool, true, false, not, ◌&&◌, List, ◌∷◌, drop, length, map, ap, arith, subst, sym, ◌∙◌}
 use Rattle.std.proofs.lemmas.List.{drop_all, drop_more}
 use Rattle.std.specs.List.{AllByRecursion}
-use Rattle.std.specs.Prelude.{◌==◌}
-use Rattle.etagere_base.specs.Deciding.{Decides}
+use Rattle.std.specs.Prelude.{◌==◌, Decides}
 use Rattle.etagere_base.specs.Lists.{NoNeighbours}
-use Rattle.etagere_base.proofs.DecidingLemmas.{decides-both, decides-map, granted}
+use Rattle.etagere_base.proofs.DecidingLemmas.{decides-both, decides-map, decides-yes, granted}
 use Rattle.shelf_links.specs.RecordLists.{Entry}
 use Rattle.shelf_model.specs.Merging.{both_free}
 use Rattle.shelf_model.specs.Space.{space_in}
@@ -121,4 +120,4 @@ returns-clause-apart c = λ e.
     decides-map judged.are_apart (StandApart atlas 0 false entries) (HasNeighbours (spelled_state atlas entries))
     (apart-neighbours atlas entries) (neighbours-apart atlas entries)
     (flagged-end true judged.are_apart (StandApart atlas 0 false entries) Rest i entries
-    (drop_all i entries (omega (arith, c.loop-entry-test.false))) tt (c.loop-entry.invariant.apart (both-true c.fills_columns.result judged.are_stacked e).1))
+    (drop_all i entries (omega (arith, c.loop-entry-test.false))) (decides-yes tt) (c.loop-entry.invariant.apart (both-true c.fills_columns.result judged.are_stacked e).1))
