@@ -3,7 +3,9 @@
 use crate::caches::{say_entered, say_unentered};
 use cache_runs::padded::answer_on_padded_cache;
 use cache_runs::{PaddedCall, PaddedReply};
-use etagere::{AllocatorOptions, DEFAULT_OPTIONS, OptionsFault, Rectangle, Size, size2};
+use etagere::{
+    AllocatorOptions, AtlasGrowFault, DEFAULT_OPTIONS, OptionsFault, Rectangle, Size, size2,
+};
 use glyph_shelf::GlyphFault;
 use padded_cache::PaddedCache;
 use padding::Padding;
@@ -98,8 +100,10 @@ fn say_reply(rt: &impl Print, reply: &PaddedReply) -> io::Result<()> {
         }
         PaddedReply::NotThere => say_rectangle(rt, None),
         PaddedReply::Evicted(evicted) => say_evicted(rt, evicted),
+        PaddedReply::NotGrown(AtlasGrowFault::Memory) | PaddedReply::NoMemory => {
+            say(rt, "no memory")
+        }
         PaddedReply::NotGrown(fault) => say_fault(rt, fault.number()),
-        PaddedReply::NoMemory => say(rt, "no memory"),
         PaddedReply::Retained => say(rt, "retained"),
         PaddedReply::Begun => say(rt, "begun"),
         PaddedReply::Grown => say(rt, "grown"),
