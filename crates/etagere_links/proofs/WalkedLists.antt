@@ -1,14 +1,15 @@
 -- The walk by a link of records meets the list that these links spell.
 use Rattle.etagere_links.proofs.Chains.{Leads-frame}
-use Rattle.std.proofs.Common.{◌≡◌, ℕ, zero, suc, ◌<◌, ◌≤◌, Bool, true, false, Option, List, [], ◌∷◌, length, map, refl, ap, arith, ◌∙◌, sym, subst, None}
+use Rattle.std.proofs.Common.{◌≡◌, ◌≢◌, ℕ, zero, suc, ◌<◌, ◌≤◌, Bool, true, false, Option, Some, List, [], ◌∷◌, length, map, refl, ap, arith, ◌∙◌, sym, subst, None}
 use Rattle.std.proofs.lemmas.List.{length-map}
-use Rattle.std.specs.Prelude.{nat_lt, slice_index}
+use Rattle.std.specs.Prelude.{nat_lt, slice_index, ◌==◌}
 use Rattle.etagere_base.specs.Lists.{times}
 use Rattle.etagere_links.specs.Chains.{IsPile, Leads}
-use Rattle.etagere_links.specs.Edits.{AreFitting, link_at}
+use Rattle.etagere_links.specs.Edits.{link_at}
 use Rattle.etagere_links.specs.Links.{no_link, bits_of, link_of}
 use Rattle.etagere_links.specs.Walks.{walk_by}
 use Rattle.etagere_links.specs.Lists.{HasEachOnce}
+use Rattle.etagere_links.proofs.ListEnds.{times-here, times-other}
 use Rattle.etagere_links.proofs.WalkChains.{pile-walk, IsWalked, walk-leads}
 
 -- the bits of the link of a record
@@ -45,8 +46,11 @@ part-of count all xs each less =
 pub walk_by-part : {T : Type 0} (link : T → Option ℕ) (records : List T) (start : Option ℕ) (xs : List ℕ) → length records ≤ no_link → IsPart (length records) xs → IsPile (link_at link records) start xs → walk_by link records start ≡ record { met = xs; end = no_link }
 walk_by-part link records start xs few part pile = walk_by-spelled link records start xs few part.once part.within pile
 
--- a walk that ends at none meets a list that links spell
-pub walk_by-leads : {T : Type 0} (link : T → Option ℕ) (records : List T) (start : Option ℕ) → AreFitting link records → link_of (bits_of start) ≡ start → length records ≤ no_link → (walk_by link records start).end ≡ no_link → IsPile (link_at link records) start (walk_by link records start).met
+-- a walk that ends at none meets a list that links spell, where those that it follows fit their bits
+pub walk_by-leads : {T : Type 0} (link : T → Option ℕ) (records : List T) (start : Option ℕ)
+    → ((k : ℕ) → 1 ≤ times k (walk_by link records start).met → link_of (bits_of (link_at link records k)) ≡ link_at link records k)
+    → link_of (bits_of start) ≡ start → length records ≤ no_link → (walk_by link records start).end ≡ no_link
+    → IsPile (link_at link records) start (walk_by link records start).met
 walk_by-leads {T} link records start fit start_fits few ends =
     let links : List ℕ = map (λ (here : T). bits_of (link here)) records in
     let long : length links ≡ length records = length-map records (λ (here : T). bits_of (link here)) in
@@ -57,4 +61,33 @@ walk_by-leads {T} link records start fit start_fits few ends =
     let to : Leads (λ k. link_of (slice_index links k)) start (walk_by link records start).met None =
     subst (λ (l : Option ℕ). Leads (λ k. link_of (slice_index links k)) start (walk_by link records start).met l) none from in
     Leads-frame (λ k. link_of (slice_index links k)) (link_at link records) (walk_by link records start).met start None
-    (λ k stands. sym (ap link_of (bits-read link records k (walked.within k stands)) ∙ fit k)) to
+    (λ k stands. sym (ap link_of (bits-read link records k (walked.within k stands)) ∙ fit k stands)) to
+
+-- links that spell a list of numbers of records fit their bits
+pile-fits : (next : ℕ → Option ℕ) (start : Option ℕ) (xs : List ℕ) → ((k : ℕ) → 1 ≤ times k xs → k < no_link) → IsPile next start xs
+    → (link_of (bits_of start) ≡ start) × ((k : ℕ) → 1 ≤ times k xs → link_of (bits_of (next k)) ≡ next k)
+pile-fits next start [] small pile = (rw pile refl, λ k stands. absurd (omega arith))
+pile-fits next start (x ∷ xs) small pile =
+    let rest = pile-fits next (next x) xs (λ k stands. small k (omega (arith, stands))) pile.1 in
+    let low : x < no_link = small x (omega (arith, times-here x xs)) in
+    let fits : link_of x ≡ Some x = grind arith in
+    (rw pile.0 fits, λ k stands. by_test k stands (x == k) refl rest)
+  where
+    by_test : (k : ℕ) → 1 ≤ times k (x ∷ xs) → (b : Bool) → (x == k) ≡ b
+        → (link_of (bits_of (next x)) ≡ next x) × ((k : ℕ) → 1 ≤ times k xs → link_of (bits_of (next k)) ≡ next k)
+        → link_of (bits_of (next k)) ≡ next k
+    by_test k stands true e rest = let same : x ≡ k = grind arith in rw (← same) rest.0
+    by_test k stands false e rest =
+        let other : x ≢ k = grind arith in
+        rest.1 k (omega (arith, stands, times-other k x xs other))
+
+-- the links that a walk along a list that they spell follows fit their bits
+pub walk_by-fits : {T : Type 0} (link : T → Option ℕ) (records : List T) (start : Option ℕ) → length records ≤ no_link
+    → IsPile (link_at link records) start (walk_by link records start).met
+    → (link_of (bits_of start) ≡ start)
+    × ((k : ℕ) → 1 ≤ times k (walk_by link records start).met → link_of (bits_of (link_at link records k)) ≡ link_at link records k)
+walk_by-fits {T} link records start few pile =
+    let links : List ℕ = map (λ (here : T). bits_of (link here)) records in
+    let long : length links ≡ length records = length-map records (λ (here : T). bits_of (link here)) in
+    let walked : IsWalked links (bits_of start) (walk_by link records start) = walk-leads links (bits_of start) (rw long few) in
+    pile-fits (link_at link records) start (walk_by link records start).met (λ k stands. omega (arith, walked.within k stands, long, few)) pile

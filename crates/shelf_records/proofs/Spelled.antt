@@ -5,4 +5,5 @@ pub mod SpelledNumbers
 pub mod SpelledPlaces
 pub mod StandsKept
 pub mod StandsLinked
+pub mod Witnessed
 pub mod Witnesses

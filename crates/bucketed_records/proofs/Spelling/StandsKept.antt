@@ -115,7 +115,7 @@ shelves-spelled atlas number (shelf ∷ shelves) few fit firsts linked has ends 
       buckets-spelled atlas.buckets number shelf.bucket_width shelf.first_bucket walked.met
           (Each-front (λ (n : ℕ). n < length atlas.buckets) walked.met (walked_numbers atlas.buckets shelves) within)
           linked.1 (frees-filled atlas.buckets (alignment_along atlas.frame) shelf.bucket_width shelf.height walked.met has.0.filled)
-          (walk_by-leads (λ (bucket : LinkedBucket). bucket.next) atlas.buckets shelf.first_bucket fit firsts.0 few ends.0),
+          (walk_by-leads (λ (bucket : LinkedBucket). bucket.next) atlas.buckets shelf.first_bucket (λ k stands. fit k) firsts.0 few ends.0),
       shelves-spelled atlas (suc number) shelves few fit firsts.1 linked.2 has.1 ends.1
           (Each-back (λ (n : ℕ). n < length atlas.buckets) walked.met (walked_numbers atlas.buckets shelves) within),
     )
@@ -252,7 +252,7 @@ module _ (atlas : BucketRecords) (fit : LinksFit atlas) (stands : StandsFor atla
   pool : IsPool atlas.buckets atlas.unused (bucket_numbers spelled) unused
   pool =
       record {
-        pile = walk_by-leads (λ (bucket : LinkedBucket). bucket.next) atlas.buckets atlas.unused fit.next fit.unused few sharing.unused_end;
+        pile = walk_by-leads (λ (bucket : LinkedBucket). bucket.next) atlas.buckets atlas.unused (λ k stands. fit.next k) fit.unused few sharing.unused_end;
         once = once;
         count = sym all-count;
         few = counts.buckets;

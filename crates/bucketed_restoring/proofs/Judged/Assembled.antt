@@ -126,7 +126,7 @@ module _ (atlas : BucketRecords) (all : List KeptShelf) (used area : ℕ) (lists
       let y : s.y ≡ column_height (s.x / atlas.frame.column_width) (map spelled before) = across.0 ∙ sym (height-spelled atlas.frame atlas.buckets (s.x / atlas.frame.column_width) before) in
       let link : first_link (map (bucket_at atlas.buckets s.bucket_width) (bucket_walk atlas.buckets s.first_bucket).met) ≡ s.first_bucket =
       first-spelled atlas.buckets s.bucket_width s.first_bucket (bucket_walk atlas.buckets s.first_bucket).met
-      (walk_by-leads (λ (bucket : LinkedBucket). bucket.next) atlas.buckets s.first_bucket fit.next judged.0.fits (omega (arith, counts.buckets)) judged.0.ends) in
+      (walk_by-leads (λ (bucket : LinkedBucket). bucket.next) atlas.buckets s.first_bucket (λ k stands. fit.next k) judged.0.fits (omega (arith, counts.buckets)) judged.0.ends) in
       let one : kept_of atlas.buckets s ≡ kept_shelf atlas.frame (map spelled before) (spelled s) =
       ap (λ (n : ℕ). let kept : KeptShelf = record (kept_of atlas.buckets s) { shelf = record s { x = n } } in kept) x
       ∙ ap (λ (n : ℕ). let kept : KeptShelf = record (kept_of atlas.buckets s) { shelf = record s { x = column_place atlas.frame (s.x / atlas.frame.column_width); y = n } } in kept) y

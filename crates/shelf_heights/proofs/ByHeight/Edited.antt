@@ -15,6 +15,7 @@ use Rattle.shelf_links.specs.RecordLists.{Records, shelf_numbers, walked_lists}
 use Rattle.shelf_heights.specs.Private.ByHeight.{AreInOrder, AreByHeight, bound_of, order_of, put_in, raised, numbers_by_height, taken_out}
 use Rattle.shelf_records.specs.Private.Kept.{AreKept}
 use Rattle.shelf_heights.specs.declared.by_height.BoundedShelf.{BoundedShelf}
+use Rattle.shelf_records.proofs.Spelled.StandsKept.{witnesses}
 
 -- the shelf of a number, with this bound
 abbrev pub bounded_as : ℕ → ℕ → BoundedShelf
@@ -189,7 +190,7 @@ pub by_height-in_order : (frame : Frame) (records : Records) (by_height : List B
     → AreKept frame records → AreByHeight frame records by_height → AreInOrder records.shelves by_height
 by_height-in_order frame records by_height kept are =
     record {
-      within = Each-times (λ k. k < length records.shelves) (numbers_by_height by_height) (λ k stands. once_below k (length records.shelves) (omega (arith, stands, are.once k, kept.linked.shelves_once k, times-append k (shelf_numbers (walked_lists records).entries ++ (walked_lists records).unused_shelves) [], times-append k (shelf_numbers (walked_lists records).entries) (walked_lists records).unused_shelves)));
+      within = Each-times (λ k. k < length records.shelves) (numbers_by_height by_height) (λ k stands. once_below k (length records.shelves) (omega (arith, stands, are.once k, (witnesses kept).linked.shelves_once k, times-append k (shelf_numbers (walked_lists records).entries ++ (walked_lists records).unused_shelves) [], times-append k (shelf_numbers (walked_lists records).entries) (walked_lists records).unused_shelves)));
       rising = are.rising;
     }
 

@@ -10,7 +10,7 @@ use Rattle.shelf_links.specs.RecordLists.{Entry, item_numbers, shelf_numbers}
 use Rattle.shelf_links.proofs.AllLists.LinkedFrames.{shelf_numbers-append}
 use Rattle.shelf_records.specs.AtlasRecords.{AtlasRecords, across_of, along_of, height_of, item_at, item_place_of, shelf_of, spelled_shelf}
 use Rattle.shelf_model.specs.Places.{allocation_of, allocations_after, allocations_along, column_height}
-use Rattle.shelf_records.specs.Private.Kept.{IsPlaced}
+use Rattle.shelf_records.proofs.Spelled.Witnessed.{IsPlaced}
 use Rattle.shelf_records.specs.Private.Reading.{recorded_allocation}
 use Rattle.shelf_records.specs.StandsFor.{AreStacked, LieFrom, height_before}
 use Rattle.shelf_model.specs.State.{Shelf}

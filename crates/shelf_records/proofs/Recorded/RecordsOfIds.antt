@@ -23,18 +23,20 @@ use Rattle.shelf_links.proofs.AllLists.LinkedFrames.{shelf_numbers-append}
 use Rattle.etagere_links.proofs.ListEnds.{times-here, times-other}
 use Rattle.shelf_records.specs.AtlasRecords.{across_of, height_of, is_allocated_at, item_at, item_place_of, shelf_of, spelled_item}
 use Rattle.shelf_model.specs.Places.{allocation_of, allocations, is_allocated, rectangle_of}
-use Rattle.shelf_records.specs.Private.Kept.{AreKept, IsPlaced, atlas_of, state_of}
+use Rattle.shelf_records.specs.Private.Kept.{AreKept, atlas_of, state_of}
+use Rattle.shelf_records.proofs.Spelled.Witnessed.{IsPlaced}
 use Rattle.shelf_records.specs.Private.Reading.{record_of, recorded_allocation, recorded_rectangle}
 use Rattle.shelf_model.specs.Returning.{has_id}
 use Rattle.shelf_model.specs.State.{Item}
 use Rattle.shelf_records.proofs.Recorded.Members.{Each-member, StandsIn, stands_in}
 use Rattle.shelf_records.proofs.Recorded.RecordedAllocations.{after-recorded}
+use Rattle.shelf_records.proofs.Spelled.StandsKept.{witnesses}
 
 -- what is allocated, record by record
 pub kept-allocations : (frame : Frame) (records : Records) → AreKept frame records
     → allocations (state_of frame records) ≡ flat_map (recorded_allocation frame records) (item_numbers (walked_lists records).entries)
 kept-allocations frame records kept =
-    after-recorded (atlas_of frame records) [] (walked_lists records).entries kept.valid.frame.column_width kept.placed kept.stacked
+    after-recorded (atlas_of frame records) [] (walked_lists records).entries (witnesses kept).valid.frame.column_width (witnesses kept).placed (witnesses kept).stacked
 
 module _ (owner : ℕ → Option ℕ) (area : ℕ → Rectangle) (id : ℕ) where
   -- what the items of these numbers allocate
@@ -125,13 +127,13 @@ in_use items used unused number once free marked = by_count (times number unused
 marked-stands : (frame : Frame) (records : Records) (number : ℕ) → AreKept frame records → is_allocated_at records.items number ≡ true → StandsIn number (walked_lists records).entries
 marked-stands frame records number kept marked =
     stands_in number (walked_lists records).entries
-    (in_use records.items (item_numbers (walked_lists records).entries) (walked_lists records).unused_items number kept.linked.items_once kept.unused marked)
+    (in_use records.items (item_numbers (walked_lists records).entries) (walked_lists records).unused_items number (witnesses kept).linked.items_once (witnesses kept).unused marked)
 
 -- the items of the shelves are records
 pub kept-within : (frame : Frame) (records : Records) (number : ℕ) → AreKept frame records → 1 ≤ times number (item_numbers (walked_lists records).entries) → number < length records.items
 kept-within frame records number kept stands =
     (once-part (length records.items) (item_numbers (walked_lists records).entries ++ (walked_lists records).unused_items ++ []) number
-    (times number (item_numbers (walked_lists records).entries)) kept.linked.items_once
+    (times number (item_numbers (walked_lists records).entries)) (witnesses kept).linked.items_once
     (omega (arith, three-count (item_numbers (walked_lists records).entries) (walked_lists records).unused_items [] number))).1 stands
 
 -- an id that an item has is the item's
@@ -151,7 +153,7 @@ kept-rectangle frame records id kept = by_test (has_id id (owner (id % 65536))) 
     numbers = item_numbers (walked_lists records).entries
 
     small : (k : ℕ) → 1 ≤ times k numbers → k < 65536
-    small k stands = omega (arith, kept-within frame records k kept stands, kept.counts.items.1)
+    small k stands = omega (arith, kept-within frame records k kept stands, (witnesses kept).counts.items.1)
 
     read : (o : Option Allocation) → find (λ allocation. allocation.id == id) (flat_map (recorded_allocation frame records) numbers) ≡ o → rectangle_of (state_of frame records) id ≡ option_map (λ allocation. allocation.rectangle) o
     read o e =
@@ -161,7 +163,7 @@ kept-rectangle frame records id kept = by_test (has_id id (owner (id % 65536))) 
     by_test : (b : Bool) → has_id id (owner (id % 65536)) ≡ b → rectangle_of (state_of frame records) id ≡ option_map (recorded_rectangle frame records) (cond b (Some (id % 65536)) None)
     by_test true e =
         let stands : 1 ≤ times (id % 65536) numbers =
-        in_use records.items numbers (walked_lists records).unused_items (id % 65536) kept.linked.items_once kept.unused (has-marked records.items (id % 65536) (id % 65536) id e) in
+        in_use records.items numbers (walked_lists records).unused_items (id % 65536) (witnesses kept).linked.items_once (witnesses kept).unused (has-marked records.items (id % 65536) (id % 65536) id e) in
         read (Some (record { id = id; rectangle = recorded_rectangle frame records (id % 65536) }))
         (found-listed owner (recorded_rectangle frame records) id (id % 65536) numbers (owner-is id (owner (id % 65536)) e)
         (λ k among has. sym (numbered records.items k id (small k among) has)) stands)
@@ -204,14 +206,14 @@ record-marked items id number names = by_test (has_id id (item_at items (id % 65
 kept-shelf_within : (frame : Frame) (records : Records) (number : ℕ) → AreKept frame records → 1 ≤ times number (shelf_numbers (walked_lists records).entries) → number < length records.shelves
 kept-shelf_within frame records number kept stands =
     (once-part (length records.shelves) (shelf_numbers (walked_lists records).entries ++ (walked_lists records).unused_shelves ++ []) number
-    (times number (shelf_numbers (walked_lists records).entries)) kept.linked.shelves_once
+    (times number (shelf_numbers (walked_lists records).entries)) (witnesses kept).linked.shelves_once
     (omega (arith, three-count (shelf_numbers (walked_lists records).entries) (walked_lists records).unused_shelves [] number))).1 stands
 
 -- the shelf that an item names that is marked allocated is a record
 pub kept-shelf : (frame : Frame) (records : Records) (number : ℕ) → AreKept frame records → is_allocated_at records.items number ≡ true → shelf_of records.items number < length records.shelves
 kept-shelf frame records number kept marked =
     let stands : StandsIn number (walked_lists records).entries = marked-stands frame records number kept marked in
-    let placed : AllByRecursion (IsPlaced (atlas_of frame records)) (stands.before ++ stands.entry ∷ stands.after) = rw (← stands.whole) kept.placed in
+    let placed : AllByRecursion (IsPlaced (atlas_of frame records)) (stands.before ++ stands.entry ∷ stands.after) = rw (← stands.whole) (witnesses kept).placed in
     let owners : AllByRecursion (λ item. shelf_of records.items item ≡ stands.entry.number) (stands.items.front ++ number ∷ stands.items.back) =
     rw (← stands.items.whole) (Each-middle (IsPlaced (atlas_of frame records)) stands.before stands.entry stands.after placed).owners in
     let names : shelf_of records.items number ≡ stands.entry.number =

@@ -16,7 +16,8 @@ use Rattle.shelf_links.specs.RecordLists.{Records, Entry, item_numbers, unused_i
 use Rattle.shelf_records.specs.AtlasRecords.{AtlasRecords, along_of, is_allocated_at, item_at, item_place_of, spelled_shelf, state_spelled, walked_entries}
 use Rattle.shelf_model.specs.Merging.{both_free}
 use Rattle.shelf_model.specs.Places.{allocations, column_place, free_places, record_number}
-use Rattle.shelf_records.specs.Private.Kept.{AreKept, HasFlag, IsPlaced, Witnessed, atlas_of, state_of}
+use Rattle.shelf_records.specs.Private.Kept.{AreFit, AreKept, atlas_of, state_of}
+use Rattle.shelf_records.proofs.Spelled.Witnessed.{HasFlag, IsPlaced, Witnessed}
 use Rattle.shelf_records.specs.StandsFor.{HasCounts, HasFreeList, HasItemLinks, HasItems, HasLinks, HasNeighbours, HasShelves, IsShared, StandsFor}
 use Rattle.shelf_model.specs.Space.{space_in}
 use Rattle.shelf_model.specs.State.{AtlasState, Shelf}
@@ -24,7 +25,7 @@ use Rattle.shelf_model.specs.Valid.{IsShelf, IsValid}
 use Rattle.shelf_model.proofs.Allocations.EqualCounts.{times-map}
 use Rattle.shelf_records.proofs.Spelled.SpelledNumbers.{items_in_use-spelled, marked-below, spelled-numbers}
 use Rattle.shelf_records.proofs.Spelled.SpelledPlaces.{free_places-spelled}
-use Rattle.shelf_records.proofs.Spelled.StandsLinked.{AllFit, filter-times, stands-linked}
+use Rattle.shelf_records.proofs.Spelled.StandsLinked.{filter-times, stands-linked}
 use Rattle.shelf_records.proofs.Spelled.Witnesses.{Each-unmap}
 
 -- the shelf that a record spells begins along where the record says
@@ -127,7 +128,7 @@ module _ (atlas : AtlasRecords) where
     stands-valid = subst IsValid (sym stands.spelled) spelled-valid
 
     -- the lists that walks meet are spelled by the links, and spell the state
-    pub stands-witnessed : AllFit atlas.records → Witnessed atlas (walked_lists atlas.records) state
+    stands-witnessed : AreFit atlas.records → Witnessed atlas (walked_lists atlas.records) state
     stands-witnessed fit =
         record {
           spelled = stands.spelled;
@@ -142,7 +143,7 @@ module _ (atlas : AtlasRecords) where
           space = subst (λ (s : AtlasState). atlas.allocated_space ≡ pos (space_in s.shelves)) (sym stands.spelled) (stands.keeps faults.Space);
         }
 
--- records that stand for the state that they spell are kept
-pub stands-kept : (frame : Frame) (records : Records) → AllFit records → StandsFor (atlas_of frame records) (state_of frame records)
-    → AreKept frame records
-stands-kept frame records fit stands = stands-witnessed (atlas_of frame records) (state_of frame records) stands fit
+-- what the links of kept records spell, and what these say beside their links
+pub witnesses : {frame : Frame} {records : Records} → AreKept frame records
+    → Witnessed (atlas_of frame records) (walked_lists records) (state_of frame records)
+witnesses {frame} {records} kept = stands-witnessed (atlas_of frame records) (state_of frame records) kept.stands kept.fit

@@ -3,22 +3,24 @@ use Rattle.std.proofs.Common.{pos, ◌≡◌, ℕ, ◌≤◌, false, None, List,
 use Rattle.std.specs.Prelude.{◌<◌, ◌%◌}
 use Rattle.etagere_base.specs.declared.frames.Frame as frames
 use Rattle.etagere_base.specs.declared.faults.RestoreFault.TheVariants.{Frame, Counts, Link, Shelves, Runs, Neighbours, FreeList, Sharing, Unused, Space, Memory}
-use Rattle.etagere_links.specs.Chains.{LeadsBack}
+use Rattle.etagere_links.specs.Chains.{IsPileIn, LeadsBack}
 use Rattle.etagere_links.specs.Edits.{link_at}
-use Rattle.shelf_links.specs.Records.{shelf_chain}
+use Rattle.etagere_links.proofs.WalkedLists.{walk_by-fits}
+use Rattle.shelf_links.specs.Records.{free_list, item_chain, shelf_chain}
 use Rattle.etagere_base.proofs.EachLemmas.{Each-weaken}
 use Rattle.etagere_base.proofs.TimesLemmas.{times-append}
 use Rattle.std.specs.List.{AllByRecursion}
 use Rattle.etagere_base.specs.Lists.{NoNeighbours}
 use Rattle.etagere_links.specs.Links.{no_link}
-use Rattle.shelf_links.specs.RecordLists.{Entry, Lists, shelf_walk, item_walk, free_walk, unused_item_walk, unused_shelf_walk, walked_lists, shelf_numbers, item_numbers, IsEntry, IsLinked, Records}
+use Rattle.shelf_links.specs.RecordLists.{Entry, Lists, first_free_of, first_item_of, shelf_walk, item_walk, free_walk, walked_entry, unused_item_walk, unused_shelf_walk, walked_lists, shelf_numbers, item_numbers, IsEntry, IsLinked, Records}
 use Rattle.etagere_links.specs.Lists.{HasEachOnce}
 use Rattle.etagere_links.specs.Walks.{Walked}
 use Rattle.shelf_links.proofs.AllLists.LinkedUnused.{three-count}
-use Rattle.shelf_links.proofs.AllLists.LinkedWalks.{AreWalks, HasWalks, linked-walks, linked-lists}
+use Rattle.shelf_links.proofs.AllLists.LinkedWalks.{AreWalks, HasWalks, linked-walks, linked-lists, walked-numbers}
 use Rattle.shelf_records.specs.AtlasRecords.{AtlasRecords, is_allocated_at, along_of, spelled_shelf, spelled_state, state_spelled, walked_entries}
 use Rattle.shelf_model.specs.Merging.{both_free}
-use Rattle.shelf_records.specs.Private.Kept.{AreKept, HasFlag, IsPlaced, Witnessed, atlas_of, bare, state_of}
+use Rattle.shelf_records.specs.Private.Kept.{AreFit, AreKept, FollowsFit, atlas_of, bare, state_of}
+use Rattle.shelf_records.proofs.Spelled.Witnessed.{HasFlag, IsPlaced, Witnessed}
 use Rattle.shelf_model.specs.Space.{space_in}
 use Rattle.shelf_records.specs.StandsFor.{StopsInRange, HasItemLinks, AreStacked, HasItems, HasFreeList, StandsFor}
 use Rattle.shelf_model.specs.State.{Shelf, AtlasState}
@@ -63,7 +65,7 @@ two-of : (count : ℕ) (used unused : List ℕ) → HasEachOnce count (used ++ u
 two-of count used unused once k = omega (arith, once k, three-count used unused [] k, times-append k used unused)
 
 -- records that spell lists stand for the state
-pub witnessed-stands : (atlas : AtlasRecords) (lists : Lists) (state : AtlasState) → Witnessed atlas lists state → StandsFor atlas state
+witnessed-stands : (atlas : AtlasRecords) (lists : Lists) (state : AtlasState) → Witnessed atlas lists state → StandsFor atlas state
 witnessed-stands atlas lists state witnessed =
     let linked : IsLinked atlas.records lists = witnessed.linked in
     let walks : AreWalks atlas.records lists = linked-walks atlas.records lists witnessed.counts.shelves.1 witnessed.counts.items.1 linked in
@@ -132,16 +134,42 @@ witnessed-stands atlas lists state witnessed =
       ];
     }
 
--- records that keep every rule stand for the state that they spell
-pub kept-stands : (frame : frames.Frame) (records : Records) → AreKept frame records → StandsFor (atlas_of frame records) (state_of frame records)
-kept-stands frame records kept = witnessed-stands (atlas_of frame records) (walked_lists records) (state_of frame records) kept
+-- the links of a shelf's lists fit their bits
+entries-fit : (records : Records) → length records.items ≤ no_link → (numbers : List ℕ)
+    → AllByRecursion (IsEntry records) (map (walked_entry records) numbers)
+    → AllByRecursion (λ number. FollowsFit item_chain.next records.items (first_item_of records.shelves number)) numbers
+    × AllByRecursion (λ number. FollowsFit free_list.next records.items (first_free_of records.shelves number)) numbers
+entries-fit records few [] are = (tt, tt)
+entries-fit records few (n ∷ ns) are =
+    let rest = entries-fit records few ns are.1 in (
+      (walk_by-fits item_chain.next records.items (first_item_of records.shelves n) few are.0.items.forward, rest.0),
+      (walk_by-fits free_list.next records.items (first_free_of records.shelves n) few are.0.free_list.forward, rest.1),
+    )
+
+-- and so do all links of records that spell the lists that walks meet
+linked-fit : (records : Records) → length records.shelves ≤ no_link → length records.items ≤ no_link
+    → IsLinked records (walked_lists records) → AreFit records
+linked-fit records few_shelves few_items linked =
+    let each = entries-fit records few_items (shelf_walk records).met linked.entries in
+    record {
+      shelves = walk_by-fits shelf_chain.next records.shelves records.first_shelf few_shelves
+          (subst (λ (ns : List ℕ). IsPileIn shelf_chain records.shelves records.first_shelf ns)
+          (walked-numbers records (shelf_walk records).met) linked.shelves.forward);
+      unused_shelves = walk_by-fits shelf_chain.next records.shelves records.unused_shelves few_shelves linked.unused_shelves;
+      unused_items = walk_by-fits item_chain.next records.items records.unused_items few_items linked.unused_items;
+      items = each.0;
+      free_lists = each.1;
+    }
 
 -- records that spell lists keep every rule
 pub witnessed-kept : (frame : frames.Frame) (records : Records) (lists : Lists) → Witnessed (atlas_of frame records) lists (state_of frame records) → AreKept frame records
 witnessed-kept frame records lists witnessed =
     let same : lists ≡ walked_lists records =
     sym (linked-lists records lists (linked-walks records lists witnessed.counts.shelves.1 witnessed.counts.items.1 witnessed.linked)) in
-    subst (λ (l : Lists). Witnessed (atlas_of frame records) l (state_of frame records)) same witnessed
+    record {
+      stands = witnessed-stands (atlas_of frame records) lists (state_of frame records) witnessed;
+      fit = linked-fit records witnessed.counts.shelves.1 witnessed.counts.items.1 (subst (λ (l : Lists). IsLinked records l) same witnessed.linked);
+    }
 
 -- records that spell the lists of a state keep every rule, and spell that state
 pub kept-of : (frame : frames.Frame) (records : Records) (lists : Lists) (state : AtlasState) → Witnessed (record { frame = frame; records = records; allocated_space = pos (space_in state.shelves) }) lists state → (state_of frame records ≡ state) × AreKept frame records

@@ -1,40 +1,37 @@
--- Linked records that keep every rule, as the private functions see them: by the lists that their
--- links spell, and apart from the space that an atlas says is allocated.
-use Rattle.std.specs.Prelude.{◌≡◌, ◌%◌, pos, false, Some, [], slice_get}
+-- Linked records that keep every rule, as the private functions see them, apart from the space that an atlas says is
+-- allocated; and what was found in them.
+use Rattle.std.specs.Prelude.{◌≡◌, ℕ, ◌≤◌, Option, Some, List, pos, slice_get}
+use Rattle.etagere_base.specs.Lists.{times}
 use Rattle.etagere_base.specs.declared.frames.Frame.{Frame}
 use Rattle.std.specs.List.{AllByRecursion}
-use Rattle.shelf_links.specs.RecordLists.{Records, Entry, Lists, IsLinked, shelf_numbers, walked_lists}
-use Rattle.shelf_records.specs.AtlasRecords.{AtlasRecords, along_of, is_allocated_at, is_empty_at, shelf_of, spelled_shelf, spelled_state}
+use Rattle.etagere_links.specs.Edits.{link_at}
+use Rattle.etagere_links.specs.Walks.{walk_by}
+use Rattle.shelf_links.specs.RecordLists.{Records, Entry, first_free_of, first_item_of, shelf_walk, walked_lists}
+use Rattle.shelf_links.specs.Records.{free_list, item_chain, shelf_chain}
+use Rattle.shelf_records.specs.AtlasRecords.{AtlasRecords, spelled_state}
+use Rattle.shelf_records.specs.Private.Restoring.{Fits}
+use Rattle.shelf_records.specs.StandsFor.{StandsFor}
 use Rattle.shelf_model.specs.Choice.{Placement}
 use Rattle.shelf_model.specs.Space.{space_in}
-use Rattle.shelf_records.specs.StandsFor.{AreStacked, HasCounts, LieFrom, ListsFree}
-use Rattle.shelf_model.specs.State.{AtlasState, is_empty}
-use Rattle.shelf_model.specs.Valid.{IsValid}
+use Rattle.shelf_model.specs.State.{AtlasState}
 
--- what the records of a shelf and of its items say beside their links
-pub record IsPlaced (atlas : AtlasRecords) (entry : Entry) : Type 0 where
-  pub owners : AllByRecursion (λ item. shelf_of atlas.records.items item ≡ entry.number) entry.items
-  pub along : along_of atlas.records.shelves entry.number % atlas.frame.column_width ≡ 0
-  pub places : LieFrom atlas.records.items (along_of atlas.records.shelves entry.number) entry.items
-  pub free_list : ListsFree atlas.records.items entry
+-- the links that a walk follows fit their bits: none names the number whose bits stand for none
+abbrev pub FollowsFit : {T : Type 0} → (T → Option ℕ) → List T → Option ℕ → Type 0
+FollowsFit next records start =
+    Fits start
+    × ((number : ℕ) → 1 ≤ times number (walk_by next records start).met → Fits (link_at next records number))
 
--- the record of a shelf says whether it is empty
-abbrev pub HasFlag : AtlasRecords → Entry → Type 0
-HasFlag atlas entry =
-    is_empty_at atlas.records.shelves entry.number ≡ is_empty (spelled_shelf atlas entry)
-
--- the records spell these lists, and these the state
-pub record Witnessed (atlas : AtlasRecords) (lists : Lists) (state : AtlasState) : Type 0 where
-  pub spelled : state ≡ spelled_state atlas lists.entries
-  pub counts : HasCounts atlas
-  pub linked : IsLinked atlas.records lists
-  pub placed : AllByRecursion (IsPlaced atlas) lists.entries
-  pub flags : AllByRecursion (HasFlag atlas) lists.entries
-  pub stacked : AreStacked atlas.records.shelves atlas.frame.column_width []
-      (shelf_numbers lists.entries)
-  pub valid : IsValid state
-  pub unused : AllByRecursion (λ item. is_allocated_at atlas.records.items item ≡ false) lists.unused_items
-  pub space : atlas.allocated_space ≡ pos (space_in state.shelves)
+-- so do those that each walk through these records follows
+pub record AreFit (records : Records) : Type 0 where
+  pub shelves : FollowsFit shelf_chain.next records.shelves records.first_shelf
+  pub unused_shelves : FollowsFit shelf_chain.next records.shelves records.unused_shelves
+  pub unused_items : FollowsFit item_chain.next records.items records.unused_items
+  pub items : AllByRecursion
+      (λ number. FollowsFit item_chain.next records.items (first_item_of records.shelves number))
+      (shelf_walk records).met
+  pub free_lists : AllByRecursion
+      (λ number. FollowsFit free_list.next records.items (first_free_of records.shelves number))
+      (shelf_walk records).met
 
 -- an atlas of these records that says that nothing is allocated
 abbrev pub bare : Frame → Records → AtlasRecords
@@ -53,10 +50,10 @@ atlas_of frame records =
       allocated_space = pos (space_in (state_of frame records).shelves);
     }
 
--- records keep every rule: their links spell the lists that walks meet, and these the state
-abbrev pub AreKept : Frame → Records → Type 0
-AreKept frame records =
-    Witnessed (atlas_of frame records) (walked_lists records) (state_of frame records)
+-- records are kept: they stand for the state that they spell
+pub record AreKept (frame : Frame) (records : Records) : Type 0 where
+  pub stands : StandsFor (atlas_of frame records) (state_of frame records)
+  pub fit : AreFit records
 
 -- what was found in records is a placement, but that it names the shelf and the item by the numbers
 -- of their records

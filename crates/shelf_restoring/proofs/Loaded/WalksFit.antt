@@ -11,12 +11,12 @@ use Rattle.shelf_links.specs.declared.records.LinkedItem.{LinkedItem}
 use Rattle.etagere_links.specs.Links.{bits_of, no_link}
 use Rattle.shelf_links.specs.RecordLists.{Records, Entry, first_free_of, first_item_of, item_numbers, shelf_numbers, shelf_walk, unused_item_walk, unused_shelf_walk, walked_entry}
 use Rattle.etagere_links.specs.Lists.{HasEachOnce}
-use Rattle.shelf_links.specs.Records.{free_list}
+use Rattle.shelf_links.specs.Records.{free_list, item_chain}
 use Rattle.shelf_records.specs.AtlasRecords.{AtlasRecords, walked_entries}
-use Rattle.shelf_records.specs.Private.Restoring.{Fits, HasChain, HasFree, IsWalked}
+use Rattle.shelf_records.specs.Private.Restoring.{HasChain, HasFree, IsWalked}
 use Rattle.shelf_restoring.proofs.Loaded.ChainsWalked.{once-walked}
 use Rattle.shelf_restoring.proofs.Judged.ShortLists.{few-shelves, once-shelves, short-items}
-use Rattle.shelf_records.proofs.Spelled.StandsLinked.{AllFit}
+use Rattle.shelf_records.specs.Private.Kept.{AreFit, FollowsFit}
 
 -- a free list that a walk meets has a number once at most
 frees-once : (records : Records) → length records.items ≤ no_link → (numbers : List ℕ)
@@ -30,20 +30,17 @@ frees-once records few (n ∷ ns) =
     )
 
 module _ (atlas : AtlasRecords) (walked : IsWalked atlas) where
-  -- the links of the records fit their bits
-  pub walked-fit : AllFit atlas.records
+  -- the links that walks follow fit their bits
+  pub walked-fit : AreFit atlas.records
   walked-fit =
       record {
-        shelf_next = walked.shelves.next_fits;
-        item_next = walked.items.next_fits;
-        free_next = walked.free_fits;
-        first_items = Each-weaken (HasChain atlas.records) (λ number. Fits (first_item_of atlas.records.shelves number))
-            (shelf_walk atlas.records).met (λ number has. has.first_fits) walked.items.chains;
-        first_frees = Each-weaken (HasFree atlas.records) (λ number. Fits (first_free_of atlas.records.shelves number))
-            (shelf_walk atlas.records).met (λ number has. has.first_fits) walked.free;
-        first_shelf = walked.shelves.first_fits;
-        unused_items = walked.items.unused_fits;
-        unused_shelves = walked.shelves.unused_fits;
+        shelves = (walked.shelves.first_fits, λ k stands. walked.shelves.next_fits k);
+        unused_shelves = (walked.shelves.unused_fits, λ k stands. walked.shelves.next_fits k);
+        unused_items = (walked.items.unused_fits, λ k stands. walked.items.next_fits k);
+        items = Each-weaken (HasChain atlas.records) (λ number. FollowsFit item_chain.next atlas.records.items (first_item_of atlas.records.shelves number))
+            (shelf_walk atlas.records).met (λ number has. (has.first_fits, λ k stands. walked.items.next_fits k)) walked.items.chains;
+        free_lists = Each-weaken (HasFree atlas.records) (λ number. FollowsFit free_list.next atlas.records.items (first_free_of atlas.records.shelves number))
+            (shelf_walk atlas.records).met (λ number has. (has.first_fits, λ k stands. walked.free_fits k)) walked.free;
       }
 
   -- each item record is an item of a shelf or unused, once

@@ -11,7 +11,6 @@ use Rattle.shelf_records.specs.Private.Restoring.{HasChain, HasFree, IsWalked}
 use Rattle.shelf_records.specs.StandsFor.{FreeBack, HasFreeList, HasItemLinks, HasLinks, IsShared, LinkBack, StandsFor, StopsInRange}
 use Rattle.shelf_restoring.proofs.Loaded.ChainsWalked.{once-walked}
 use Rattle.shelf_restoring.proofs.Loaded.WalksFit.{walked-fit}
-use Rattle.shelf_records.proofs.Spelled.StandsKept.{stands-kept}
 
 -- a walk that ends at none stops in range
 stops : (count : ℕ) (walked : Walked) → walked.end ≡ no_link → StopsInRange count walked
@@ -79,5 +78,7 @@ module _ (atlas : AtlasRecords) where
   -- records that walks have followed, and that keep each rule, are kept
   pub walked-kept : IsWalked atlas → StandsFor atlas (state_spelled atlas) → AreKept atlas.frame atlas.records
   walked-kept walked stands =
-      stands-kept atlas.frame atlas.records (walked-fit atlas walked)
-      (subst (λ (space : ℤ). StandsFor (record { frame = atlas.frame; records = atlas.records; allocated_space = space }) (state_spelled atlas)) (stands.keeps Space) stands)
+      record {
+        stands = subst (λ (space : ℤ). StandsFor (record { frame = atlas.frame; records = atlas.records; allocated_space = space }) (state_spelled atlas)) (stands.keeps Space) stands;
+        fit = walked-fit atlas walked;
+      }

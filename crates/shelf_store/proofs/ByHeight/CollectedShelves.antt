@@ -10,6 +10,7 @@ use Rattle.shelf_records.specs.Private.Kept.{AreKept}
 use Rattle.shelf_heights.specs.declared.by_height.BoundedShelf.{BoundedShelf}
 use Rattle.shelf_store.proofs.Searched.Following.{IsLeft, IsStep, none-left, step-left}
 use Rattle.shelf_store.proofs.Searched.LinkedParts.{shelves-left}
+use Rattle.shelf_records.proofs.Spelled.StandsKept.{witnesses}
 
 -- the shelves in use, new by height
 abbrev pub in_use : Frame → Records → List BoundedShelf
@@ -24,7 +25,7 @@ pub record Collects (frame : Frame) (records : Records) (by_height : List Bounde
 -- at first all are left
 pub collects-begin : (frame : Frame) (records : Records) (by_height : List BoundedShelf) (at : Option ℕ) → AreKept frame records → by_height ≡ [] → at ≡ records.first_shelf → Collects frame records by_height at 0
 collects-begin frame records by_height at kept none begins =
-    record { rest = (shelf_walk records).met; left = rw begins (shelves-left records kept.linked); whole = rw none refl }
+    record { rest = (shelf_walk records).met; left = rw begins (shelves-left records (witnesses kept).linked); whole = rw none refl }
 
 -- where none is left all were collected
 none-rest : (frame : Frame) (records : Records) (by_height : List BoundedShelf) (rest : List ℕ) → rest ≡ [] → by_height ++ map (newly_bounded frame) rest ≡ in_use frame records → by_height ≡ in_use frame records

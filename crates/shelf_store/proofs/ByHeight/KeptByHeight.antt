@@ -12,6 +12,7 @@ use Rattle.shelf_store.proofs.ByHeight.PlacesRise.{LiesWithin, kept-within, plac
 use Rattle.shelf_store.proofs.ByHeight.RisingNumbers.{rise-same}
 use Rattle.shelf_store.proofs.Spelled.SpelledLists.{with_records}
 use Rattle.shelf_records.proofs.Recorded.Members.{Each-member}
+use Rattle.shelf_records.proofs.Spelled.StandsKept.{witnesses}
 
 -- the shelves of kept records begin at places of their own
 kept-places : (frame : Frame) (records : Records) → AreKept frame records → HaveOwnPlaces records.shelves (shelf_numbers (walked_lists records).entries)
@@ -28,7 +29,7 @@ kept-places frame records kept =
 -- shelves by height of kept records
 pub kept-by_height : (frame : Frame) (records : Records) (by_height : List BoundedShelf) → AreKept frame records → AreByHeight frame records by_height → HoldsByHeight (atlas_of frame records) (walked_lists records).entries by_height
 kept-by_height frame records by_height kept are =
-    record { once = are.once; order = by_height-in_order frame records by_height kept are; bounds = are.bounds; few = kept.counts.shelves.1; places = kept-places frame records kept }
+    record { once = are.once; order = by_height-in_order frame records by_height kept are; bounds = are.bounds; few = (witnesses kept).counts.shelves.1; places = kept-places frame records kept }
 
 -- the shelves of records that spell some lists, by height
 pub by_height-kept : (frame : Frame) (records new : Records) (lists : Lists) (by_height : List BoundedShelf) → walked_lists new ≡ lists → HoldsByHeight (with_records (atlas_of frame records) new) lists.entries by_height → AreByHeight frame new by_height

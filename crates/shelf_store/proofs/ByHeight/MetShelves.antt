@@ -9,6 +9,7 @@ use Rattle.shelf_heights.specs.Private.ByHeight.{newly_bounded}
 use Rattle.shelf_records.specs.Private.Kept.{AreKept}
 use Rattle.shelf_heights.specs.declared.by_height.BoundedShelf.{BoundedShelf}
 use Rattle.shelf_store.proofs.Searched.LinkedParts.{shelf-within, shelves-left}
+use Rattle.shelf_records.proofs.Spelled.StandsKept.{witnesses}
 
 -- the shelves of these numbers, new by height
 abbrev pub met_by_height : Frame → List ℕ → List BoundedShelf
@@ -17,7 +18,7 @@ met_by_height frame numbers = map (newly_bounded frame) numbers
 -- no more were met than there are shelf records
 pub met-few : (frame : Frame) (records : Records) (numbers : List ℕ) → AreKept frame records → numbers ≡ (shelf_walk records).met → length numbers ≤ length records.shelves
 met-few frame records numbers kept met =
-    omega (arith, ap (λ (ns : List ℕ). length ns) met, (shelves-left records kept.linked).enough)
+    omega (arith, ap (λ (ns : List ℕ). length ns) met, (shelves-left records (witnesses kept).linked).enough)
 
 -- each that was met stands among them
 met-stands : (numbers : List ℕ) (i : ℕ) → i < length numbers → 1 ≤ times (get_or numbers i 0) numbers
@@ -29,7 +30,7 @@ met-stands (n ∷ ns) (suc i) within = omega (arith, met-stands ns i (omega arit
 pub met-within : (frame : Frame) (records : Records) (numbers : List ℕ) (i : ℕ) → AreKept frame records → numbers ≡ (shelf_walk records).met
     → i < length numbers → get_or numbers i 0 < length records.shelves
 met-within frame records numbers i kept met within =
-    shelf-within records (get_or numbers i 0) kept.linked (subst (λ (ns : List ℕ). 1 ≤ times (get_or numbers i 0) ns) met (met-stands numbers i within))
+    shelf-within records (get_or numbers i 0) (witnesses kept).linked (subst (λ (ns : List ℕ). 1 ≤ times (get_or numbers i 0) ns) met (met-stands numbers i within))
 
 -- where those so far and those that are left are all, there are fewer so far if one is left
 pub met-fewer : (frame : Frame) (numbers : List ℕ) (i : ℕ) (by_height : List BoundedShelf) → i < length numbers → by_height ++ met_by_height frame (drop i numbers) ≡ met_by_height frame numbers → length by_height < length numbers

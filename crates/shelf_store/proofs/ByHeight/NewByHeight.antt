@@ -37,6 +37,7 @@ use Rattle.shelf_store.proofs.Spelled.FreshKept.{fresh-kept, fresh-met}
 use Rattle.shelf_store.proofs.Spelled.KeptCounts.{shelf_numbers-length}
 use Rattle.shelf_store.proofs.Spelled.NumberedLists.{numbered-at, numbered-each, numbered-field, numbered-length}
 use Rattle.shelf_records.proofs.Spelled.Witnesses.{Each-unmap}
+use Rattle.shelf_records.proofs.Spelled.StandsKept.{witnesses}
 
 -- items that are no wider altogether are no wider each
 widths-within : (width : ℕ) (items : List Item) → total_width items ≤ width → AllByRecursion (λ item. is_free item ≡ true → item.width ≤ width) items
@@ -52,7 +53,7 @@ column-bounds frame records by_height kept wide =
     (λ one width. Each-weaken (λ (entry : Entry). IsShelf frame (spelled_shelf (bare frame records) entry))
     (λ (entry : Entry). entry.number ≡ one.shelf → IsBound one.widest (spelled_shelf (bare frame records) entry)) entries
     (λ entry is _. widths-within one.widest (spelled_shelf (bare frame records) entry).items (omega (arith, is.width, width)))
-    (Each-unmap (IsShelf frame) (spelled_shelf (bare frame records)) entries kept.valid.shelves)) wide
+    (Each-unmap (IsShelf frame) (spelled_shelf (bare frame records)) entries (witnesses kept).valid.shelves)) wide
   where
     entries : List Entry
     entries = (walked_lists records).entries
@@ -154,7 +155,7 @@ ordered-by_height frame records by_height kept same sorted widths =
       once = λ shelf. same shelf ∙ ap (times shelf) (sym (walked-numbers records chain));
       rising = sorted-rise (order_of records.shelves) 0 (numbers_by_height by_height)
           (all_adjacent_from_non_decreasing (order_of records.shelves) (numbers_by_height by_height) sorted)
-          (λ k. omega (arith, same k, (shelves-part records kept.linked).once k)) apart low;
+          (λ k. omega (arith, same k, (shelves-part records (witnesses kept).linked).once k)) apart low;
       bounds = column-bounds frame records by_height kept
           (Each-unmap (λ width. width ≡ frame.column_width) (λ (one : BoundedShelf). one.widest) by_height widths);
     }
@@ -181,7 +182,7 @@ columns-by_height frame records by_height kept are =
     let entries : List Entry = (walked_lists records).entries in
     omega (
       arith,
-      columns-le-shelves (state_of frame records) kept.valid,
+      columns-le-shelves (state_of frame records) (witnesses kept).valid,
       length-map entries (spelled_shelf (bare frame records)),
       shelf_numbers-length entries,
       length-fewer (shelf_numbers entries) (numbers_by_height by_height) (λ k. omega (arith, are.once k)),

@@ -26,6 +26,7 @@ use Rattle.shelf_records.proofs.Recorded.RecordedAllocations.{spelled-column}
 use Rattle.shelf_store.proofs.Searched.FoundPlacements.{across-at}
 use Rattle.shelf_store.proofs.Searched.SearchedShelves.{IsSearched, kept-searched}
 use Rattle.shelf_records.proofs.Spelled.HeightsBefore.{height_before-append}
+use Rattle.shelf_records.proofs.Spelled.StandsKept.{witnesses}
 
 -- a shelf begins where its column does, and lies within sides that are short
 pub record LiesWithin (frame : Frame) (shelves : List LinkedShelf) (number : ℕ) : Type 0 where
@@ -53,10 +54,10 @@ lies-at frame records position number kept at =
     let across : across_of records.shelves number ≡ column_height shelf.column (take position (state_of frame records).shelves) = across-at frame records position number kept at in
     let upto : column_height shelf.column (take position (state_of frame records).shelves) + shelf.height ≤ column_height shelf.column (state_of frame records).shelves =
     column_height-upto position (state_of frame records).shelves shelf stands in
-    let full : column_height shelf.column (state_of frame records).shelves ≡ across_side frame = kept.valid.heights shelf.column searched.shelf.column in
-    let begins : shelf.column * frame.column_width ≡ along_of records.shelves number = spelled-column atlas (walked_entry records number) kept.valid.frame.column_width searched.placed.along in
-    let inside : shelf.column * frame.column_width + frame.column_width ≤ along_side frame = column-within frame shelf.column kept.valid.frame searched.shelf.column in
-    let short : (along_side frame ≤ 65535) × (across_side frame ≤ 65535) = sides_low 65535 frame kept.valid.frame in
+    let full : column_height shelf.column (state_of frame records).shelves ≡ across_side frame = (witnesses kept).valid.heights shelf.column searched.shelf.column in
+    let begins : shelf.column * frame.column_width ≡ along_of records.shelves number = spelled-column atlas (walked_entry records number) (witnesses kept).valid.frame.column_width searched.placed.along in
+    let inside : shelf.column * frame.column_width + frame.column_width ≤ along_side frame = column-within frame shelf.column (witnesses kept).valid.frame searched.shelf.column in
+    let short : (along_side frame ≤ 65535) × (across_side frame ≤ 65535) = sides_low 65535 frame (witnesses kept).valid.frame in
     let tall : 1 ≤ height_of records.shelves number = searched.shelf.height in
     record {
       column = begins;
@@ -125,8 +126,8 @@ module _ (frame : Frame) (records : Records) (wide : 1 ≤ frame.column_width) w
 -- along the chain of the shelves in use the places where they begin rise
 pub places-rise : (frame : Frame) (records : Records) → AreKept frame records → RiseFrom 0 (map (chain_order records.shelves) (shelf_walk records).met)
 places-rise frame records kept =
-    by_numbers (shelf_walk records).met (kept-within frame records kept) kept.valid.ordered
-    (subst (λ (ns : List ℕ). AreStacked records.shelves frame.column_width [] ns) (walked-numbers records (shelf_walk records).met) kept.stacked)
+    by_numbers (shelf_walk records).met (kept-within frame records kept) (witnesses kept).valid.ordered
+    (subst (λ (ns : List ℕ). AreStacked records.shelves frame.column_width [] ns) (walked-numbers records (shelf_walk records).met) (witnesses kept).stacked)
   where
     by_numbers : (numbers : List ℕ) → AllByRecursion (LiesWithin frame records.shelves) numbers
         → NoNeighbours is_out_of_order (map (spelled_shelf (atlas_of frame records)) (map (walked_entry records) numbers))
@@ -134,4 +135,4 @@ places-rise frame records kept =
         → RiseFrom 0 (map (chain_order records.shelves) numbers)
     by_numbers [] within ordered stacked = tt
     by_numbers (number ∷ numbers) within ordered stacked =
-        stacked-rise frame records kept.valid.frame.column_width [] 0 number numbers within ordered stacked (omega arith)
+        stacked-rise frame records (witnesses kept).valid.frame.column_width [] 0 number numbers within ordered stacked (omega arith)

@@ -16,6 +16,7 @@ use Rattle.shelf_links.proofs.MissingRecords.{missing-counted}
 use Rattle.shelf_records.proofs.Judged.EqualTimes.{length-fewer}
 use Rattle.shelf_store.proofs.Spelled.ItemLocated.{in-use-counted}
 use Rattle.shelf_store.proofs.Spelled.TakenReady.{each-length}
+use Rattle.shelf_records.proofs.Spelled.StandsKept.{witnesses}
 
 -- putting records to use makes as many shelf records as are missing
 used-count : (of_shelf of_item : Bool) (records : Records)
@@ -69,7 +70,7 @@ shelves-count frame records kept =
     let unused : List ℕ = (walked_lists records).unused_shelves in
     omega (
       arith,
-      each-length (length records.shelves) (numbers ++ unused ++ []) kept.linked.shelves_once,
+      each-length (length records.shelves) (numbers ++ unused ++ []) (witnesses kept).linked.shelves_once,
       length-append (numbers ++ unused) [],
       length-append numbers unused,
     )
@@ -82,7 +83,7 @@ by_height-spare frame records by_height kept are =
       arith,
       by_height-count frame records by_height are,
       shelves-count frame records kept,
-      missing-counted shelf_chain 1 records.unused_shelves records.shelves unused kept.linked.unused_shelves,
+      missing-counted shelf_chain 1 records.unused_shelves records.shelves unused (witnesses kept).linked.unused_shelves,
     )
 
 -- where records are missing and no shelf is split, all item records are in use
@@ -95,6 +96,6 @@ items-short frame records false true kept short none =
     omega (
       arith,
       short,
-      missing-counted item_chain 1 records.unused_items records.items unused kept.linked.unused_items,
-      in-use-counted (bare frame records) (walked_lists records) kept.linked,
+      missing-counted item_chain 1 records.unused_items records.items unused (witnesses kept).linked.unused_items,
+      in-use-counted (bare frame records) (walked_lists records) (witnesses kept).linked,
     )

@@ -12,7 +12,8 @@ use Rattle.shelf_records.specs.AtlasRecords.{is_allocated_at, is_empty_at, item_
 use Rattle.shelf_model.specs.Choice.{shelf_height}
 use Rattle.shelf_model.specs.Listing.{RiseFrom}
 use Rattle.shelf_heights.specs.Private.ByHeight.{AreBounds, AreByHeight, IsBound, order_of, numbers_by_height}
-use Rattle.shelf_records.specs.Private.Kept.{AreKept, HasFlag, IsPlaced, atlas_of, bare}
+use Rattle.shelf_records.specs.Private.Kept.{AreKept, atlas_of, bare}
+use Rattle.shelf_records.proofs.Spelled.Witnessed.{HasFlag, IsPlaced}
 use Rattle.shelf_store.specs.Private.Opening.{AreSearchable, AreWhole, IsSearchable}
 use Rattle.shelf_store.specs.Private.Searching.{best_candidate, chosen_at, first_by_height, placement_at}
 use Rattle.shelf_model.specs.State.{Item, is_free, is_one_free, total_width}
@@ -27,6 +28,7 @@ use Rattle.shelf_store.proofs.Searched.LinkedParts.{shelf-within}
 use Rattle.shelf_store.proofs.Searched.SearchSteps.{best-within}
 use Rattle.shelf_records.proofs.Spelled.SpelledPlaces.{free-spelled}
 use Rattle.shelf_records.proofs.Spelled.Witnesses.{Each-unmap}
+use Rattle.shelf_records.proofs.Spelled.StandsKept.{witnesses}
 
 -- a fact of each element is one of its image
 Each-map : {X Y : Type 0} (P : Y → Type 0) (f : X → Y) (xs : List X) → AllByRecursion (λ (x : X). P (f x)) xs → AllByRecursion P (map f xs)
@@ -89,7 +91,7 @@ module _ (frame : Frame) (records : Records) (kept : AreKept frame records) wher
   listed : (shelf : ℕ) → 1 ≤ times shelf in_use → (item : ℕ)
       → times item (walked_entry records shelf).free_list ≡ times item (filter (λ member. not (is_allocated_at records.items member)) (walked_entry records shelf).items)
   listed shelf stands item =
-      (Each-member (λ n. IsPlaced (atlas_of frame records) (walked_entry records n)) in_use shelf (Each-unmap (IsPlaced (atlas_of frame records)) (walked_entry records) in_use kept.placed) stands).free_list item
+      (Each-member (λ n. IsPlaced (atlas_of frame records) (walked_entry records n)) in_use shelf (Each-unmap (IsPlaced (atlas_of frame records)) (walked_entry records) in_use (witnesses kept).placed) stands).free_list item
 
   -- a shelf in use with a bound can be searched
   one-searchable : (one : BoundedShelf) → 1 ≤ times one.shelf in_use
@@ -102,7 +104,7 @@ module _ (frame : Frame) (records : Records) (kept : AreKept frame records) wher
       (Each-unmap (λ (entry : Entry). entry.number ≡ one.shelf → IsBound one.widest (spelled_shelf (bare frame records) entry)) (walked_entry records) in_use bounds) stands refl in
       record {
         stands = stands;
-        within = shelf-within records one.shelf kept.linked stands;
+        within = shelf-within records one.shelf (witnesses kept).linked stands;
         low = lies.low;
         place = omega (arith, lies.along, lies.across);
         bound = bound-listed records.items entry.items entry.free_list (listed one.shelf stands) one.widest bound;
@@ -125,17 +127,17 @@ module _ (frame : Frame) (records : Records) (kept : AreKept frame records) wher
       let entry : Entry = walked_entry records shelf in
       let own : List Item = map (item_at records.items) entry.items in
       let flag : is_empty_at records.shelves shelf ≡ is_one_free own =
-      Each-member (λ n. HasFlag (atlas_of frame records) (walked_entry records n)) in_use shelf (Each-unmap (HasFlag (atlas_of frame records)) (walked_entry records) in_use kept.flags) stands in
+      Each-member (λ n. HasFlag (atlas_of frame records) (walked_entry records n)) in_use shelf (Each-unmap (HasFlag (atlas_of frame records)) (walked_entry records) in_use (witnesses kept).flags) stands in
       let valid : IsShelf frame (spelled_shelf (bare frame records) entry) =
       Each-member (λ n. IsShelf frame (spelled_shelf (bare frame records) (walked_entry records n))) in_use shelf
       (Each-unmap (λ (e : Entry). IsShelf frame (spelled_shelf (bare frame records) e)) (walked_entry records) in_use
-      (Each-unmap (IsShelf frame) (spelled_shelf (bare frame records)) (map (walked_entry records) in_use) kept.valid.shelves)) stands in
+      (Each-unmap (IsShelf frame) (spelled_shelf (bare frame records)) (map (walked_entry records) in_use) (witnesses kept).valid.shelves)) stands in
       record {
         empty = λ is bound each.
             omega (arith, valid.width, one_free-bound own bound (sym flag ∙ is) (listed-bound records.items entry.items entry.free_list (listed shelf stands) bound each));
         other = λ is.
             Each-weaken (λ item. (item_at records.items item).width ≤ frame.column_width - 1) (λ item. (item_at records.items item).width < frame.column_width) entry.free_list
-            (λ item low. omega (arith, low, kept.valid.frame.column_width))
+            (λ item low. omega (arith, low, (witnesses kept).valid.frame.column_width))
             (bound-listed records.items entry.items entry.free_list (listed shelf stands) (frame.column_width - 1)
             (Each-weaken (λ (item : Item). is_free item ≡ true → item.width + 1 ≤ total_width own) (λ (item : Item). is_free item ≡ true → item.width ≤ frame.column_width - 1) own
             (λ item part free. omega (arith, part free, valid.width))
@@ -174,4 +176,4 @@ module _ (frame : Frame) (records : Records) (kept : AreKept frame records) wher
   pub found-within : (by_height : List BoundedShelf) (width height : ℕ) (candidate : Candidate) → AreByHeight frame records by_height
       → Some candidate ≡ first_by_height records width height (numbers_by_height by_height) → (candidate.shelf < length records.shelves) × (candidate.item < length records.items)
   found-within by_height width height candidate are is =
-      best-within records width height candidate kept.linked (best-by-height frame records by_height width height kept are ∙ sym is)
+      best-within records width height candidate (witnesses kept).linked (best-by-height frame records by_height width height kept are ∙ sym is)

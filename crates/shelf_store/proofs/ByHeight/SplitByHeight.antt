@@ -17,6 +17,7 @@ use Rattle.shelf_heights.specs.declared.by_height.BoundedShelf.{BoundedShelf}
 use Rattle.shelf_heights.proofs.ByHeight.Edited.{Each-put_in, Each-taken_out, bound_of-each, in_order-kept, in_order-put_in, in_order-taken_out, numbers-taken_out, by_height-in_order, bounded_as, times-put_in}
 use Rattle.shelf_store.proofs.ByHeight.NumberedBounds.{BoundsIn, IsBoundOf, bounds-none, bounds-numbered, bounds-split, numbered-bounds, by_height-other}
 use Rattle.shelf_store.proofs.ByHeight.SplitOrders.{orders-apart}
+use Rattle.shelf_records.proofs.Spelled.StandsKept.{witnesses}
 
 -- the numbers of the shelves in use of kept records stand once each, and are those of records
 pub record IsUsedOnce (records : Records) : Type 0 where
@@ -26,8 +27,8 @@ pub record IsUsedOnce (records : Records) : Type 0 where
 pub used-once : (frame : Frame) (records : Records) → AreKept frame records → IsUsedOnce records
 used-once frame records kept =
     record {
-      once = λ k. omega (arith, counts k, at_most (nat_lt k (length records.shelves)), kept.linked.shelves_once k);
-      within = λ k stands. below (nat_lt k (length records.shelves)) k (length records.shelves) refl (omega (arith, stands, counts k, kept.linked.shelves_once k));
+      once = λ k. omega (arith, counts k, at_most (nat_lt k (length records.shelves)), (witnesses kept).linked.shelves_once k);
+      within = λ k stands. below (nat_lt k (length records.shelves)) k (length records.shelves) refl (omega (arith, stands, counts k, (witnesses kept).linked.shelves_once k));
     }
   where
     counts : (k : ℕ) → times k (shelf_numbers (walked_lists records).entries ++ (walked_lists records).unused_shelves ++ [])

@@ -14,7 +14,8 @@ use Rattle.shelf_links.specs.RecordLists.{Records, first_item_of, item_walk, she
 use Rattle.shelf_links.specs.Records.{item_chain, shelf_chain}
 use Rattle.shelf_records.specs.AtlasRecords.{along_of, is_allocated_at, is_empty_at, item_at, spelled_shelf}
 use Rattle.shelf_model.specs.Growing.{ends_column, ends_free, filled_ends, grown_frame, records_needed}
-use Rattle.shelf_records.specs.Private.Kept.{AreKept, HasFlag, IsPlaced, atlas_of, bare, state_of}
+use Rattle.shelf_records.specs.Private.Kept.{AreKept, atlas_of, bare, state_of}
+use Rattle.shelf_records.proofs.Spelled.Witnessed.{HasFlag, IsPlaced}
 use Rattle.shelf_store.specs.Private.RecordsGrown.{allocated_ends, counted_from, ends_column_at, ends_free_at, filled_ends_of, is_filled_end, last_from, needed_of}
 use Rattle.shelf_model.specs.State.{Shelf, is_empty}
 use Rattle.shelf_store.proofs.Grown.GrowSteps.{counted-next, counted-none, last-next, last-none}
@@ -22,6 +23,7 @@ use Rattle.shelf_store.proofs.Searched.Following.{IsLeft}
 use Rattle.shelf_store.proofs.Searched.LinkedParts.{items-left, shelves-left}
 use Rattle.shelf_records.proofs.Spelled.SpelledPlaces.{free-spelled}
 use Rattle.shelf_records.proofs.Recorded.Members.{Each-times}
+use Rattle.shelf_records.proofs.Spelled.StandsKept.{witnesses}
 
 -- the last of these behind one, or that one
 abbrev pub last_of : ℕ → List ℕ → ℕ
@@ -140,13 +142,13 @@ pub record CountsEnds (frame : Frame) (records : Records) : Type 0 where
 pub ends-counted : (frame : Frame) (records : Records) → AreKept frame records → CountsEnds frame records
 ends-counted frame records kept =
     let numbers = (shelf_walk records).met in
-    let left = shelves-left records kept.linked in
+    let left = shelves-left records (witnesses kept).linked in
     let few : length numbers ≤ length records.shelves = omega (arith, left.enough) in
     let ends = Each-times (λ k. ends_free_at records k ≡ ends_free (shelf_at frame records k).items) numbers
-    (λ k stands. ends-spelled records k (item_walk records k).met (items-left records k kept.linked stands)) in
+    (λ k stands. ends-spelled records k (item_walk records k).met (items-left records k (witnesses kept).linked stands)) in
     record {
       ends = counted-ends frame records (length records.shelves) records.first_shelf numbers left.leads few ends;
-      filled = counted-filled frame records (length records.shelves) records.first_shelf numbers left.leads few (each-said numbers kept.placed kept.flags);
+      filled = counted-filled frame records (length records.shelves) records.first_shelf numbers left.leads few (each-said numbers (witnesses kept).placed (witnesses kept).flags);
     }
   where
     each-said : (numbers : List ℕ) → AllByRecursion (IsPlaced (atlas_of frame records)) (map (walked_entry records) numbers)

@@ -8,7 +8,8 @@ use Rattle.shelf_links.specs.RecordLists.{Entry, IsEntry, IsLinkedExcept, item_n
 use Rattle.shelf_links.proofs.AllLists.LinkedEdits.{same-numbers}
 use Rattle.shelf_links.proofs.AllLists.LinkedUnused.{lists_of}
 use Rattle.shelf_records.specs.AtlasRecords.{AtlasRecords, is_allocated_at, is_empty_at, spelled_shelf}
-use Rattle.shelf_records.specs.Private.Kept.{HasFlag, IsPlaced, bare}
+use Rattle.shelf_records.specs.Private.Kept.{bare}
+use Rattle.shelf_records.proofs.Spelled.Witnessed.{HasFlag, IsPlaced}
 use Rattle.shelf_store.specs.Private.RecordsGrown.{Growing}
 use Rattle.shelf_model.specs.State.{Shelf, is_empty}
 use Rattle.shelf_store.proofs.Grown.HalfGrown.{IsGrowing, shelves_spelled}

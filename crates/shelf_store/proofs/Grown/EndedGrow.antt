@@ -8,7 +8,8 @@ use Rattle.shelf_links.specs.RecordLists.{Entry, IsLinked, IsLinkedExcept, Lists
 use Rattle.shelf_links.proofs.AllLists.LinkedUnused.{lists_of}
 use Rattle.shelf_records.specs.AtlasRecords.{AtlasRecords, spelled_shelf}
 use Rattle.shelf_model.specs.Growing.{atlas_grown, grown_frame}
-use Rattle.shelf_records.specs.Private.Kept.{AreKept, HasFlag, IsPlaced, bare, state_of}
+use Rattle.shelf_records.specs.Private.Kept.{AreKept, bare, state_of}
+use Rattle.shelf_records.proofs.Spelled.Witnessed.{HasFlag, IsPlaced}
 use Rattle.shelf_store.specs.Private.RecordsGrown.{Growing}
 use Rattle.shelf_model.specs.Space.{space_in}
 use Rattle.shelf_model.specs.State.{AtlasState, Shelf, items_in_use}
@@ -19,6 +20,7 @@ use Rattle.shelf_store.proofs.Grown.MadeLinked.{numbers_from}
 use Rattle.shelf_store.proofs.Spelled.ItemLocated.{in-use-counted}
 use Rattle.shelf_store.proofs.Spelled.TakenKept.{records-count}
 use Rattle.shelf_records.proofs.Spelled.Witnesses.{kept-of}
+use Rattle.shelf_records.proofs.Spelled.StandsKept.{witnesses}
 
 -- no more than none are left
 none-left : (from unused : ℕ) → numbers_from from (0 - unused) ++ [] ≡ []
@@ -60,7 +62,7 @@ ended frame size records growing kept fits has =
           now) has.is.spelled.placed;
       flags = Each-weaken (HasFlag (bare grown new)) (HasFlag atlas) has.entries (λ entry flag. flag) has.is.flags;
       stacked = has.is.spelled.stacked;
-      valid = grown-valid (state_of frame records) size kept.valid fits;
+      valid = grown-valid (state_of frame records) size (witnesses kept).valid fits;
       unused = has.is.spelled.unused;
       space = refl;
     })

@@ -19,6 +19,7 @@ use Rattle.shelf_store.proofs.Grown.CountedRecords.{needed-counted}
 use Rattle.shelf_model.proofs.Grown.GrownFrames.{Fits, GrowsFrame, frame-grows, grow-fits, size-fits}
 use Rattle.shelf_model.proofs.Grown.GrownValid.{grown-allocated, grown-space, items-grown}
 use Rattle.shelf_store.proofs.Grown.HalfGrown.{GrowsKept, GrowsRecords}
+use Rattle.shelf_records.proofs.Spelled.StandsKept.{witnesses}
 
 -- no fault where the size has none and there are few items enough
 no-fault : (state : AtlasState) (size : Size) → size_fault state.frame size ≡ None → items_in_use state.shelves + records_needed state size ≤ 65535
@@ -85,7 +86,7 @@ grows-atlas grows-kept frame size records grown needed kept no_fault is_grown is
     whole =
         record {
           none = none;
-          is_frame = (frame-grows frame size kept.valid.frame fits.sizes).is_frame;
+          is_frame = (frame-grows frame size (witnesses kept).valid.frame fits.sizes).is_frame;
           needed_items = needed-counted frame size records kept;
           can = grows.can;
           kept = grows.kept;
@@ -93,9 +94,9 @@ grows-atlas grows-kept frame size records grown needed kept no_fault is_grown is
           counted = omega (
             arith,
             ap (λ (s : AtlasState). items_in_use s.shelves) grows.state,
-            items-grown state size kept.valid fits,
+            items-grown state size (witnesses kept).valid fits,
             needed-counted frame size records kept,
           );
-          space = ap allocated_space grows.state ∙ grown-space state size kept.valid fits;
-          allocated = ap allocations grows.state ∙ grown-allocated state size kept.valid fits;
+          space = ap allocated_space grows.state ∙ grown-space state size (witnesses kept).valid fits;
+          allocated = ap allocations grows.state ∙ grown-allocated state size (witnesses kept).valid fits;
         }

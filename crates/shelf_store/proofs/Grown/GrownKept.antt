@@ -30,6 +30,7 @@ use Rattle.shelf_store.proofs.Grown.HalfGrown.{Appends, GrowsKept, HasGrown, Hei
 use Rattle.shelf_store.proofs.Grown.StartedGrow.{started}
 use Rattle.shelf_model.proofs.Places.ColumnShelves.{columns-le-shelves}
 use Rattle.shelf_model.proofs.Places.Heights.{column_height-none}
+use Rattle.shelf_records.proofs.Spelled.StandsKept.{witnesses}
 
 -- a length that is more than another one
 gains : (a b : ℕ) → nat_lt a b ≡ true → (1 ≤ b - a) × ((b - a == 0) ≡ false)
@@ -103,7 +104,7 @@ module _ (frame : Frame) (size : Size) (records : Records) (kept : AreKept frame
 
   -- the frame grows
   grows : GrowsFrame frame size
-  grows = frame-grows frame size kept.valid.frame fits.sizes
+  grows = frame-grows frame size (witnesses kept).valid.frame fits.sizes
 
   -- what the growth needs is counted on the records
   counts : CountsEnds frame records
@@ -132,13 +133,13 @@ module _ (frame : Frame) (size : Size) (records : Records) (kept : AreKept frame
           wide needed.shelves needed.shelves
       by_test true e has =
           let more = gains frame.column_width grown.column_width e in
-          let one : frame.columns ≡ 1 = one_column state size kept.valid fits more.1 in
+          let one : frame.columns ≡ 1 = one_column state size (witnesses kept).valid fits more.1 in
           let done =
-          widens frame grown old at_start state.shelves width needed.shelves needed.shelves more.0 kept.valid.frame.column_width grows.column_width low.0
+          widens frame grown old at_start state.shelves width needed.shelves needed.shelves more.0 (witnesses kept).valid.frame.column_width grows.column_width low.0
           (Each-weaken (λ (s : Shelf). s.column < frame.columns) (λ (s : Shelf). s.column ≡ 0) state.shelves
-          (λ (s : Shelf) (h : s.column < frame.columns). omega (arith, h, one)) (below state size kept.valid fits))
+          (λ (s : Shelf) (h : s.column < frame.columns). omega (arith, h, one)) (below state size (witnesses kept).valid fits))
           (Each-weaken (IsShelf frame) (λ (s : Shelf). total_width s.items ≡ frame.column_width) state.shelves
-          (λ (s : Shelf) (h : IsShelf frame s). h.width) kept.valid.shelves)
+          (λ (s : Shelf) (h : IsShelf frame s). h.width) (witnesses kept).valid.shelves)
           has in
           (λ _. done.0, grown-as done.1 (sym (cond-false (width == 0) state.shelves (map (wider_shelf frame width) state.shelves) more.1)) refl refl)
       by_test false e has =
@@ -152,14 +153,14 @@ module _ (frame : Frame) (size : Size) (records : Records) (kept : AreKept frame
   heights-low column =
       ⊎_elim
       (λ (within : column < frame.columns).
-      omega (arith, wide-heights state size kept.valid fits column, kept.valid.heights column within, grows.across, low.1))
+      omega (arith, wide-heights state size (witnesses kept).valid fits column, (witnesses kept).valid.heights column within, grows.across, low.1))
       (λ (beyond : frame.columns ≤ column).
       omega (
         arith,
-        wide-heights state size kept.valid fits column,
+        wide-heights state size (witnesses kept).valid fits column,
         column_height-none column state.shelves
             (Each-weaken (λ (s : Shelf). s.column < frame.columns) (λ (s : Shelf). s.column ≢ column) state.shelves
-            (λ (s : Shelf) (h : s.column < frame.columns) (e : s.column ≡ column). omega (arith, beyond, h, e)) (below state size kept.valid fits)),
+            (λ (s : Shelf) (h : s.column < frame.columns) (e : s.column ≡ column). omega (arith, beyond, h, e)) (below state size (witnesses kept).valid fits)),
         grows.across,
         low.1,
       ))
@@ -174,7 +175,7 @@ module _ (frame : Frame) (size : Size) (records : Records) (kept : AreKept frame
       by_test (nat_lt (across_side frame) (across_side grown)) refl
       (subst
       (λ (n : ℕ). HasGrown grown old at_width wide (cond (nat_lt (across_side frame) (across_side grown)) n 0 + columns) (cond (nat_lt (across_side frame) (across_side grown)) n 0 + columns))
-      (counts.filled ∙ sym (wide-filled state size kept.valid fits)) start)
+      (counts.filled ∙ sym (wide-filled state size (witnesses kept).valid fits)) start)
     where
       by_test : (b : Bool) → nat_lt (across_side frame) (across_side grown) ≡ b
           → HasGrown grown old at_width wide (cond b (filled_ends wide) 0 + columns) (cond b (filled_ends wide) 0 + columns)
@@ -185,7 +186,7 @@ module _ (frame : Frame) (size : Size) (records : Records) (kept : AreKept frame
       by_test true e has =
           let more = gains (across_side frame) (across_side grown) e in
           let done =
-          heightens grown old at_width wide height columns columns more.0 grows.is_frame.column_width heights-low (wide-ordered state size kept.valid fits) has in
+          heightens grown old at_width wide height columns columns more.0 grows.is_frame.column_width heights-low (wide-ordered state size (witnesses kept).valid fits) has in
           (λ _. done.0, grown-as done.1 (sym (cond-false (height == 0) wide (taller_ends grown height wide) more.1)) refl refl)
       by_test false e has =
           let none = gains-none (across_side frame) (across_side grown) e in
@@ -196,16 +197,16 @@ module _ (frame : Frame) (size : Size) (records : Records) (kept : AreKept frame
   tall-below = by_test (height == 0)
     where
       by_test : (b : Bool) → AllByRecursion (λ (s : Shelf). s.column < frame.columns) (cond b wide (taller_ends grown height wide))
-      by_test true = wide-below state size kept.valid fits
-      by_test false = below-taller_ends grown height frame.columns wide (wide-below state size kept.valid fits)
+      by_test true = wide-below state size (witnesses kept).valid fits
+      by_test false = below-taller_ends grown height frame.columns wide (wide-below state size (witnesses kept).valid fits)
 
   -- there are some
   tall-some : 1 ≤ length tall
   tall-some = by_height (height == 0)
     where
       by_width : (b : Bool) → 1 ≤ length (cond b state.shelves (map (wider_shelf frame width) state.shelves))
-      by_width true = omega (arith, columns-le-shelves state kept.valid, kept.valid.frame.columns.0)
-      by_width false = omega (arith, length-map state.shelves (wider_shelf frame width), columns-le-shelves state kept.valid, kept.valid.frame.columns.0)
+      by_width true = omega (arith, columns-le-shelves state (witnesses kept).valid, (witnesses kept).valid.frame.columns.0)
+      by_width false = omega (arith, length-map state.shelves (wider_shelf frame width), columns-le-shelves state (witnesses kept).valid, (witnesses kept).valid.frame.columns.0)
 
       by_height : (b : Bool) → 1 ≤ length (cond b wide (taller_ends grown height wide))
       by_height true = by_width (width == 0)
@@ -240,5 +241,5 @@ grows-kept widens heightens appends frame size records kept no_fault =
     let all = appended-all frame size records kept fits appends tall.1 in
     let done =
     ended frame size records (records_grown frame (grown_frame frame size) (needed_of frame (grown_frame frame size) records) records) kept fits
-    (grown-as all.1 (sym (grown-shelves state size kept.valid fits)) refl refl) in
+    (grown-as all.1 (sym (grown-shelves state size (witnesses kept).valid fits)) refl refl) in
     record { can = record { width = wide.0; height = tall.0; columns = all.0 }; kept = done.1; state = done.0 }

@@ -12,7 +12,8 @@ use Rattle.shelf_records.specs.AtlasRecords.{along_of, spelled_shelf}
 use Rattle.shelf_model.specs.Fresh.{empty_columns}
 use Rattle.shelf_model.specs.Growing.{atlas_grown, ends_free, filled_ends, grow_fault, grown_frame}
 use Rattle.shelf_model.specs.Places.{column_height}
-use Rattle.shelf_records.specs.Private.Kept.{AreKept, HasFlag, bare, state_of}
+use Rattle.shelf_records.specs.Private.Kept.{AreKept, bare, state_of}
+use Rattle.shelf_records.proofs.Spelled.Witnessed.{HasFlag}
 use Rattle.shelf_store.specs.Private.RecordsGrown.{CanAppend, CanGrow, CanHeightenAll, CanInsert, CanWidenAll, Growing, after_item, columns_added, columns_heightened, last_shelf, needed_of, next_shelf, records_grown, shelf_inserted, shelves_widened}
 use Rattle.shelf_records.specs.StandsFor.{HasCounts, height_before}
 use Rattle.shelf_model.specs.State.{Shelf, empty_shelf, total_width}

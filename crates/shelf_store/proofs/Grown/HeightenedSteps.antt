@@ -20,7 +20,8 @@ use Rattle.shelf_records.specs.AtlasRecords.{across_of, along_of, height_of, is_
 use Rattle.shelf_model.specs.Growing.{ends_column, filled_ends}
 use Rattle.shelf_model.specs.Merging.{combined_shelves}
 use Rattle.shelf_model.specs.Places.{column_height}
-use Rattle.shelf_records.specs.Private.Kept.{HasFlag, IsPlaced, bare}
+use Rattle.shelf_records.specs.Private.Kept.{bare}
+use Rattle.shelf_records.proofs.Spelled.Witnessed.{HasFlag, IsPlaced}
 use Rattle.shelf_store.specs.Private.RecordsGrown.{CanHeighten, Growing, after_item, end_heightened, ends_column_at, next_shelf, shelf_inserted}
 use Rattle.shelf_records.specs.StandsFor.{AreStacked, height_before}
 use Rattle.shelf_model.specs.State.{Shelf, empty_shelf, is_empty}

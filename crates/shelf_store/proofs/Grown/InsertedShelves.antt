@@ -25,7 +25,8 @@ use Rattle.shelf_links.proofs.AllLists.LinkedUses.{but_first}
 use Rattle.etagere_links.proofs.RecordChanges.{get-changed_by-other, length-changed_by, link_at-changed}
 use Rattle.etagere_links.proofs.RecordFrames.{map-linked_between}
 use Rattle.shelf_records.specs.AtlasRecords.{across_of, along_of, height_of, is_allocated_at, is_empty_at, item_at, item_place_of, shelf_of, spelled_item, spelled_shelf}
-use Rattle.shelf_records.specs.Private.Kept.{HasFlag, IsPlaced, bare}
+use Rattle.shelf_records.specs.Private.Kept.{bare}
+use Rattle.shelf_records.proofs.Spelled.Witnessed.{HasFlag, IsPlaced}
 use Rattle.shelf_store.specs.Private.RecordsGrown.{CanInsert, Growing, after_item, after_shelf, empty_shelf_record, made_after_shelf, next_item, next_shelf}
 use Rattle.shelf_records.specs.StandsFor.{AreStacked, height_before}
 use Rattle.shelf_model.specs.State.{Item, empty_shelf, is_empty}

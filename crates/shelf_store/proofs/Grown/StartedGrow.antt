@@ -19,7 +19,8 @@ use Rattle.shelf_links.proofs.AllLists.LinkedUnused.{lists_of}
 use Rattle.shelf_store.specs.declared.growing.Needed.{Needed}
 use Rattle.shelf_records.specs.AtlasRecords.{along_of, height_of, item_at, item_place_of, spelled_item, spelled_shelf}
 use Rattle.shelf_model.specs.Growing.{grow_fault, grown_column_width, grown_frame}
-use Rattle.shelf_records.specs.Private.Kept.{AreKept, HasFlag, IsPlaced, atlas_of, bare, state_of}
+use Rattle.shelf_records.specs.Private.Kept.{AreKept, atlas_of, bare, state_of}
+use Rattle.shelf_records.proofs.Spelled.Witnessed.{HasFlag, IsPlaced}
 use Rattle.shelf_store.specs.Private.RecordsGrown.{needed_of, with_missing}
 use Rattle.shelf_records.specs.StandsFor.{AreStacked, HasCounts, height_before}
 use Rattle.shelf_model.specs.State.{Shelf, items_in_use}
@@ -36,6 +37,7 @@ use Rattle.shelf_store.proofs.Spelled.StackedEdits.{stacked-same}
 use Rattle.shelf_store.proofs.Spelled.SpelledMerges.{unmarked-same}
 use Rattle.shelf_store.proofs.Spelled.SpelledUses.{SameEntries, field_at-made, same-entries, same-shelf, shelves-used}
 use Rattle.shelf_store.proofs.Spelled.TakenReady.{each-length, shelves-few}
+use Rattle.shelf_records.proofs.Spelled.StandsKept.{witnesses}
 
 module _ (frame grown : Frame) (records : Records) where
   -- a shelf stands in the same column of both frames
@@ -149,11 +151,11 @@ module _ (frame : Frame) (size : Size) (records : Records) (kept : AreKept frame
 
   -- so the frame grows
   grows : GrowsFrame frame size
-  grows = frame-grows frame size kept.valid.frame fits.sizes
+  grows = frame-grows frame size (witnesses kept).valid.frame fits.sizes
 
   -- each shelf stands in the same column
   alike : AllByRecursion (StandsAlike frame grown records) (shelf_numbers entries)
-  alike = each-alike entries kept.placed kept.valid.shelves
+  alike = each-alike entries (witnesses kept).placed (witnesses kept).valid.shelves
     where
       each-alike : (entries : List Entry) → AllByRecursion (IsPlaced (atlas_of frame records)) entries → AllByRecursion (IsShelf frame) (map (spelled_shelf (bare frame records)) entries)
           → AllByRecursion (StandsAlike frame grown records) (shelf_numbers entries)
@@ -164,11 +166,11 @@ module _ (frame : Frame) (size : Size) (records : Records) (kept : AreKept frame
 
   -- so many items are missing
   missing-items : missing item_chain needed.items records.unused_items records.items ≡ needed.items - length unused_items
-  missing-items = missing-counted item_chain needed.items records.unused_items records.items unused_items kept.linked.unused_items
+  missing-items = missing-counted item_chain needed.items records.unused_items records.items unused_items (witnesses kept).linked.unused_items
 
   -- and so many shelves
   missing-shelves : missing shelf_chain needed.shelves records.unused_shelves records.shelves ≡ needed.shelves - length unused_shelves
-  missing-shelves = missing-counted shelf_chain needed.shelves records.unused_shelves records.shelves unused_shelves kept.linked.unused_shelves
+  missing-shelves = missing-counted shelf_chain needed.shelves records.unused_shelves records.shelves unused_shelves (witnesses kept).linked.unused_shelves
 
   -- there are so many items then
   count-items : length new.items ≡ length records.items + (needed.items - length unused_items)
@@ -188,26 +190,26 @@ module _ (frame : Frame) (size : Size) (records : Records) (kept : AreKept frame
   counts : HasCounts (bare grown new)
   counts =
       let used : items_in_use (state_of frame records).shelves + length unused_items ≡ length records.items =
-      in-use-counted (bare frame records) (walked_lists records) kept.linked in
+      in-use-counted (bare frame records) (walked_lists records) (witnesses kept).linked in
       let used_shelves : length (shelf_numbers entries) + length unused_shelves ≡ length records.shelves =
       omega (
         arith,
-        each-length (length records.shelves) (shelf_numbers entries ++ unused_shelves ++ []) kept.linked.shelves_once,
+        each-length (length records.shelves) (shelf_numbers entries ++ unused_shelves ++ []) (witnesses kept).linked.shelves_once,
         length-append (shelf_numbers entries ++ unused_shelves) [],
         length-append (shelf_numbers entries) unused_shelves,
       ) in
       let few : length (shelf_numbers entries) ≤ items_in_use (state_of frame records).shelves =
-      shelves-few (bare frame records) entries kept.valid.frame.column_width kept.valid.shelves in
+      shelves-few (bare frame records) entries (witnesses kept).valid.frame.column_width (witnesses kept).valid.shelves in
       let room : items_in_use (state_of frame records).shelves + needed.items ≤ 65535 =
       omega (arith, fits.records, needed-counted frame size records kept) in
       record {
         shelves = (
-          omega (arith, count-shelves, kept.counts.shelves.0),
-          omega (arith, count-shelves, kept.counts.shelves.1, used_shelves, few, room, few-shelves),
+          omega (arith, count-shelves, (witnesses kept).counts.shelves.0),
+          omega (arith, count-shelves, (witnesses kept).counts.shelves.1, used_shelves, few, room, few-shelves),
         );
         items = (
-          omega (arith, count-items, kept.counts.items.0),
-          omega (arith, count-items, kept.counts.items.1, used, room),
+          omega (arith, count-items, (witnesses kept).counts.items.0),
+          omega (arith, count-items, (witnesses kept).counts.items.1, used, room),
         );
       }
 
@@ -221,7 +223,7 @@ module _ (frame : Frame) (size : Size) (records : Records) (kept : AreKept frame
 
   -- so that all shelves in use are as they were
   same : SameEntries (bare grown records) new entries
-  same = same-entries (bare grown records) new entries (λ k stands. same_shelf k) (λ k stands. same_item k) kept.linked.entries
+  same = same-entries (bare grown records) new entries (λ k stands. same_shelf k) (λ k stands. same_item k) (witnesses kept).linked.entries
 
   -- the records spell the same lists in the grown frame, but for those that were made
   spelled-made : IsSpelledBut (bare grown new) (lists_of entries unused_items unused_shelves)
@@ -229,11 +231,11 @@ module _ (frame : Frame) (size : Size) (records : Records) (kept : AreKept frame
       (numbers_from (length records.shelves) (missing shelf_chain needed.shelves records.unused_shelves records.shelves) ++ [])
   spelled-made =
       record {
-        linked = records-made (missing item_chain needed.items records.unused_items records.items) (missing shelf_chain needed.shelves records.unused_shelves records.shelves) kept.linked;
-        placed = same.placed (placed-alike frame grown records entries alike kept.placed);
+        linked = records-made (missing item_chain needed.items records.unused_items records.items) (missing shelf_chain needed.shelves records.unused_shelves records.shelves) (witnesses kept).linked;
+        placed = same.placed (placed-alike frame grown records entries alike (witnesses kept).placed);
         stacked = stacked-same records.shelves new.shelves grown.column_width same_shelf (shelf_numbers entries)
-            (stacked-alike frame grown records [] (shelf_numbers entries) tt alike kept.stacked);
-        unused = unmarked-same records.items new.items unused_items (λ k stands. same_item k) kept.unused;
+            (stacked-alike frame grown records [] (shelf_numbers entries) tt alike (witnesses kept).stacked);
+        unused = unmarked-same records.items new.items unused_items (λ k stands. same_item k) (witnesses kept).unused;
       }
 
   -- those are as many as are missing
@@ -258,7 +260,7 @@ module _ (frame : Frame) (size : Size) (records : Records) (kept : AreKept frame
         is =
             record {
               spelled = spelled-missing;
-              flags = same.flags (Each-weaken (HasFlag (atlas_of frame records)) (HasFlag (bare grown records)) entries (λ entry flag. flag) kept.flags);
+              flags = same.flags (Each-weaken (HasFlag (atlas_of frame records)) (HasFlag (bare grown records)) entries (λ entry flag. flag) (witnesses kept).flags);
               counts = counts;
               more = omega (arith, count-items);
               used_up = λ longer. omega (arith, count-items, longer);

@@ -14,7 +14,8 @@ use Rattle.etagere_links.proofs.FieldChanges.{field_at-changed, field_at-kept}
 use Rattle.etagere_links.proofs.RecordChanges.{length-changed_by}
 use Rattle.shelf_records.specs.AtlasRecords.{AtlasRecords, across_of, along_of, height_of, spelled_shelf}
 use Rattle.shelf_model.specs.Merging.{combined_shelves}
-use Rattle.shelf_records.specs.Private.Kept.{HasFlag, bare}
+use Rattle.shelf_records.specs.Private.Kept.{bare}
+use Rattle.shelf_records.proofs.Spelled.Witnessed.{HasFlag}
 use Rattle.shelf_store.specs.Private.RecordsGrown.{Growing}
 use Rattle.shelf_records.specs.StandsFor.{AreStacked, height_before}
 use Rattle.shelf_model.proofs.Grown.GrownShelves.{end_shelf}

@@ -22,7 +22,8 @@ use Rattle.etagere_links.proofs.RecordChanges.{length-changed_by}
 use Rattle.shelf_records.specs.AtlasRecords.{AtlasRecords, along_of, height_of, is_allocated_at, item_at, item_place_of, spelled_shelf, width_of}
 use Rattle.shelf_model.specs.Growing.{ends_free}
 use Rattle.shelf_model.specs.Places.{column_place}
-use Rattle.shelf_records.specs.Private.Kept.{IsPlaced, bare}
+use Rattle.shelf_records.specs.Private.Kept.{bare}
+use Rattle.shelf_records.proofs.Spelled.Witnessed.{IsPlaced}
 use Rattle.shelf_store.specs.Private.RecordsGrown.{Growing, after_item, end_inserted, next_item}
 use Rattle.shelf_model.specs.State.{Shelf}
 use Rattle.shelf_store.proofs.Grown.EditedShelf.{EditsShelf}

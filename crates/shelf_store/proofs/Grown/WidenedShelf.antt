@@ -13,7 +13,8 @@ use Rattle.shelf_links.specs.RecordLists.{Entry, IsEntry, Records, first_item_of
 use Rattle.etagere_links.proofs.Tallies.{length-once}
 use Rattle.shelf_records.specs.AtlasRecords.{along_of, is_allocated_at, item_at, spelled_shelf, width_of}
 use Rattle.shelf_model.specs.Growing.{ends_free}
-use Rattle.shelf_records.specs.Private.Kept.{IsPlaced, bare}
+use Rattle.shelf_records.specs.Private.Kept.{bare}
+use Rattle.shelf_records.proofs.Spelled.Witnessed.{IsPlaced}
 use Rattle.shelf_store.specs.Private.RecordsGrown.{CanWiden, Growing, last_item, next_item, shelf_widened}
 use Rattle.shelf_model.specs.State.{total_width}
 use Rattle.shelf_store.proofs.Grown.CountedRecords.{last-leads, last_of}

@@ -15,12 +15,14 @@ use Rattle.shelf_links.proofs.AllLists.LinkedFrames.{shelf_numbers-append}
 use Rattle.shelf_records.specs.AtlasRecords.{AtlasRecords, across_of, along_of, height_of, is_allocated_at, item_at, item_place_of, spelled_shelf}
 use Rattle.shelf_model.specs.Places.{column_height}
 use Rattle.shelf_store.specs.Private.DrawnRecords.{item_line, recorded_lines, shelf_lines}
-use Rattle.shelf_records.specs.Private.Kept.{AreKept, IsPlaced, atlas_of, state_of}
+use Rattle.shelf_records.specs.Private.Kept.{AreKept, atlas_of, state_of}
+use Rattle.shelf_records.proofs.Spelled.Witnessed.{IsPlaced}
 use Rattle.shelf_records.specs.StandsFor.{AreStacked, LieFrom}
 use Rattle.shelf_model.specs.State.{Shelf}
 use Rattle.shelf_model.specs.Svg.{colour_of, drawn_after, drawn_along, drawn_items}
 use Rattle.shelf_records.proofs.Recorded.RecordedAllocations.{spelled-column, spelled-height}
 use Rattle.shelf_records.proofs.Spelled.SpelledPlaces.{free-spelled}
+use Rattle.shelf_records.proofs.Spelled.StandsKept.{witnesses}
 
 -- the colour of an item, as its record says
 colour-spelled : (items : List LinkedItem) (number : ℕ) → (if is_allocated_at items number then Allocated else Free) ≡ colour_of (item_at items number)
@@ -86,5 +88,5 @@ walked-lines frame records (n ∷ ns) = ap (λ l. shelf_lines frame records n ++
 -- the lines of every item, as records say
 pub kept-lines : (frame : Frame) (records : Records) → AreKept frame records → recorded_lines frame records ≡ drawn_lines (drawn_items (state_of frame records))
 kept-lines frame records kept =
-    sym (after-lines (atlas_of frame records) [] (walked_lists records).entries kept.valid.frame.column_width kept.placed kept.stacked
+    sym (after-lines (atlas_of frame records) [] (walked_lists records).entries (witnesses kept).valid.frame.column_width (witnesses kept).placed (witnesses kept).stacked
     ∙ walked-lines frame records (shelf_walk records).met)

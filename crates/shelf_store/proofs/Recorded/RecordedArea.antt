@@ -21,6 +21,7 @@ use Rattle.shelf_model.proofs.Allocations.AllocatedItems.{item_of_owner}
 use Rattle.shelf_model.proofs.Allocations.AllocatedRectangles.{rectangle_of-allocated}
 use Rattle.shelf_records.proofs.Recorded.RecordsOfIds.{kept-allocated, kept-rectangle}
 use Rattle.shelf_model.proofs.Returned.ReturnedSpace.{space-returned}
+use Rattle.shelf_records.proofs.Spelled.StandsKept.{witnesses}
 
 -- the point at two places
 abbrev point : Bool → ℕ → ℕ → Point
@@ -76,7 +77,7 @@ place-area frame records id number n kept named found =
     let area : width_of shelf.items item.number * shelf.height ≡ recorded_area records number =
     one-area frame (place_at (column_place frame shelf) shelf.items item.number) across (width_of shelf.items item.number) shelf.height
     (item_place_of records.items number) (across_of records.shelves (shelf_of records.items number)) (item_at records.items number).width (height_of records.shelves (shelf_of records.items number)) same in
-    ap (λ (k : ℕ). allocated_space (returned state id) + k) (sym area) ∙ space-returned state id n item.number shelf kept.valid found s.at.get item.found
+    ap (λ (k : ℕ). allocated_space (returned state id) + k) (sym area) ∙ space-returned state id n item.number shelf (witnesses kept).valid found s.at.get item.found
 
 -- where an id names a record, that record's area is what a return takes
 pub kept-area : (frame : Frame) (records : Records) (id number : ℕ) → AreKept frame records → record_of records.items id ≡ Some number

@@ -21,6 +21,7 @@ use Rattle.shelf_model.specs.Returning.{has_id}
 use Rattle.shelf_records.proofs.Recorded.Members.{Each-member}
 use Rattle.shelf_records.proofs.Recorded.RecordsOfIds.{kept-allocations, kept-within, numbered}
 use Rattle.shelf_store.proofs.Spelled.ItemReturned.{allocated-id}
+use Rattle.shelf_records.proofs.Spelled.StandsKept.{witnesses}
 
 -- an item that is not marked allocated has no id
 unmarked-free : (items : List LinkedItem) (label k : ℕ) → is_allocated_at items k ≡ false → (field_at (spelled_item label) (record { width = 0; id = None }) items k).id ≡ None
@@ -183,17 +184,17 @@ kept-at : (frame : Frame) (records : Records) (number : ℕ) → AreKept frame r
 kept-at frame records number kept within =
     let numbers : List ℕ = item_numbers (walked_lists records).entries in
     let unused : List ℕ = (walked_lists records).unused_items in
-    let all : times number numbers + times number unused ≡ 1 = grind (arith, kept.linked.items_once number, three-count numbers unused [] number) in
+    let all : times number numbers + times number unused ≡ 1 = grind (arith, (witnesses kept).linked.items_once number, three-count numbers unused [] number) in
     ap (filter (λ a. a.id % 65536 == number)) (kept-allocations frame records kept)
-    ∙ numbered-among frame records number numbers (λ k stands. omega (arith, kept-within frame records k kept stands, kept.counts.items.1)) (omega (arith, all))
+    ∙ numbered-among frame records number numbers (λ k stands. omega (arith, kept-within frame records k kept stands, (witnesses kept).counts.items.1)) (omega (arith, all))
     ∙ by_count (times number numbers) refl
   where
     by_count : (n : ℕ) → times number (item_numbers (walked_lists records).entries) ≡ n → cond (n == 0) [] (recorded_allocation frame records number) ≡ recorded_allocation frame records number
     by_count zero e =
         let all : times number (item_numbers (walked_lists records).entries) + times number (walked_lists records).unused_items ≡ 1 =
-        grind (arith, kept.linked.items_once number, three-count (item_numbers (walked_lists records).entries) (walked_lists records).unused_items [] number) in
+        grind (arith, (witnesses kept).linked.items_once number, three-count (item_numbers (walked_lists records).entries) (walked_lists records).unused_items [] number) in
         let free : is_allocated_at records.items number ≡ false =
-        Each-member (λ item. is_allocated_at records.items item ≡ false) (walked_lists records).unused_items number kept.unused (omega (arith, all, e)) in
+        Each-member (λ item. is_allocated_at records.items item ≡ false) (walked_lists records).unused_items number (witnesses kept).unused (omega (arith, all, e)) in
         sym (unmarked-none frame records number free)
     by_count (suc n) e =
         let some : (suc n == 0) ≡ false = grind arith in

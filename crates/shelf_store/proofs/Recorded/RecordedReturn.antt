@@ -23,6 +23,7 @@ use Rattle.shelf_records.proofs.Recorded.RecordsOfIds.{marked-within, record-mar
 use Rattle.shelf_model.proofs.Returned.ReturnedAllocated.{returned-allocated}
 use Rattle.shelf_store.proofs.Spelled.EntryValues.{id_at}
 use Rattle.shelf_store.proofs.Spelled.ItemReturned.{ReturnsItem, allocated-id, returns-item}
+use Rattle.shelf_records.proofs.Spelled.StandsKept.{witnesses}
 
 -- what holds after the item of an id was returned, of the records, of how many became unused, and of its area
 pub record AfterReturn (frame : Frame) (records : Records) (id : ℕ) (new : Records) (made_unused area : ℕ) : Type 0 where
@@ -57,8 +58,8 @@ item_returned-after frame records id number kept named =
       state = state;
       counted = returns.counted;
       space = ap (λ (s : AtlasState). allocated_space s + recorded_area records number) state ∙ kept-area frame records id number kept named;
-      allocated = ap allocations state ∙ returned-allocated (state_of frame records) id kept.valid;
-      promises_after = promises (state_of frame (item_returned number records)) returns.kept.valid;
+      allocated = ap allocations state ∙ returned-allocated (state_of frame records) id (witnesses kept).valid;
+      promises_after = promises (state_of frame (item_returned number records)) (witnesses returns.kept).valid;
     }
 
 -- what holds after a return, from what its steps answer
@@ -82,4 +83,4 @@ pub can-return : (frame : Frame) (records : Records) (by_height : List BoundedSh
 can-return frame records by_height id number kept are named =
     let marked : is_allocated_at records.items number ≡ true = (record-marked records.items id number named).0 in
     let returns : ReturnsItem frame records number = returns-item frame records number kept marked in
-    (omega (arith, marked-within records.items number marked, kept.counts.items.1), returns.can, returns.can_by_height by_height are)
+    (omega (arith, marked-within records.items number marked, (witnesses kept).counts.items.1), returns.can, returns.can_by_height by_height are)

@@ -22,6 +22,7 @@ use Rattle.shelf_model.proofs.Taken.PlacedWithin.{placed-within}
 use Rattle.shelf_model.proofs.Taken.Allocated.{Allocated, taken-allocated}
 use Rattle.shelf_model.proofs.Taken.TakenSpace.{space-taken}
 use Rattle.shelf_model.proofs.Taken.TakenValid.{taken-items_in_use}
+use Rattle.shelf_records.proofs.Spelled.StandsKept.{witnesses}
 
 -- what was found in records has the rectangle, the area and the splits of the placement that it stands for
 pub record AsPlaced (frame : Frame) (found placement : Placement) : Type 0 where
@@ -36,7 +37,7 @@ pub found-as_placed : (frame : Frame) (records : Records) (size : Size) (found :
 found-as_placed frame records size found kept finds =
     let placement : Placement = finds.placement in
     let same : found ≡ record placement { shelf = found.shelf; item = found.item } = finds.located.same in
-    let ends = placed-within (state_of frame records) size placement kept.valid finds.placed in
+    let ends = placed-within (state_of frame records) size placement (witnesses kept).valid finds.placed in
     record {
       rectangle = ap (rectangle_of_placement frame) same;
       area = ap area same;
@@ -71,14 +72,14 @@ placement_taken-after frame records size found kept finds =
     let made : KeepsTaken frame records placement found = placement-kept frame records size placement found kept finds.placed finds.located in
     let as_placed = found-as_placed frame records size found kept finds in
     let allocated : Allocated state size (record { id = id; rectangle = rectangle_of_placement frame placement }) (taken state placement id) =
-    taken-allocated state size placement id kept.valid finds.placed made.fresh made.below in
+    taken-allocated state size placement id (witnesses kept).valid finds.placed made.fresh made.below in
     record {
       kept = made.kept;
       allocated = subst (λ (r : Rectangle). Allocated state size (record { id = id; rectangle = r }) (state_of frame (placement_taken frame.column_width found records))) (sym as_placed.rectangle)
           (subst (Allocated state size (record { id = id; rectangle = rectangle_of_placement frame placement })) (sym made.state) allocated);
-      counted = ap (λ (s : AtlasState). items_in_use s.shelves) made.state ∙ taken-items_in_use state size placement id kept.valid finds.placed ∙ ap (λ (k : ℕ). items_in_use state.shelves + k) (sym as_placed.splits);
-      space = ap allocated_space made.state ∙ space-taken state size placement id kept.valid finds.placed ∙ ap (λ (k : ℕ). allocated_space state + k) (sym as_placed.area);
-      small = subst (λ (k : ℕ). allocated_space state + k < 2 ^ 31) (sym as_placed.area) (space-taken-small state size placement id kept.valid finds.placed);
+      counted = ap (λ (s : AtlasState). items_in_use s.shelves) made.state ∙ taken-items_in_use state size placement id (witnesses kept).valid finds.placed ∙ ap (λ (k : ℕ). items_in_use state.shelves + k) (sym as_placed.splits);
+      space = ap allocated_space made.state ∙ space-taken state size placement id (witnesses kept).valid finds.placed ∙ ap (λ (k : ℕ). allocated_space state + k) (sym as_placed.area);
+      small = subst (λ (k : ℕ). allocated_space state + k < 2 ^ 31) (sym as_placed.area) (space-taken-small state size placement id (witnesses kept).valid finds.placed);
     }
 
 -- what holds after an allocation, from what its steps answer

@@ -31,6 +31,7 @@ use Rattle.shelf_store.proofs.ByHeight.SearchableShelves.{bound-listed, listed-b
 use Rattle.shelf_store.proofs.Searched.FoundPlacements.{chosen-located, located-parts, located-splits}
 use Rattle.shelf_store.proofs.Searched.SearchedShelves.{IsSearched, kept-searched}
 use Rattle.shelf_store.proofs.ByHeight.SearchedOnes.{bounds-widest}
+use Rattle.shelf_records.proofs.Spelled.StandsKept.{witnesses}
 
 -- the widest free item, and bounds
 bounded-greatest : (items : List Item) (bound : ℕ) → AllByRecursion (λ (item : Item). is_free item ≡ true → item.width ≤ bound) items → greatest free_width items ≤ bound
@@ -201,7 +202,7 @@ module _ (frame : Frame) (records : Records) where
   pub kept-free : AreKept frame records → (tally_of records (shelf_walk records).met).free_items ≤ 65535
   kept-free kept =
       let counted = kept-counted kept in
-      omega (arith, counted.free_items, items-counted (state_of frame records), kept.valid.peak_items.0, kept.valid.peak_items.1)
+      omega (arith, counted.free_items, items-counted (state_of frame records), (witnesses kept).valid.peak_items.0, (witnesses kept).valid.peak_items.1)
 
   -- the largest free item, from what was counted
   pub largest-is : (tally : Tally) → AreKept frame records → tally ≡ tally_of records (shelf_walk records).met → size_at frame tally.width tally.height ≡ largest_free (state_of frame records)

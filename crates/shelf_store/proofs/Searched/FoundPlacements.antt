@@ -29,6 +29,7 @@ use Rattle.shelf_records.proofs.Recorded.RecordedAllocations.{spelled-height}
 use Rattle.shelf_store.proofs.Searched.LowestCandidates.{AreSame, lowest-same, rank_in}
 use Rattle.shelf_store.proofs.Searched.SearchSteps.{Offers, is_wide, offers-parts}
 use Rattle.shelf_store.proofs.Searched.SearchedShelves.{IsPlacedItem, IsSearched, kept-searched, placed-item, searched-place, searched-ranks}
+use Rattle.shelf_records.proofs.Spelled.StandsKept.{witnesses}
 
 -- where a shelf begins across, of shelves that are stacked
 stacked-at : (shelves : List LinkedShelf) (column_width : ℕ) (before front : List ℕ) (n : ℕ) (back : List ℕ) → AreStacked shelves column_width before (front ++ n ∷ back)
@@ -50,7 +51,7 @@ across-at frame records position number kept at =
     let column : ℕ = along_of records.shelves number / frame.column_width in
     let split : IsAt numbers position number = split-at numbers position number at in
     let all : shelf_numbers (walked_lists records).entries ≡ split.front ++ number ∷ split.back = walked-numbers records numbers ∙ split.whole in
-    let stacked : AreStacked records.shelves frame.column_width [] (split.front ++ number ∷ split.back) = rw (← all) kept.stacked in
+    let stacked : AreStacked records.shelves frame.column_width [] (split.front ++ number ∷ split.back) = rw (← all) (witnesses kept).stacked in
     let before : take position (state_of frame records).shelves ≡ map (spelled_shelf (atlas_of frame records)) (map (walked_entry records) split.front) =
     take-map (spelled_shelf (atlas_of frame records)) position (map (walked_entry records) numbers)
     ∙ ap (map (spelled_shelf (atlas_of frame records))) (take-map (walked_entry records) position numbers ∙ ap (map (walked_entry records)) split.before) in
@@ -71,7 +72,7 @@ located frame records width height position candidate kept at wide =
     Each-get (λ number. IsSearched (atlas_of frame records) (walked_entry records number)) (shelf_walk records).met position candidate.shelf at (kept-searched frame records kept) in
     let free : 1 ≤ times candidate.item entry.free_list = (find-stands (is_wide records width) entry.free_list candidate.item wide).1 in
     let item : IsPlacedItem (atlas_of frame records) entry candidate.item =
-    placed-item (atlas_of frame records) entry candidate.item kept.valid.frame.column_width searched (omega (arith, free, searched.members candidate.item)) in
+    placed-item (atlas_of frame records) entry candidate.item (witnesses kept).valid.frame.column_width searched (omega (arith, free, searched.members candidate.item)) in
     let fill : ℕ → ℕ → Bool → Placement = λ across item_width empty.
     record {
       shelf = candidate.shelf;
@@ -124,7 +125,7 @@ chosen-located frame records sides kept =
   where
     ranks : map (rank frame sides.along (shelf_height frame sides.across)) (state_of frame records).shelves
         ≡ map (option_map rank_in) (map (offered records sides.along (shelf_height frame sides.across)) (shelf_walk records).met)
-    ranks = searched-ranks frame records sides.along (shelf_height frame sides.across) (shelf_walk records).met kept.valid.frame.column_width (kept-searched frame records kept)
+    ranks = searched-ranks frame records sides.along (shelf_height frame sides.across) (shelf_walk records).met (witnesses kept).valid.frame.column_width (kept-searched frame records kept)
 
     by_found : (o : Option Found) (p : Option Candidate)
         → first_least (map (rank frame sides.along (shelf_height frame sides.across)) (state_of frame records).shelves) ≡ o
@@ -145,7 +146,7 @@ chosen-located frame records sides kept =
         let searched : IsSearched (atlas_of frame records) (walked_entry records candidate.shelf) =
         Each-get (λ number. IsSearched (atlas_of frame records) (walked_entry records number)) (shelf_walk records).met found.number candidate.shelf stands.at (kept-searched frame records kept) in
         let place : fitting_place frame sides.along shelf ≡ Some (item_place_of records.items candidate.item) =
-        searched-place frame records candidate.shelf sides.along kept.valid.frame.column_width searched ∙ ap (option_map (item_place_of records.items)) stands.wide in
+        searched-place frame records candidate.shelf sides.along (witnesses kept).valid.frame.column_width searched ∙ ap (option_map (item_place_of records.items)) stands.wide in
         let model : chosen (state_of frame records) sides ≡ Some (placement_in frame found.number across sides.along height shelf (item_place_of records.items candidate.item)) =
         chosen-is (state_of frame records) sides found.number shelf (sym (ap (option_map (λ (f : Found). f.number)) least)) at
         ∙ ap (option_map (placement_in frame found.number across sides.along height shelf)) place in

@@ -13,7 +13,8 @@ use Rattle.etagere_links.proofs.ListEnds.{times-here}
 use Rattle.shelf_records.specs.AtlasRecords.{AtlasRecords, along_of, height_of, is_empty_at, item_at, item_place_of, spelled_shelf}
 use Rattle.shelf_model.specs.Choice.{bad_fit_rank, fitting_place, is_good_fit, number_at, rank, width_at}
 use Rattle.shelf_model.specs.Places.{column_place}
-use Rattle.shelf_records.specs.Private.Kept.{AreKept, HasFlag, IsPlaced, atlas_of}
+use Rattle.shelf_records.specs.Private.Kept.{AreKept, atlas_of}
+use Rattle.shelf_records.proofs.Spelled.Witnessed.{HasFlag, IsPlaced}
 use Rattle.shelf_store.specs.Private.Searching.{first_wide, offered, rank_of}
 use Rattle.shelf_records.specs.StandsFor.{LieFrom}
 use Rattle.shelf_model.specs.State.{Item, Shelf}
@@ -24,6 +25,7 @@ use Rattle.shelf_store.proofs.Searched.LowestCandidates.{rank_in}
 use Rattle.shelf_store.proofs.Searched.SearchSteps.{is_wide}
 use Rattle.shelf_store.proofs.Spelled.EntryValues.{LieFrom-back, widths}
 use Rattle.shelf_records.proofs.Spelled.Witnesses.{Each-unmap}
+use Rattle.shelf_records.proofs.Spelled.StandsKept.{witnesses}
 
 -- what is known of a shelf in use
 pub record IsSearched (atlas : AtlasRecords) (entry : Entry) : Type 0 where
@@ -43,9 +45,9 @@ kept-searched frame records kept =
     (Each-weaken (λ (entry : Entry). first entry × second entry) (IsSearched atlas) entries
     (λ entry facts. record { placed = facts.0.0; flag = facts.0.1; members = facts.1.0.members; shelf = facts.1.1 })
     (Each-both first second entries
-    (Each-both (IsPlaced atlas) (HasFlag atlas) entries kept.placed kept.flags)
-    (Each-both (IsEntry records) (λ (entry : Entry). IsShelf frame (spelled_shelf atlas entry)) entries kept.linked.entries
-    (Each-unmap (IsShelf frame) (spelled_shelf atlas) entries kept.valid.shelves))))
+    (Each-both (IsPlaced atlas) (HasFlag atlas) entries (witnesses kept).placed (witnesses kept).flags)
+    (Each-both (IsEntry records) (λ (entry : Entry). IsShelf frame (spelled_shelf atlas entry)) entries (witnesses kept).linked.entries
+    (Each-unmap (IsShelf frame) (spelled_shelf atlas) entries (witnesses kept).valid.shelves))))
 
 -- the item that begins where one of a shelf does is that one
 place-found : (frame : Frame) (items : List LinkedItem) (here : ℕ) (front : List ℕ) (n : ℕ) (back : List ℕ) → AllByRecursion (IsItem frame) (map (item_at items) (front ++ n ∷ back)) → LieFrom items here (front ++ n ∷ back)

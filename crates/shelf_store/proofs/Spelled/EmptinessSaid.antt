@@ -15,7 +15,7 @@ use Rattle.etagere_links.proofs.FieldChanges.{field_at-changed, field_at-kept, f
 use Rattle.etagere_links.proofs.ListEnds.{times-here}
 use Rattle.shelf_records.specs.AtlasRecords.{AtlasRecords, along_of, across_of, height_of, is_empty_at, is_allocated_at, item_at, item_place_of, spelled_shelf}
 use Rattle.shelf_store.specs.Private.ItemReturned.{emptiness_said, names_one_free}
-use Rattle.shelf_records.specs.Private.Kept.{HasFlag}
+use Rattle.shelf_records.proofs.Spelled.Witnessed.{HasFlag}
 use Rattle.shelf_records.specs.StandsFor.{AreStacked, height_before}
 use Rattle.shelf_model.specs.State.{Item, Shelf, is_empty, is_one_free}
 use Rattle.shelf_store.proofs.Spelled.ItemsAround.{free-item}

@@ -20,7 +20,8 @@ use Rattle.shelf_links.proofs.AllLists.LinkedWalks.{AreWalks, linked-walks}
 use Rattle.shelf_records.specs.AtlasRecords.{AtlasRecords, along_of, height_of, is_allocated_at, item_at, item_place_of, spelled_shelf}
 use Rattle.shelf_model.specs.Fresh.{empty_columns, fresh}
 use Rattle.shelf_store.specs.Private.FreshRecords.{column_after, column_before, fresh_item, fresh_records, fresh_shelf, numbered}
-use Rattle.shelf_records.specs.Private.Kept.{AreKept, HasFlag, IsPlaced, Witnessed, state_of}
+use Rattle.shelf_records.specs.Private.Kept.{AreKept, state_of}
+use Rattle.shelf_records.proofs.Spelled.Witnessed.{HasFlag, IsPlaced, Witnessed}
 use Rattle.shelf_model.specs.Space.{space_in}
 use Rattle.shelf_records.specs.StandsFor.{AreStacked, height_before}
 use Rattle.shelf_model.specs.State.{Item, Shelf, empty_shelf}

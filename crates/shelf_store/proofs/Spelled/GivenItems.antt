@@ -22,7 +22,7 @@ use Rattle.etagere_links.proofs.ListEnds.{times-here}
 use Rattle.etagere_links.proofs.RecordChanges.{length-changed_by}
 use Rattle.shelf_records.specs.AtlasRecords.{AtlasRecords, item_place_of, item_at, spelled_item, spelled_shelf}
 use Rattle.shelf_model.specs.Choice.{Placement}
-use Rattle.shelf_records.specs.Private.Kept.{HasFlag}
+use Rattle.shelf_records.proofs.Spelled.Witnessed.{HasFlag}
 use Rattle.shelf_store.specs.Private.PlacementTaken.{id_of, item_record, rest_item}
 use Rattle.shelf_model.specs.State.{Item, Shelf}
 use Rattle.shelf_store.proofs.Spelled.EntryValues.{IsGiven, id_at}

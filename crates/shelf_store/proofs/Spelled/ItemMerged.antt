@@ -16,7 +16,7 @@ use Rattle.shelf_records.specs.AtlasRecords.{AtlasRecords, along_of, height_of, 
 use Rattle.shelf_model.specs.Merging.{both_free, combined_items, merged_shelf}
 use Rattle.shelf_model.specs.Places.{column_place}
 use Rattle.shelf_store.specs.Private.ItemReturned.{Step, free_next, free_previous, freed_after, item_merged, next_absorbed}
-use Rattle.shelf_records.specs.Private.Kept.{IsPlaced}
+use Rattle.shelf_records.proofs.Spelled.Witnessed.{IsPlaced}
 use Rattle.shelf_model.specs.Returning.{freed, freed_shelf, is_free_before, returned_free_list}
 use Rattle.shelf_model.specs.State.{Item, Shelf}
 use Rattle.shelf_model.specs.Valid.{IsItem, IsShelf}

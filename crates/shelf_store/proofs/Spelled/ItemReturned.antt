@@ -23,7 +23,8 @@ use Rattle.shelf_model.specs.Merging.{both_empty, combined_shelves, merged_shelf
 use Rattle.shelf_model.specs.Places.{column_height}
 use Rattle.shelf_store.specs.Private.ItemReturned.{CanMergeItem, CanMergeShelves, CanReturn, IsLinkedBack, IsRemaining, Step, emptiness_said, item_merged, item_returned, merged_width, unused_by, shelves_merged}
 use Rattle.shelf_heights.specs.Private.ByHeight.{AreByHeight, raised, numbers_by_height}
-use Rattle.shelf_records.specs.Private.Kept.{AreKept, HasFlag, IsPlaced, atlas_of, bare, state_of}
+use Rattle.shelf_records.specs.Private.Kept.{AreKept, atlas_of, bare, state_of}
+use Rattle.shelf_records.proofs.Spelled.Witnessed.{HasFlag, IsPlaced}
 use Rattle.shelf_store.specs.Private.ReturnedByHeight.{CanReturnByHeight, freed_width, returned_by_height, shelves_merged_by_height}
 use Rattle.shelf_model.specs.Returning.{freed_shelf, returned}
 use Rattle.shelf_model.specs.State.{Shelf, AtlasState, items_in_use}
@@ -46,6 +47,7 @@ use Rattle.shelf_store.proofs.Spelled.ReturnedAt.{returned-at}
 use Rattle.shelf_store.proofs.Spelled.ReturnedLengths.{SameLengths, returned-lengths, counts-same}
 use Rattle.shelf_store.proofs.Spelled.SpelledLists.{with_records}
 use Rattle.shelf_records.proofs.Spelled.Witnesses.{witnessed-kept}
+use Rattle.shelf_records.proofs.Spelled.StandsKept.{witnesses}
 
 -- records of a shelf whose item was freed and merged, and that says whether it is empty
 record IsFreed (atlas : AtlasRecords) (records : Records) (made_unused : ℕ) (around : Around) (shelf number : ℕ) (front back free : List ℕ) : Type 0 where
@@ -118,7 +120,7 @@ kept-again : (frame : Frame) (records new : Records) (id left_unused : ℕ) (cha
 kept-again frame records new id left_unused change kept lengths is =
     let lists : Lists = is.lists in
     let linked : IsLinked new lists = is.flagged.spelled.linked in
-    let counts : HasCounts (atlas_of frame new) = counts-same (atlas_of frame records) (atlas_of frame new) lengths kept.counts in
+    let counts : HasCounts (atlas_of frame new) = counts-same (atlas_of frame records) (atlas_of frame new) lengths (witnesses kept).counts in
     let walked : walked_lists new ≡ lists = linked-lists new lists (linked-walks new lists counts.shelves.1 counts.items.1 linked) in
     let after : AtlasState = returned (state_of frame records) id in
     let spelled : state_of frame new ≡ spelled_state (bare frame new) lists.entries = ap (λ (l : Lists). spelled_state (bare frame new) l.entries) walked in
@@ -126,7 +128,7 @@ kept-again frame records new id left_unused change kept lengths is =
     spelled
     ∙ ap (λ (ss : List Shelf). record { frame = frame; shelves = ss; peak_items = length new.items }) is.spelled
     ∙ ap (λ n. record { frame = frame; shelves = after.shelves; peak_items = n }) lengths.items in
-    let old_count = in-use-counted (atlas_of frame records) (walked_lists records) kept.linked in
+    let old_count = in-use-counted (atlas_of frame records) (walked_lists records) (witnesses kept).linked in
     let new_count = in-use-counted (atlas_of frame new) lists linked in
     let in_use : items_in_use (state_of frame new).shelves ≡ items_in_use (map (spelled_shelf (atlas_of frame new)) lists.entries) = ap (λ (s : AtlasState). items_in_use s.shelves) spelled in (
       (
@@ -139,7 +141,7 @@ kept-again frame records new id left_unused change kept lengths is =
                   (λ (entry : Entry) (p : IsPlaced (with_records (atlas_of frame records) new) entry). record { owners = p.owners; along = p.along; places = p.places; free_list = p.free_list }) is.flagged.spelled.placed;
               flags = is.flagged.flags;
               stacked = is.flagged.spelled.stacked;
-              valid = subst IsValid (sym state) (returned-valid (state_of frame records) id kept.valid);
+              valid = subst IsValid (sym state) (returned-valid (state_of frame records) id (witnesses kept).valid);
               unused = is.flagged.spelled.unused;
               space = refl;
             }),
@@ -194,7 +196,7 @@ returned-there frame records number has kept allocated flagged =
     let old : Shelf = spelled_shelf atlas entry in
     let new : Shelf = merged_shelf (freed_shelf frame (length has.front) old) in
     let shelves : state.shelves ≡ front ++ old ∷ back = ap (map (spelled_shelf atlas)) has.whole ∙ map-append (spelled_shelf atlas) has.before (entry ∷ has.after) in
-    let valid : IsShelf frame old = Each-middle (IsShelf frame) front old back (subst (λ (ss : List Shelf). AllByRecursion (IsShelf frame) ss) shelves kept.valid.shelves) in
+    let valid : IsShelf frame old = Each-middle (IsShelf frame) front old back (subst (λ (ss : List Shelf). AllByRecursion (IsShelf frame) ss) shelves (witnesses kept).valid.shelves) in
     let three : Records = emptiness_said shelf (item_merged shelf number records).records in
     let freed : IsFreed atlas three (item_merged shelf number records).made_unused (around_of has.before has.after unused gone) shelf number has.front has.back has.free =
     freed-flagged (around_of has.before has.after unused gone) shelf number has.front has.back has.free valid allocated flagged in
@@ -203,11 +205,11 @@ returned-there frame records number has kept allocated flagged =
     let two : Step = shelves_merged shelf three in
     let merges : MergesShelves middle two (shelves_merged_by_height shelf three) (around_of has.before has.after freed.left_unused gone) edited = merges-shelves (around_of has.before has.after freed.left_unused gone) edited freed.flagged in
     let at = returned-at state (id_at records.items number) (length has.before) (length has.front) front back old (map (item_at records.items) has.front) (map (item_at records.items) has.back) (item_at records.items number)
-    (length-map has.before (spelled_shelf atlas)) (length-map has.front (item_at records.items)) kept.valid shelves
+    (length-map has.before (spelled_shelf atlas)) (length-map has.front (item_at records.items)) (witnesses kept).valid shelves
     (map-append (item_at records.items) has.front (number ∷ has.back)) (allocated-id records.items number number allocated) in
     let low : AreLow (map (spelled_shelf middle) (has.before ++ edited ∷ has.after)) = λ column.
     let same : column_height column (new ∷ back) ≡ column_height column (old ∷ back) = refl in
-    rw freed.spelled (omega (arith, same, column_height-append column front (new ∷ back), column_height-append column front (old ∷ back), low-valid state kept.valid column, ap (column_height column) shelves)) in
+    rw freed.spelled (omega (arith, same, column_height-append column front (new ∷ back), column_height-append column front (old ∷ back), low-valid state (witnesses kept).valid column, ap (column_height column) shelves)) in
     let remaining : IsRemaining shelf number records × (merged_width shelf number records ≡ freed_width records.items number) =
     item-remaining (around_of has.before has.after unused gone) shelf number has.front has.back has.free valid allocated flagged in
     let start : (by_height : List BoundedShelf) → HoldsByHeight atlas (walked_lists records).entries by_height → HoldsByHeight atlas (has.before ++ entry ∷ has.after) by_height = λ by_height in_list.
@@ -223,7 +225,7 @@ returned-there frame records number has kept allocated flagged =
             in_list = λ by_height in_list. merges.in_list (raised shelf (freed_width records.items number) by_height) (freed.in_list.in_list by_height (start by_height in_list));
           };
       remains = remaining.0;
-      can_item = can-merge-item (around_of has.before has.after unused gone) shelf number has.front has.back has.free kept.valid.frame valid allocated flagged.spelled;
+      can_item = can-merge-item (around_of has.before has.after unused gone) shelf number has.front has.back has.free (witnesses kept).valid.frame valid allocated flagged.spelled;
       linked = shelf-before (around_of has.before has.after freed.left_unused gone) edited freed.flagged;
       can_shelves = can-merge-shelves (around_of has.before has.after freed.left_unused gone) edited low freed.flagged;
       can_by_height = λ by_height are.
@@ -250,11 +252,11 @@ pub returns-item : (frame : Frame) (records : Records) (number : ℕ) → AreKep
 returns-item frame records number kept allocated =
     let atlas : AtlasRecords = atlas_of frame records in
     let lists : Lists = walked_lists records in
-    let has : HasItem number lists.entries = located atlas lists number kept.linked kept.unused allocated in
+    let has : HasItem number lists.entries = located atlas lists number (witnesses kept).linked (witnesses kept).unused allocated in
     let entry : Entry = entry_of has.shelf (has.front ++ number ∷ has.back) has.free in
     let flagged : IsFlagged atlas (lists_of (has.before ++ entry ∷ has.after) lists.unused_items lists.unused_shelves) =
     subst (λ (es : List Entry). IsFlagged atlas (lists_of es lists.unused_items lists.unused_shelves)) has.whole
-    (record { spelled = record { linked = kept.linked; placed = kept.placed; stacked = kept.stacked; unused = kept.unused }; flags = kept.flags }) in
+    (record { spelled = record { linked = (witnesses kept).linked; placed = (witnesses kept).placed; stacked = (witnesses kept).stacked; unused = (witnesses kept).unused }; flags = (witnesses kept).flags }) in
     let placed : IsPlaced atlas entry = Each-middle (IsPlaced atlas) has.before entry has.after flagged.spelled.placed in
     let own : shelf_of records.items number ≡ has.shelf = (Each-back (λ item. shelf_of records.items item ≡ has.shelf) has.front (number ∷ has.back) placed.owners).0 in
     let there : Returns frame records (shelf_of records.items number) number =

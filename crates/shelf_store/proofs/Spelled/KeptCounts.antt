@@ -12,6 +12,7 @@ use Rattle.shelf_records.specs.Private.Kept.{AreKept, bare, state_of}
 use Rattle.shelf_model.specs.State.{Item, Shelf, items_in_use, total_width}
 use Rattle.shelf_model.specs.Valid.{IsShelf}
 use Rattle.shelf_model.proofs.Places.ColumnShelves.{columns-le-shelves}
+use Rattle.shelf_records.proofs.Spelled.StandsKept.{witnesses}
 
 -- items that are not narrow altogether are some
 some-items : (items : List Item) → 1 ≤ total_width items → 1 ≤ length items
@@ -43,9 +44,9 @@ pub kept-shelf_records : (frame : Frame) (records : Records) → AreKept frame r
 kept-shelf_records frame records kept =
     omega (
       arith,
-      columns-le-shelves (state_of frame records) kept.valid,
+      columns-le-shelves (state_of frame records) (witnesses kept).valid,
       length-map (walked_lists records).entries (spelled_shelf (bare frame records)),
-      shelves-few kept.linked,
+      shelves-few (witnesses kept).linked,
     )
 
 -- and an item record for each column
@@ -53,7 +54,7 @@ pub kept-item_records : (frame : Frame) (records : Records) → AreKept frame re
 kept-item_records frame records kept =
     omega (
       arith,
-      columns-le-shelves (state_of frame records) kept.valid,
-      shelves-le-items frame kept.valid.frame.column_width (state_of frame records).shelves kept.valid.shelves,
-      kept.valid.peak_items.0,
+      columns-le-shelves (state_of frame records) (witnesses kept).valid,
+      shelves-le-items frame (witnesses kept).valid.frame.column_width (state_of frame records).shelves (witnesses kept).valid.shelves,
+      (witnesses kept).valid.peak_items.0,
     )

@@ -18,7 +18,8 @@ use Rattle.etagere_links.proofs.ListEnds.{times-here}
 use Rattle.shelf_records.specs.AtlasRecords.{AtlasRecords, is_allocated_at, along_of, item_at, spelled_shelf}
 use Rattle.shelf_model.specs.Choice.{Placement, placement_of}
 use Rattle.shelf_model.specs.Places.{column_place}
-use Rattle.shelf_records.specs.Private.Kept.{AreKept, IsPlaced, Locates, atlas_of, state_of}
+use Rattle.shelf_records.specs.Private.Kept.{AreKept, Locates, atlas_of, state_of}
+use Rattle.shelf_records.proofs.Spelled.Witnessed.{IsPlaced}
 use Rattle.shelf_records.specs.StandsFor.{LieFrom}
 use Rattle.shelf_model.specs.State.{Item, Shelf, AtlasState, is_free, total_width}
 use Rattle.shelf_model.specs.Valid.{IsItem}
@@ -29,6 +30,7 @@ use Rattle.shelf_store.proofs.Spelled.TakenItemSpelled.{IsPlacedAt, free_spot}
 use Rattle.shelf_model.proofs.Taken.TakenShelves.{IsTaking, taking}
 use Rattle.shelf_records.proofs.Recorded.Members.{Each-member, IsAmong, among}
 use Rattle.etagere_base.proofs.AlignedPlaces.{multiple}
+use Rattle.shelf_records.proofs.Spelled.StandsKept.{witnesses}
 
 -- the shelf and the item of a placement in records
 pub record IsLocated (frame : Frame) (records : Records) (placement : Placement) (shelf number : ℕ) : Type 0 where
@@ -90,13 +92,13 @@ located frame records size placement found kept h locates =
     let shelf : Shelf = spelled_shelf atlas entry in
     let at : IsAt lists.entries placement.shelf entry = split-at lists.entries placement.shelf entry locates.at in
     let member : IsAt entry.items placement.item number = split-at entry.items placement.item number locates.item in
-    let placed : IsPlaced atlas entry = Each-get (IsPlaced atlas) lists.entries placement.shelf entry locates.at kept.placed in
+    let placed : IsPlaced atlas entry = Each-get (IsPlaced atlas) lists.entries placement.shelf entry locates.at (witnesses kept).placed in
     let chosen : IsChosenFor state size placement = placement_of-placed state size placement h in
     let read : slice_get state.shelves placement.shelf ≡ Some shelf =
     slice_get-map (spelled_shelf atlas) lists.entries placement.shelf ∙ ap (option_map (spelled_shelf atlas)) locates.at in
     let both : Some chosen.chosen.shelf ≡ Some shelf = sym chosen.chosen.at ∙ read in
     let same : chosen.chosen.shelf ≡ shelf = cc in
-    let takes : IsTaking frame placement shelf = subst (IsTaking frame placement) same (taking state size placement kept.valid chosen) in
+    let takes : IsTaking frame placement shelf = subst (IsTaking frame placement) same (taking state size placement (witnesses kept).valid chosen) in
     let read_item : slice_get shelf.items placement.item ≡ Some (item_at items number) =
     slice_get-map (item_at items) entry.items placement.item ∙ ap (option_map (item_at items)) locates.item in
     let both_items : Some takes.found.item ≡ Some (item_at items number) =
@@ -126,8 +128,8 @@ located frame records size placement found kept h locates =
     let column : column_place frame shelf ≡ here = sym (multiple here frame.column_width placed.along) in
     let split : entry ≡ entry_of entry.number numbers places = entry-split entry numbers places whole free_member.whole in
     let apart = linked-apart (around_of at.front at.back lists.unused_items lists.unused_shelves) entry
-    (subst (λ (es : List Entry). IsLinkedExcept records (lists_of es lists.unused_items lists.unused_shelves) [] []) at.whole kept.linked) in
-    let is_entry : IsEntry records entry = Each-get (IsEntry records) lists.entries placement.shelf entry locates.at kept.linked.entries in
+    (subst (λ (es : List Entry). IsLinkedExcept records (lists_of es lists.unused_items lists.unused_shelves) [] []) at.whole (witnesses kept).linked) in
+    let is_entry : IsEntry records entry = Each-get (IsEntry records) lists.entries placement.shelf entry locates.at (witnesses kept).linked.entries in
     let once : (k : ℕ) → times k (free_member.front ++ number ∷ free_member.back) ≤ 1 = λ k. omega (arith, apart.free_once k, times-same k entry.free_list places free_member.whole) in
     let wide : AllByRecursion (λ k. 1 ≤ (item_at items k).width) (front ++ number ∷ back) = subst (AllByRecursion (λ k. 1 ≤ (item_at items k).width)) whole (items-wide frame items entry.items takes.valid.items) in
     record {

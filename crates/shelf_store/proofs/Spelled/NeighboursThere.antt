@@ -17,7 +17,7 @@ use Rattle.etagere_links.proofs.Chains.{Leads-start, next-is, previous-is}
 use Rattle.etagere_links.proofs.ListEnds.{first-stands, last-stands-in, times-here}
 use Rattle.shelf_records.specs.AtlasRecords.{AtlasRecords, is_allocated_at}
 use Rattle.shelf_store.specs.Private.ItemReturned.{FreeNextIsThere, AreThere, free_named, free_next}
-use Rattle.shelf_records.specs.Private.Kept.{IsPlaced}
+use Rattle.shelf_records.proofs.Spelled.Witnessed.{IsPlaced}
 use Rattle.shelf_store.proofs.Spelled.EntryValues.{free_count, free_count-append, free_count-free}
 use Rattle.shelf_store.proofs.Spelled.SpelledLists.{IsSpelled}
 use Rattle.shelf_records.proofs.Recorded.Members.{IsAmong, among}

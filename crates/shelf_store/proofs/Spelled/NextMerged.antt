@@ -16,7 +16,7 @@ use Rattle.etagere_links.proofs.Chains.{next-is}
 use Rattle.shelf_records.specs.AtlasRecords.{AtlasRecords, is_allocated_at, item_place_of, along_of, item_at, spelled_shelf, width_of}
 use Rattle.shelf_model.specs.Merging.{both_free, combined_items}
 use Rattle.shelf_store.specs.Private.ItemReturned.{Step, free_named, free_next, next_absorbed}
-use Rattle.shelf_records.specs.Private.Kept.{IsPlaced}
+use Rattle.shelf_records.proofs.Spelled.Witnessed.{IsPlaced}
 use Rattle.shelf_store.specs.Private.ReturnedByHeight.{named_width}
 use Rattle.shelf_model.specs.State.{Item}
 use Rattle.shelf_store.proofs.Spelled.AbsorbedItems.{Absorbs, IsRest, rest-of, free-widens, widened-absorbs}

@@ -22,7 +22,7 @@ use Rattle.etagere_links.proofs.ListEnds.{times-here}
 use Rattle.shelf_records.specs.AtlasRecords.{AtlasRecords, along_of, height_of, is_empty_at, is_allocated_at, item_at, spelled_shelf}
 use Rattle.shelf_model.specs.Merging.{both_empty, combined_shelves}
 use Rattle.shelf_store.specs.Private.ItemReturned.{Step, are_both_empty, empty_named, empty_next, shelf_merged, shelf_next_absorbed, shelf_of_item_absorbed}
-use Rattle.shelf_records.specs.Private.Kept.{HasFlag, IsPlaced}
+use Rattle.shelf_records.proofs.Spelled.Witnessed.{HasFlag, IsPlaced}
 use Rattle.shelf_store.specs.Private.ReturnedByHeight.{shelf_merged_by_height, next_absorbed_by_height, shelf_of_item_absorbed_by_height}
 use Rattle.shelf_model.specs.State.{Shelf, is_empty, is_free, is_one_free}
 use Rattle.shelf_heights.specs.declared.by_height.BoundedShelf.{BoundedShelf}

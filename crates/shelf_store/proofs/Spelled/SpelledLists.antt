@@ -13,7 +13,7 @@ use Rattle.shelf_records.specs.StandsFor.{AreStacked}
 use Rattle.shelf_model.specs.State.{Shelf}
 use Rattle.shelf_store.proofs.Spelled.EntryValues.{free_count-same}
 use Rattle.shelf_records.proofs.Spelled.RecordValues.{SameItem, SameShelf, map-agrees, LieFrom-same, owners-same}
-use Rattle.shelf_records.specs.Private.Kept.{IsPlaced}
+use Rattle.shelf_records.proofs.Spelled.Witnessed.{IsPlaced}
 use Rattle.shelf_store.proofs.Spelled.StackedEdits.{stacked-same}
 
 -- the atlas with other records

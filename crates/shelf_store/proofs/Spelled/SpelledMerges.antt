@@ -24,7 +24,7 @@ use Rattle.shelf_store.proofs.Spelled.AbsorbedItems.{Absorbs, IsRest, rest-of, a
 use Rattle.shelf_store.proofs.Spelled.EntryValues.{SaysNow, IsWidened, IsFreed, IsGiven, id_at, marked, unmarked, remarked-places, free_count, free_count-append, free_count-free, free_count-allocated, free_count-none, free_count-same}
 use Rattle.shelf_records.proofs.Spelled.RecordValues.{ItemValues, item_values, shelf_values, values-same, SameItem, SameShelf, SameItem-then, items-same, shelves-same, owners-same}
 use Rattle.shelf_store.proofs.Spelled.SpelledLists.{IsSpelled, EditsItems}
-use Rattle.shelf_records.specs.Private.Kept.{IsPlaced}
+use Rattle.shelf_records.proofs.Spelled.Witnessed.{IsPlaced}
 
 -- what a shelf says where another item begins it
 item-first : (shelf : ℕ) (link : Option ℕ) (shelves : List LinkedShelf) → map shelf_values (with_first_item shelf link shelves) ≡ map shelf_values shelves

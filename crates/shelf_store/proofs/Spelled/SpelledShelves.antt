@@ -23,7 +23,7 @@ use Rattle.shelf_records.proofs.Spelled.RecordValues.{item_values, shelf_values,
 use Rattle.shelf_store.proofs.Spelled.SpelledLists.{with_records, IsSpelled, placed-same}
 use Rattle.shelf_store.proofs.Spelled.SpelledMerges.{unmarked-same}
 use Rattle.shelf_store.proofs.Spelled.StackedEdits.{AbsorbsShelf, stacked-absorbed}
-use Rattle.shelf_records.specs.Private.Kept.{IsPlaced}
+use Rattle.shelf_records.proofs.Spelled.Witnessed.{IsPlaced}
 
 -- the values of shelves are no part of the links between them
 pub shelves-keep_values : IsUnchanged shelf_chain shelf_values

@@ -23,7 +23,7 @@ use Rattle.shelf_links.proofs.AllLists.LinkedUnused.{lists_of, IsLoose, loose-of
 use Rattle.etagere_links.proofs.RecordChanges.{get-changed_by-other, length-changed_by}
 use Rattle.etagere_links.proofs.RecordFrames.{map-linked_between, length-linked_between}
 use Rattle.shelf_records.specs.AtlasRecords.{AtlasRecords, is_allocated_at, item_place_of, shelf_of, along_of, across_of, height_of, is_empty_at, item_at, spelled_item, spelled_shelf}
-use Rattle.shelf_records.specs.Private.Kept.{HasFlag, IsPlaced}
+use Rattle.shelf_records.proofs.Spelled.Witnessed.{HasFlag, IsPlaced}
 use Rattle.shelf_store.specs.Private.PlacementTaken.{free_item, item_record, rest_shelf, shelf_record}
 use Rattle.shelf_model.specs.State.{Item, Shelf, empty_shelf, is_empty}
 use Rattle.shelf_store.proofs.Spelled.EntryValues.{free_count-free}

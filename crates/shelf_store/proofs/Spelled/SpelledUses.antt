@@ -13,7 +13,7 @@ use Rattle.shelf_links.proofs.AllLists.LinkedUnused.{three-count, IsLoose, loose
 use Rattle.shelf_links.proofs.AllLists.LinkedUses.{but_first, uses-item, uses-shelf}
 use Rattle.etagere_links.proofs.WalkedLists.{once-part}
 use Rattle.shelf_records.specs.AtlasRecords.{AtlasRecords, is_allocated_at, spelled_shelf}
-use Rattle.shelf_records.specs.Private.Kept.{HasFlag, IsPlaced}
+use Rattle.shelf_records.proofs.Spelled.Witnessed.{HasFlag, IsPlaced}
 use Rattle.shelf_model.specs.State.{Shelf, is_empty}
 use Rattle.shelf_records.proofs.Spelled.RecordValues.{SameItem, SameShelf, item-same, SameShelf-then}
 use Rattle.shelf_store.proofs.Spelled.SpelledLists.{with_records, IsSpelledBut, shelf-same, placed-same}

@@ -16,7 +16,8 @@ use Rattle.shelf_links.proofs.AllLists.LinkedWalks.{linked-lists, linked-walks}
 use Rattle.shelf_records.specs.AtlasRecords.{AtlasRecords, spelled_shelf}
 use Rattle.shelf_model.specs.Choice.{Placement, placement_of}
 use Rattle.shelf_model.specs.Places.{allocated_numbers, record_number}
-use Rattle.shelf_records.specs.Private.Kept.{AreKept, HasFlag, Locates, Witnessed, atlas_of, bare, state_of}
+use Rattle.shelf_records.specs.Private.Kept.{AreKept, Locates, atlas_of, bare, state_of}
+use Rattle.shelf_records.proofs.Spelled.Witnessed.{HasFlag, Witnessed}
 use Rattle.shelf_store.proofs.Spelled.TakenItemSpelled.{free_spot}
 use Rattle.shelf_store.specs.Private.PlacementTaken.{id_of, item_record, placement_taken}
 use Rattle.shelf_model.specs.Space.{space_in}
@@ -32,6 +33,7 @@ use Rattle.shelf_store.proofs.Spelled.TakenSpelled.{IsTakenBy, taken-spelled}
 use Rattle.shelf_records.proofs.Spelled.Witnesses.{kept-of}
 use Rattle.shelf_model.proofs.Taken.TakenShelves.{IsTaking, taken_shelf-not_empty}
 use Rattle.shelf_model.proofs.Taken.TakenValid.{taken-valid}
+use Rattle.shelf_records.proofs.Spelled.StandsKept.{witnesses}
 
 -- there are shelves where some are spelled
 some-entries : (atlas : AtlasRecords) (entries : List Entry) (front pieces back : List Shelf) → 1 ≤ length pieces → map (spelled_shelf atlas) entries ≡ front ++ (pieces ++ back) → 1 ≤ length (shelf_numbers entries)
@@ -98,11 +100,11 @@ placement-kept frame records size placement found kept h locates =
     let new : Records = placement_taken frame.column_width place records in
     let last : AtlasRecords = with_records atlas new in
     let flags : AllByRecursion (HasFlag atlas) entries =
-    subst (AllByRecursion (HasFlag atlas)) is.entries (Each-weaken (HasFlag (atlas_of frame records)) (HasFlag atlas) lists.entries (λ entry flag. flag) kept.flags) in
+    subst (AllByRecursion (HasFlag atlas)) is.entries (Each-weaken (HasFlag (atlas_of frame records)) (HasFlag atlas) lists.entries (λ entry flag. flag) (witnesses kept).flags) in
     let within : number < length records.items = is_ready.within in
     let takes : IsTakenBy atlas new is.before is.after shelf (spelled_shelf atlas entry) placement id =
     taken-spelled (around_of is.before is.after lists.unused_items lists.unused_shelves) (free_spot shelf number is.front is.back is.free_front is.free_back) placement within is.item
-    (λ split. omega (arith, is.takes.shorter split)) is.takes.full kept.counts.shelves.1 is_ready.room
+    (λ split. omega (arith, is.takes.shorter split)) is.takes.full (witnesses kept).counts.shelves.1 is_ready.room
     (taken_shelf-not_empty frame placement id placement.height (spelled_shelf atlas entry) is.takes)
     (Each-front (HasFlag atlas) is.before (entry ∷ is.after) flags) (Each-back (HasFlag atlas) is.before (entry ∷ is.after) flags).1 (is_ready.spelled atlas.allocated_space) in
     let pieces : Shelf → List Shelf = shelf_pieces frame placement id in
@@ -129,12 +131,12 @@ placement-kept frame records size placement found kept h locates =
       length-append (shelf_numbers takes.lists.entries ++ takes.lists.unused_shelves) [],
       length-append (shelf_numbers takes.lists.entries) takes.lists.unused_shelves,
     ) in
-    let small : number < 65536 = omega (arith, within, kept.counts.items.1) in
+    let small : number < 65536 = omega (arith, within, (witnesses kept).counts.items.1) in
     let generation : ℕ = (item_record records.items number).generation in
     let new_number : times (record_number id) (allocated_numbers state) ≡ 0 =
-    new-number (atlas_of frame records) lists.entries number generation kept.counts.items.1 small is.item.free in
+    new-number (atlas_of frame records) lists.entries number generation (witnesses kept).counts.items.1 small is.item.free in
     let low : record_number id < new_state.peak_items = omega (arith, number-of_record number generation small, count, within, takes.more) in
-    let valid : IsValid new_state = taken-valid state size placement id kept.valid h new_number low in
+    let valid : IsValid new_state = taken-valid state size placement id (witnesses kept).valid h new_number low in
     let witnessed : Witnessed last takes.lists new_state =
     record {
       spelled = ap (λ (ss : List Shelf). record { frame = frame; shelves = ss; peak_items = new_state.peak_items }) shelves

@@ -37,6 +37,7 @@ use Rattle.shelf_records.proofs.Spelled.SpelledNumbers.{items_in_use-spelled}
 use Rattle.shelf_store.proofs.Spelled.TakenReady.{IsReady, each-length, ready}
 use Rattle.shelf_store.proofs.Spelled.TakenRests.{AreRests, added_where, are-rests, split-where, link_where, list_where}
 use Rattle.shelf_model.proofs.Taken.PlacedWithin.{placed-within}
+use Rattle.shelf_records.proofs.Spelled.StandsKept.{witnesses}
 
 -- where the shelf of a placement begins across
 across-placed : (frame : Frame) (records : Records) (size : Size) (placement found : Placement) → AreKept frame records → placement_of (state_of frame records) size ≡ Some placement → (locates : Locates records found placement) → across_of records.shelves locates.entry.number ≡ placement.across
@@ -114,7 +115,7 @@ can-take frame records size placement found kept h locates =
     let place : Placement = record placement { shelf = shelf; item = number } in
     let used : Records = rests_used of_shelf of_item records in
     let rests : AreRests of_shelf of_item atlas entries =
-    are-rests of_shelf of_item atlas (lists_of entries lists.unused_items lists.unused_shelves) kept.counts.shelves.1 is_ready.room (is_ready.spelled atlas.allocated_space) in
+    are-rests of_shelf of_item atlas (lists_of entries lists.unused_items lists.unused_shelves) (witnesses kept).counts.shelves.1 is_ready.room (is_ready.spelled atlas.allocated_space) in
     let loose : List ℕ = list_where of_shelf rests.shelf_item ++ list_where of_item rests.item in
     let apart = linked-apart (around_of is.before is.after rests.unused_items rests.unused_shelves) entry rests.used.spelled.linked in
     let height : placement.height ≤ height_of records.shelves shelf = fits placement.height (height_of records.shelves shelf) of_shelf is.takes.shorter is.takes.full in
@@ -147,13 +148,13 @@ can-take frame records size placement found kept h locates =
       length-append (item_numbers entries ++ rests.unused_items) loose,
       length-append (item_numbers entries) rests.unused_items,
     ))
-    (omega (arith, loose-count of_shelf of_item rests.shelf_item rests.item, (placement_of-placed state size placement h).room)) kept.counts.items.1 rests.used.made in
-    let ends = placed-within state size placement kept.valid h in
+    (omega (arith, loose-count of_shelf of_item rests.shelf_item rests.item, (placement_of-placed state size placement h).room)) (witnesses kept).counts.items.1 rests.used.made in
+    let ends = placed-within state size placement (witnesses kept).valid h in
     let used_shelf = rests.used.shelves shelf in
     let done : CanTakeFrom frame.column_width place records =
     record {
       item = is_ready.within;
-      small = omega (arith, is_ready.shelf_within, kept.counts.shelves.1);
+      small = omega (arith, is_ready.shelf_within, (witnesses kept).counts.shelves.1);
       items = few_items;
       shelves = rests.used.few;
       splits_shelf =

@@ -20,13 +20,15 @@ use Rattle.etagere_links.proofs.ListEnds.{times-here}
 use Rattle.etagere_links.proofs.Tallies.{length-each}
 use Rattle.shelf_records.specs.AtlasRecords.{AtlasRecords, spelled_shelf}
 use Rattle.shelf_model.specs.Choice.{Placement, placement_of}
-use Rattle.shelf_records.specs.Private.Kept.{AreKept, IsPlaced, Locates, atlas_of, state_of}
+use Rattle.shelf_records.specs.Private.Kept.{AreKept, Locates, atlas_of, state_of}
+use Rattle.shelf_records.proofs.Spelled.Witnessed.{IsPlaced}
 use Rattle.shelf_records.specs.StandsFor.{AreStacked}
 use Rattle.shelf_model.specs.State.{Item, items_in_use, total_width}
 use Rattle.shelf_model.specs.Valid.{IsShelf}
 use Rattle.shelf_model.proofs.Chosen.Placed.{placement_of-placed}
 use Rattle.shelf_store.proofs.Spelled.LocatedPlacements.{IsLocated, located}
 use Rattle.shelf_store.proofs.Spelled.SpelledLists.{IsSpelled}
+use Rattle.shelf_records.proofs.Spelled.StandsKept.{witnesses}
 
 -- numbers of which each below the count stands once, and no other, are so many
 pub each-length : (count : ℕ) (xs : List ℕ) → HasEachOnce count xs → length xs ≡ count
@@ -83,12 +85,12 @@ ready frame records size placement found kept h locates =
     let is : IsLocated frame records placement shelf number = located frame records size placement found kept h locates in
     let entry : Entry = entry_of shelf (is.front ++ number ∷ is.back) (is.free_front ++ number ∷ is.free_back) in
     let linked : IsLinkedExcept records (lists_of (is.before ++ entry ∷ is.after) lists.unused_items lists.unused_shelves) [] [] =
-    subst (λ (es : List Entry). IsLinkedExcept records (lists_of es lists.unused_items lists.unused_shelves) [] []) is.entries kept.linked in
+    subst (λ (es : List Entry). IsLinkedExcept records (lists_of es lists.unused_items lists.unused_shelves) [] []) is.entries (witnesses kept).linked in
     let apart = linked-apart (around_of is.before is.after lists.unused_items lists.unused_shelves) entry linked in
     let shelves : length (shelf_numbers lists.entries) + length lists.unused_shelves ≡ length records.shelves =
     omega (
       arith,
-      each-length (length records.shelves) (shelf_numbers lists.entries ++ lists.unused_shelves ++ []) kept.linked.shelves_once,
+      each-length (length records.shelves) (shelf_numbers lists.entries ++ lists.unused_shelves ++ []) (witnesses kept).linked.shelves_once,
       length-append (shelf_numbers lists.entries ++ lists.unused_shelves) [],
       length-append (shelf_numbers lists.entries) lists.unused_shelves,
     ) in
@@ -98,9 +100,9 @@ ready frame records size placement found kept h locates =
           record {
             linked = linked;
             placed = subst (AllByRecursion (IsPlaced (record { frame = frame; records = records; allocated_space = space }))) is.entries
-                (other-space (atlas_of frame records) (record { frame = frame; records = records; allocated_space = space }) lists.entries refl refl kept.placed);
-            stacked = subst (λ (es : List Entry). AreStacked records.shelves frame.column_width [] (shelf_numbers es)) is.entries kept.stacked;
-            unused = kept.unused;
+                (other-space (atlas_of frame records) (record { frame = frame; records = records; allocated_space = space }) lists.entries refl refl (witnesses kept).placed);
+            stacked = subst (λ (es : List Entry). AreStacked records.shelves frame.column_width [] (shelf_numbers es)) is.entries (witnesses kept).stacked;
+            unused = (witnesses kept).unused;
           };
       within = apart.within number (omega (arith, times-append number is.front (number ∷ is.back), times-here number is.back));
       shelf_within = apart.number;
@@ -111,6 +113,6 @@ ready frame records size placement found kept h locates =
             ap length none,
             some-split placement.splits_shelf placement.splits_item split,
             (placement_of-placed (state_of frame records) size placement h).room,
-            shelves-few (atlas_of frame records) lists.entries kept.valid.frame.column_width kept.valid.shelves,
+            shelves-few (atlas_of frame records) lists.entries (witnesses kept).valid.frame.column_width (witnesses kept).valid.shelves,
           );
     }

@@ -15,7 +15,7 @@ use Rattle.etagere_links.proofs.RecordChanges.{length-changed_by}
 use Rattle.shelf_records.specs.AtlasRecords.{AtlasRecords, height_of, spelled_shelf}
 use Rattle.shelf_model.specs.Choice.{Placement}
 use Rattle.shelf_store.specs.Private.ItemReturned.{names_one_free}
-use Rattle.shelf_records.specs.Private.Kept.{HasFlag}
+use Rattle.shelf_records.proofs.Spelled.Witnessed.{HasFlag}
 use Rattle.shelf_store.specs.Private.PlacementTaken.{id_of, item_record, placement_taken, with_item_given, with_shelf_rest}
 use Rattle.shelf_model.specs.State.{Shelf, empty_shelf, is_empty}
 use Rattle.shelf_model.specs.Taking.{shelf_pieces}

@@ -7,6 +7,7 @@ use Rattle.shelf_heights.specs.declared.by_height.BoundedShelf.{BoundedShelf}
 use Rattle.shelf_store.proofs.ByHeight.CollectedShelves.{in_use}
 use Rattle.shelf_store.proofs.ByHeight.MetShelves.{met-done, met-few, met-fewer, met-more, met-within, met_by_height}
 use Rattle.shelf_store.proofs.ByHeight.NewByHeight.{sorted-by_height}
+use Rattle.shelf_records.proofs.Spelled.StandsKept.{witnesses}
 use Rattle.etagere.proofs.restored.shelves_by_height.Goals as goal
 
 pub loop-number-init : goal.loop-number-init
@@ -21,7 +22,7 @@ newly_bounded-requires-clause-shelf c =
       arith,
       met-within c.args.frame.now c.args.records.now c.args.numbers.now c.loop-number.number-index c.requires.kept c.requires.met c.loop-number-test.true,
       c.from.ensures,
-      c.requires.kept.counts.shelves.1,
+      (witnesses c.requires.kept).counts.shelves.1,
     )
 
 pub push-requires : goal.push-requires
@@ -53,3 +54,6 @@ returns-clause-by_height c =
     (subst (λ (by_height : List BoundedShelf). IsPermutation (numbers_by_height by_height) (numbers_by_height sorted)) all c.in_ok-sort_by_keys.ensures.numbers)
     (subst (λ (shelves : List LinkedShelf). IsNonDecreasingBy (order_of shelves) (numbers_by_height sorted)) c.shelves-2.ensures c.in_ok-sort_by_keys.ensures.sorted)
     (c.in_ok-sort_by_keys.ensures.bounds ∙ ap (map (λ (one : BoundedShelf). one.widest)) all)
+
+pub newly_bounded-requires-clause-frame : goal.newly_bounded-requires-clause-frame
+newly_bounded-requires-clause-frame c = (witnesses c.requires.kept).valid.frame

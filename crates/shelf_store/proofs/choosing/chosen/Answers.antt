@@ -2,6 +2,7 @@ use Rattle.std.proofs.Common.{None, Some, ap, arith, ◌∙◌}
 use Rattle.etagere_base.proofs.FrameSides.{column_width-le, sides_low}
 use Rattle.shelf_heights.proofs.ByHeight.Edited.{by_height-in_order}
 use Rattle.shelf_store.proofs.ByHeight.SearchableShelves.{chosen-found, found-within, kept-whole, by_height-searchable, searchable-by_height}
+use Rattle.shelf_records.proofs.Spelled.StandsKept.{witnesses}
 use Rattle.shelf_store.proofs.choosing.chosen.Goals as goal
 
 pub best_candidate-requires-clause-order : goal.best_candidate-requires-clause-order
@@ -16,7 +17,7 @@ best_candidate-requires-clause-whole c = kept-whole c.args.frame.now c.args.reco
 pub best_candidate-requires-clause-column : goal.best_candidate-requires-clause-column
 best_candidate-requires-clause-column c =
     let frame = c.args.frame.now in
-    (c.requires.kept.valid.frame.column_width, omega (arith, column_width-le 65535 frame c.requires.kept.valid.frame, (sides_low 65535 frame c.requires.kept.valid.frame).0))
+    ((witnesses c.requires.kept).valid.frame.column_width, omega (arith, column_width-le 65535 frame (witnesses c.requires.kept).valid.frame, (sides_low 65535 frame (witnesses c.requires.kept).valid.frame).0))
 
 pub placement_at-requires-clause-shelf : goal.placement_at-requires-clause-shelf
 placement_at-requires-clause-shelf c =
@@ -43,3 +44,9 @@ returns-clause-value c =
 pub returns-clause-by_height : goal.returns-clause-by_height
 returns-clause-by_height c =
     searchable-by_height c.args.frame.now c.args.records.now c.requires.kept c.args.by_height.now.items c.best_candidate.new.by_height.items c.requires.by_height c.best_candidate.ensures.numbers c.best_candidate.ensures.by_height
+
+pub shelf_height-height-requires-clause-frame : goal.shelf_height-height-requires-clause-frame
+shelf_height-height-requires-clause-frame c = (witnesses c.requires.kept).valid.frame
+
+pub best_candidate-requires-clause-linked : goal.best_candidate-requires-clause-linked
+best_candidate-requires-clause-linked c = (witnesses c.requires.kept).linked

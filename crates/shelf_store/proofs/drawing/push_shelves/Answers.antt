@@ -7,6 +7,7 @@ use Rattle.shelf_links.specs.Records.{shelf_chain}
 use Rattle.shelf_store.specs.Private.DrawnRecords.{shelf_lines}
 use Rattle.shelf_store.proofs.Recorded.DrawnLines.{kept-lines}
 use Rattle.shelf_store.proofs.Recorded.DrawnWalks.{walk-begins, walk-begun, walk-ends, walk-here, walk-out, walk-passed}
+use Rattle.shelf_records.proofs.Spelled.StandsKept.{witnesses}
 use Rattle.shelf_store.proofs.Searched.LinkedParts.{shelves-left}
 use Rattle.shelf_store.proofs.drawing.push_shelves.Goals as goal
 
@@ -15,7 +16,7 @@ pub loop-step-init : goal.loop-step-init
 loop-step-init g c =
     walk-begins shelf_chain.next c.args.records.now.shelves (shelf_lines c.args.frame.now c.args.records.now) (shelf_walk c.args.records.now).met (g.W.Write.contents c.args.writer.now) c.args.text.now
     (c.args.records.now.first_shelf) c.number-at.result
-    (shelves-left c.args.records.now c.requires.linked)
+    (shelves-left c.args.records.now (witnesses c.requires).linked)
     (c.number-at.ensures.value ∙ c.first_shelf.ensures)
 
 -- at the end all are drawn
@@ -55,3 +56,6 @@ returns-clause-ok g c =
     (walk-out shelf_chain.next c.args.records.now.shelves (shelf_lines c.args.frame.now c.args.records.now) (shelf_walk c.args.records.now).met (g.W.Write.contents c.args.writer.now) c.args.text.now
     (g.W.Write.contents c.loop-step.writer) c.loop-step.text c.loop-step.at c.loop-step._step c.loop-step.invariant
     (omega (arith, ap length c.shelves-step-end.ensures)))
+
+pub push_items-requires-clause-linked : goal.push_items-requires-clause-linked
+push_items-requires-clause-linked g c = (witnesses c.requires).linked

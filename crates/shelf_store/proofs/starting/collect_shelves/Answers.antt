@@ -2,6 +2,7 @@ use Rattle.std.proofs.Common.{◌∙◌, ◌∷◌, ◌++◌, [], ap, arith}
 use Rattle.etagere_links.specs.Edits.{link_at}
 use Rattle.shelf_links.specs.Records.{shelf_chain}
 use Rattle.shelf_store.proofs.ByHeight.CollectedShelves.{collects-begin, collects-end, collects-fewer, collects-here, collects-more}
+use Rattle.shelf_records.proofs.Spelled.StandsKept.{witnesses}
 use Rattle.shelf_store.proofs.starting.collect_shelves.Goals as goal
 
 pub loop-step-init : goal.loop-step-init
@@ -17,7 +18,7 @@ newly_bounded-requires-clause-shelf c =
     omega (
       arith,
       collects-here c.args.frame.now c.args.records.now c.loop-step.by_height.items c.loop-step.at c.in-Some.shelf c.loop-step._step c.loop-step.invariant.collects c.in-Some.is,
-      c.requires.kept.counts.shelves.1,
+      (witnesses c.requires.kept).counts.shelves.1,
     )
 
 pub push-requires : goal.push-requires
@@ -42,3 +43,6 @@ loop-step-preserved c = record {
 pub returns-in_default-clause-by_height : goal.returns-in_default-clause-by_height
 returns-in_default-clause-by_height c =
     collects-end c.args.frame.now c.args.records.now c.loop-step.by_height.items c.loop-step.at c.loop-step._step c.loop-step.invariant.collects c.in_default.is
+
+pub newly_bounded-requires-clause-frame : goal.newly_bounded-requires-clause-frame
+newly_bounded-requires-clause-frame c = (witnesses c.requires.kept).valid.frame

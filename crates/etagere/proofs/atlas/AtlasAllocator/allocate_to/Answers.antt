@@ -20,6 +20,8 @@ use Rattle.shelf_store.proofs.ByHeight.TakenByHeight.{HoldsByHeight}
 use Rattle.shelf_model.proofs.Promises.{promises}
 use Rattle.shelf_store.proofs.Recorded.RecordedTaking.{AfterTaking, after-taking, found-as_placed, found-by_height}
 use Rattle.shelf_store.proofs.Spelled.TakenPremises.{can-take}
+use Rattle.etagere_base.proofs.FrameSides.{column_width-le, sides_low}
+use Rattle.shelf_records.proofs.Spelled.StandsKept.{witnesses}
 use Rattle.etagere.proofs.atlas.AtlasAllocator.allocate_to.Goals as goal
 
 on_err : {T E P : Type 0} (r : Result T E) → P → OnErr r P
@@ -27,7 +29,7 @@ on_err (Ok x) p = tt
 on_err (Err e) p = p
 
 pub returns-in_default-clause-promises : goal.returns-in_default-clause-promises
-returns-in_default-clause-promises c = promises (state_in c.self.inside) c.self.invariant.kept.valid
+returns-in_default-clause-promises c = promises (state_in c.self.inside) (witnesses c.self.invariant.kept).valid
 
 pub rectangle-rectangle-requires : goal.rectangle-rectangle-requires
 rectangle-rectangle-requires c =
@@ -73,7 +75,7 @@ returns-in_err-id-clause-split c =
 pub returns-in_err-id-clause-promises : goal.returns-in_err-id-clause-promises
 returns-in_err-id-clause-promises c =
     let frame = c.self.inside.frame in
-    subst (λ (r : Records). KeepsPromises (state_of frame r)) (sym c.in_err-id.ensures.err) (promises (state_in c.self.inside) c.self.invariant.kept.valid)
+    subst (λ (r : Records). KeepsPromises (state_of frame r)) (sym c.in_err-id.ensures.err) (promises (state_in c.self.inside) (witnesses c.self.invariant.kept).valid)
 
 pub area-requires : goal.area-requires
 area-requires c =
@@ -155,3 +157,12 @@ returns-clause-clear c = λ _.
     subst (λ (state : AtlasState). IsClear state (rectangle_in c.of.result.rectangle)) c.self.view_is
     (subst (λ (allocation : Allocation). IsClear (state_in c.self.inside) allocation.rectangle) (sym c.of.ensures)
     (added-clear (state_in c.self.inside) (given c) (state-after c) (after c).allocated.adds (after c).allocated.promises_after.apart))
+
+pub overflow_cast-column_width : goal.overflow_cast-column_width
+overflow_cast-column_width c =
+    let frame = c.self.inside.frame in
+    let is_frame = (witnesses c.self.invariant.kept).valid.frame in
+    omega (arith, column_width-le 65535 frame is_frame, (sides_low 65535 frame is_frame).0)
+
+pub overflow_add-self : goal.overflow_add-self
+overflow_add-self c = omega (arith, c.self.invariant.counted, c.splits.ensures.few, (witnesses c.self.invariant.kept).valid.peak_items)

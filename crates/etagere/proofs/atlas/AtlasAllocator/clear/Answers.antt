@@ -14,6 +14,7 @@ use Rattle.shelf_model.proofs.Promises.{promises}
 use Rattle.shelf_store.proofs.Spelled.FreshKept.{fresh-kept}
 use Rattle.shelf_store.proofs.Spelled.KeptCounts.{kept-item_records, kept-shelf_records}
 use Rattle.shelf_store.proofs.Spelled.NumberedLists.{numbered-length}
+use Rattle.shelf_records.proofs.Spelled.StandsKept.{witnesses}
 use Rattle.etagere.proofs.atlas.AtlasAllocator.clear.Goals as goal
 
 pub reset_records-requires : goal.reset_records-requires
@@ -21,7 +22,7 @@ reset_records-requires c =
     let inside = c.self.inside in
     let kept = c.self.invariant.kept in
     record {
-      frame = kept.valid.frame;
+      frame = (witnesses kept).valid.frame;
       shelves = kept-shelf_records inside.frame inside.records kept;
       items = kept-item_records inside.frame inside.records kept;
     }
@@ -35,13 +36,13 @@ reset_by_height-requires-clause-many c =
 made : (c : goal.After-self-2-1) → state_of c.self.inside.frame c.reset_records.new.records ≡ fresh c.self.inside.frame
 made c =
     let frame = c.self.inside.frame in
-    let valid = c.self.invariant.kept.valid in
+    let valid = (witnesses c.self.invariant.kept).valid in
     ap (state_of frame) c.reset_records.ensures ∙ (fresh-kept frame valid.frame valid.columns).0
 
 pub invariant_of-self : goal.invariant_of-self
 invariant_of-self c =
     let frame = c.self.inside.frame in
-    let valid = c.self.invariant.kept.valid in
+    let valid = (witnesses c.self.invariant.kept).valid in
     record {
       kept = subst (AreKept frame) (sym c.reset_records.ensures) (fresh-kept frame valid.frame valid.columns).1;
       by_height = subst (λ (records : Records). AreByHeight frame records c.reset_by_height.new.by_height.items) (sym c.reset_records.ensures) c.reset_by_height.ensures.by_height;
@@ -60,9 +61,12 @@ invariant_of-self c =
 pub returns : goal.returns
 returns c =
     let frame = c.self.inside.frame in
-    let valid = c.self.invariant.kept.valid in
+    let valid = (witnesses c.self.invariant.kept).valid in
     record {
       cleared = made c ∙ ap (λ (s : AtlasState). fresh s.frame) c.self.view_is;
       empty = ap allocations (made c) ∙ fresh-allocated frame;
       promises = subst KeepsPromises (sym (made c)) (promises (fresh frame) (fresh-valid frame valid.frame valid.columns));
     }
+
+pub reset_by_height-requires-clause-frame : goal.reset_by_height-requires-clause-frame
+reset_by_height-requires-clause-frame c = (witnesses c.self.invariant.kept).valid.frame

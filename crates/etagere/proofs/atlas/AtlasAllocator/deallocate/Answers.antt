@@ -16,6 +16,7 @@ use Rattle.shelf_store.proofs.Recorded.RecordedReturn.{AfterReturn, after-return
 use Rattle.shelf_records.proofs.Recorded.RecordsOfIds.{kept-allocated, kept-shelf, marked-within, record-marked}
 use Rattle.shelf_model.proofs.Returned.Restored.{returned-restores}
 use Rattle.shelf_store.proofs.Spelled.ReturnedLengths.{returned-lengths}
+use Rattle.shelf_records.proofs.Spelled.StandsKept.{witnesses}
 use Rattle.etagere.proofs.atlas.AtlasAllocator.deallocate.Goals as goal
 use Rattle.etagere.proofs.atlas.AtlasAllocator.deallocate.Goals.{After-return_item}
 
@@ -26,7 +27,7 @@ returns-in_default-clause-unknown c =
     (λ _. subst (λ (state : AtlasState). is_allocated state c.args.id ≡ false) c.self.view_is not_allocated, λ _. refl)
 
 pub returns-in_default-clause-promises : goal.returns-in_default-clause-promises
-returns-in_default-clause-promises c = subst KeepsPromises c.self.view_is (promises (state_in c.self.inside) c.self.invariant.kept.valid)
+returns-in_default-clause-promises c = subst KeepsPromises c.self.view_is (promises (state_in c.self.inside) (witnesses c.self.invariant.kept).valid)
 
 pub recorded_shelf-shelf-requires : goal.recorded_shelf-shelf-requires
 recorded_shelf-shelf-requires c =

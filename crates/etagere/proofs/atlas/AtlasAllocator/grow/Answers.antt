@@ -23,6 +23,7 @@ use Rattle.shelf_store.proofs.Grown.InsertedShelves.{inserts}
 use Rattle.shelf_store.proofs.Grown.WidenedRecords.{widens}
 use Rattle.shelf_model.proofs.Grown.GrownFrames.{size-fits}
 use Rattle.shelf_model.proofs.Promises.{promises}
+use Rattle.shelf_records.proofs.Spelled.StandsKept.{witnesses}
 use Rattle.etagere.proofs.atlas.AtlasAllocator.grow.Goals as goal
 
 -- nothing is said of no fault
@@ -46,13 +47,13 @@ grows-inside : (inside : Inside) (size : Size) (grown : Frame) (needed : Needed)
     → GrowsAtlas inside.frame size inside.records grown needed
 grows-inside inside size grown needed keeps none is_grown is_needed few =
     grows-atlas (grows-kept widens (heightens inserts) appends) inside.frame size inside.records grown needed keeps.kept none is_grown is_needed
-    (omega (arith, few, keeps.counted, keeps.kept.valid.peak_items))
+    (omega (arith, few, keeps.counted, (witnesses keeps.kept).valid.peak_items))
 
 pub returns-in-Some-clause-promises : goal.returns-in-Some-clause-promises
-returns-in-Some-clause-promises c = subst KeepsPromises c.self.view_is (promises (state_in c.self.inside) c.self.invariant.kept.valid)
+returns-in-Some-clause-promises c = subst KeepsPromises c.self.view_is (promises (state_in c.self.inside) (witnesses c.self.invariant.kept).valid)
 
 pub grown_frame-grown-requires-clause-frame : goal.grown_frame-grown-requires-clause-frame
-grown_frame-grown-requires-clause-frame c = c.self.invariant.kept.valid.frame
+grown_frame-grown-requires-clause-frame c = (witnesses c.self.invariant.kept).valid.frame
 
 pub grown_frame-grown-requires-clause-wider : goal.grown_frame-grown-requires-clause-wider
 grown_frame-grown-requires-clause-wider c =
@@ -65,7 +66,7 @@ grown_frame-grown-requires-clause-taller c =
 pub needed_for-needed-requires-clause-columns : goal.needed_for-needed-requires-clause-columns
 needed_for-needed-requires-clause-columns c =
     let inside = c.self.inside in
-    columns-grow inside.frame c.args.size c.grown_frame-grown.result c.self.invariant.kept.valid.frame (sym c.size_fault.ensures ∙ c.in_default.is) c.grown_frame-grown.ensures
+    columns-grow inside.frame c.args.size c.grown_frame-grown.result (witnesses c.self.invariant.kept).valid.frame (sym c.size_fault.ensures ∙ c.in_default.is) c.grown_frame-grown.ensures
 
 pub returns-then-needed-self-clause-memory : goal.returns-then-needed-self-clause-memory
 returns-then-needed-self-clause-memory c none =
@@ -77,7 +78,7 @@ returns-then-needed-self-clause-memory c none =
     (subst (λ (state : AtlasState). grow_fault state c.args.size ≡ None) (sym c.self.view_is) none))
 
 pub returns-then-needed-self-clause-promises : goal.returns-then-needed-self-clause-promises
-returns-then-needed-self-clause-promises c = subst KeepsPromises c.self.view_is (promises (state_in c.self.inside) c.self.invariant.kept.valid)
+returns-then-needed-self-clause-promises c = subst KeepsPromises c.self.view_is (promises (state_in c.self.inside) (witnesses c.self.invariant.kept).valid)
 
 -- what the growth comes to, where it is begun
 begun : (c : goal.After-grown-2-1)
@@ -133,7 +134,7 @@ returns-then-is_err-clause-memory c none =
 pub returns-then-is_err-clause-promises : goal.returns-then-is_err-clause-promises
 returns-then-is_err-clause-promises c =
     let inside = c.self.inside in
-    subst (λ (r : Records). KeepsPromises (state_of inside.frame r)) (sym (same_records c)) (promises (state_in inside) c.self.invariant.kept.valid)
+    subst (λ (r : Records). KeepsPromises (state_of inside.frame r)) (sym (same_records c)) (promises (state_in inside) (witnesses c.self.invariant.kept).valid)
 
 -- what it has come to
 done : (c : goal.After-self-2-1)
@@ -178,4 +179,13 @@ pub returns-clause-promises : goal.returns-clause-promises
 returns-clause-promises c =
     let grown = c.grown_frame-grown.result in
     subst (λ (r : Records). KeepsPromises (state_of grown r)) (grown_records c)
-    (promises (state_of grown (records_grown c.self.inside.frame grown c.needed_for-needed.result c.self.inside.records).records) (done c).kept.valid)
+    (promises (state_of grown (records_grown c.self.inside.frame grown c.needed_for-needed.result c.self.inside.records).records) (witnesses (done c).kept).valid)
+
+pub needed_for-needed-requires-clause-few : goal.needed_for-needed-requires-clause-few
+needed_for-needed-requires-clause-few c = (witnesses c.self.invariant.kept).counts.shelves.1
+
+pub overflow_sub-self-inside : goal.overflow_sub-self-inside
+overflow_sub-self-inside c = omega (arith, c.self.invariant.counted, (witnesses c.self.invariant.kept).valid.peak_items)
+
+pub grow_shelves-done-requires-clause-frame : goal.grow_shelves-done-requires-clause-frame
+grow_shelves-done-requires-clause-frame c = (witnesses c.self.invariant.kept).valid.frame

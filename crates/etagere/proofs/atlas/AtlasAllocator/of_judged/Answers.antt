@@ -9,6 +9,7 @@ use Rattle.shelf_records.specs.Private.Kept.{AreKept}
 use Rattle.shelf_model.specs.Space.{space_in}
 use Rattle.shelf_model.specs.State.{items_in_use}
 use Rattle.shelf_model.proofs.Promises.{promises}
+use Rattle.shelf_records.proofs.Spelled.StandsKept.{witnesses}
 use Rattle.etagere.proofs.atlas.AtlasAllocator.of_judged.Goals as goal
 
 pub invariant_of-result : goal.invariant_of-result
@@ -28,4 +29,4 @@ invariant_of-result c =
 pub returns-clause-promises : goal.returns-clause-promises
 returns-clause-promises c =
     subst (λ (atlas : AtlasRecords). KeepsPromises (state_spelled atlas)) (sym c.atlas.view_is)
-    (promises (state_spelled c.args.atlas) c.requires.kept.valid)
+    (promises (state_spelled c.args.atlas) (witnesses c.requires.kept).valid)
