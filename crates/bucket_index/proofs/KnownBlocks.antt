@@ -10,7 +10,8 @@ use Rattle.bucketed_records.specs.declared.records.KeptShelf.{KeptShelf}
 use Rattle.bucketed_records.specs.Private.Store.{is_kept_idle}
 use Rattle.bucket_index.specs.declared.blocks.Block.{Block}
 use Rattle.bucket_index.specs.declared.blocks.Blocks.{Blocks}
-use Rattle.bucket_index.specs.Private.Blocks.{AreFirstKnown, AreKnown, AreKnownOf, AreKnownWhere, AreOthersKnown, IsKnown, IsKnownAt, IsKnownOf, IsPart, block_of, joined, may_be_idle, may_give, raised, with_shelf}
+use Rattle.bucket_index.specs.declared.blocks.Others.{Others}
+use Rattle.bucket_index.specs.Private.Blocks.{AreBeside, AreFirstKnown, AreKnown, AreKnownOf, AreKnownWhere, AreOthersKnown, AreOthersOf, IsKnown, IsKnownAt, IsKnownOf, IsPart, block_of, joined, may_be_idle, may_give, raised, with_shelf}
 
 -- a shelf is known to a block that was counted with it
 pub known-own : (kept : KeptShelf) (block : Block) → IsKnown kept (with_shelf kept block)
@@ -179,25 +180,52 @@ carry-known Before After blocks xs ys carried before = record {
         let is = carried number kept after at in
         is.known block (known number is.was block is.such is.there in_block)
 
+-- what is known of the blocks of a shelf by others is known of them by other ones
+carry-others : (others : Others) (xs ys : List KeptShelf)
+    → ((number : ℕ) (kept : KeptShelf) → (number ≡ others.number → ⊥) → slice_get ys number ≡ Some kept → IsCarried (λ n. n ≡ others.number → ⊥) xs number kept) → AreBeside others xs → AreBeside others ys
+carry-others others xs ys carried before = record {
+  small = of_size 8 others.small before.small;
+  middle = of_size 64 others.middle before.middle;
+  large = of_size 512 others.large before.large;
+}
+  where
+    of_size : (size : ℕ) (block : Block) → AreOthersOf size others.number block xs → AreOthersOf size others.number block ys
+    of_size size block known number kept other same at =
+        let is = carried number kept other at in
+        is.known block (known number is.was is.such same is.there)
+
+-- all that is known of shelves is known of others
+carry-all : (blocks : Blocks) (xs ys : List KeptShelf) → ((IsSuch : ℕ → Type 0) (number : ℕ) (kept : KeptShelf) → IsSuch number → slice_get ys number ≡ Some kept → IsCarried IsSuch xs number kept)
+    → AreKnown blocks xs → AreKnown blocks ys
+carry-all blocks xs ys carried known = record {
+  each = carry-known (λ n. Unit {0}) (λ n. Unit {0}) blocks xs ys (carried (λ n. Unit {0})) known.each;
+  others = λ some. carry-others blocks.others xs ys (carried (λ n. n ≡ blocks.others.number → ⊥)) (known.others some);
+}
+
 -- each shelf is known where all are of the first so many, of which there are no more
-pub all-known : (count : ℕ) (blocks : Blocks) (shelves : List KeptShelf) → length shelves ≤ count → AreFirstKnown count blocks shelves → AreKnown blocks shelves
+pub all-known : (count : ℕ) (blocks : Blocks) (shelves : List KeptShelf) → length shelves ≤ count → AreFirstKnown count blocks shelves → AreKnownWhere (λ n. Unit {0}) blocks shelves
 all-known count blocks shelves all known =
     carry-known (λ n. n < count) (λ n. Unit {0}) blocks shelves shelves
     (λ number kept any at. record { was = kept; such = omega (arith, all, slice_get_within shelves number kept at); there = at; known = λ block is. is }) known
 
 -- where one shelf changed the others are known
 pub known-others : (k : ℕ) (change : KeptShelf → KeptShelf) (blocks : Blocks) (shelves : List KeptShelf) → AreKnown blocks shelves → AreOthersKnown k blocks (changed_by (Some k) change shelves)
-known-others k change blocks shelves known =
-    carry-known (λ number. Unit {0}) (λ number. number ≡ k → ⊥) blocks shelves (changed_by (Some k) change shelves)
-    (λ number kept other at. record {
-      was = kept;
-      such = tt;
-      there = sym (get-changed_by-other change shelves (Some k) number (λ (h : Some k ≡ Some number). other (inner number h))) ∙ at;
-      known = λ block is. is;
-    }) known
+known-others k change blocks shelves known = record {
+  each = carry-known (λ number. Unit {0}) (λ number. number ≡ k → ⊥) blocks shelves (changed_by (Some k) change shelves) (λ number kept other at. unchanged (λ n. Unit {0}) number kept tt other at) known.each;
+  others = λ same some. carry-others blocks.others shelves (changed_by (Some k) change shelves)
+      (λ number kept other at. unchanged (λ n. n ≡ blocks.others.number → ⊥) number kept other (λ is. other (is ∙ sym same)) at) (known.others some);
+}
   where
     inner : (number : ℕ) → Some k ≡ Some number → number ≡ k
     inner number h = cc
+
+    unchanged : (IsSuch : ℕ → Type 0) (number : ℕ) (kept : KeptShelf) → IsSuch number → (number ≡ k → ⊥) → slice_get (changed_by (Some k) change shelves) number ≡ Some kept → IsCarried IsSuch shelves number kept
+    unchanged IsSuch number kept such other at = record {
+      was = kept;
+      such = such;
+      there = sym (get-changed_by-other change shelves (Some k) number (λ (h : Some k ≡ Some number). other (inner number h))) ∙ at;
+      known = λ block is. is;
+    }
 
 -- an element before the last one
 before-last : {X : Type 0} (xs : List X) (x y : X) (n : ℕ) → (n ≡ length xs → ⊥) → slice_get (xs ++ x ∷ []) n ≡ Some y → slice_get xs n ≡ Some y
@@ -208,9 +236,14 @@ before-last (z ∷ xs) x y (suc n) other at = before-last xs x y n (λ e. other 
 
 -- where a shelf was added the others are known
 known-added : (one : KeptShelf) (blocks : Blocks) (shelves : List KeptShelf) → AreKnown blocks shelves → AreOthersKnown (length shelves) blocks (shelves ++ one ∷ [])
-known-added one blocks shelves known =
-    carry-known (λ number. Unit {0}) (λ number. number ≡ length shelves → ⊥) blocks shelves (shelves ++ one ∷ [])
-    (λ number kept other at. record { was = kept; such = tt; there = before-last shelves one kept number other at; known = λ block is. is }) known
+known-added one blocks shelves known = record {
+  each = carry-known (λ number. Unit {0}) (λ number. number ≡ length shelves → ⊥) blocks shelves (shelves ++ one ∷ []) (λ number kept other at. stood (λ n. Unit {0}) number kept tt other at) known.each;
+  others = λ same some. carry-others blocks.others shelves (shelves ++ one ∷ [])
+      (λ number kept other at. stood (λ n. n ≡ blocks.others.number → ⊥) number kept other (λ is. other (is ∙ sym same)) at) (known.others some);
+}
+  where
+    stood : (IsSuch : ℕ → Type 0) (number : ℕ) (kept : KeptShelf) → IsSuch number → (number ≡ length shelves → ⊥) → slice_get (shelves ++ one ∷ []) number ≡ Some kept → IsCarried IsSuch shelves number kept
+    stood IsSuch number kept such other at = record { was = kept; such = such; there = before-last shelves one kept number other at; known = λ block is. is }
 
 -- the same by the shelves after a push that went well
 pub known-last : (one : KeptShelf) (blocks : Blocks) (shelves all : List KeptShelf) (pushes : Bool) → pushes ≡ true → all ≡ cond pushes (shelves ++ one ∷ []) shelves
@@ -234,7 +267,7 @@ some-taken (suc count) (x ∷ shelves) (suc number) kept at = some-taken count s
 -- some of known shelves are known
 pub known-some : (blocks : Blocks) (all shelves : List KeptShelf) → AreSome all shelves → AreKnown blocks all → AreKnown blocks shelves
 known-some blocks all shelves some known =
-    carry-known (λ number. Unit {0}) (λ number. Unit {0}) blocks all shelves (λ number kept any at. record { was = kept; such = tt; there = some number kept at; known = λ block is. is }) known
+    carry-all blocks all shelves (λ IsSuch number kept such at. record { was = kept; such = such; there = some number kept at; known = λ block is. is }) known
 
 -- what a block knows of a shelf
 abbrev pub known_of : KeptShelf → List ℕ
@@ -263,10 +296,10 @@ same-at (x ∷ xs) (z ∷ ys) (suc n) y same at found =
 -- shelves of which the same is known
 pub known-same : (blocks : Blocks) (xs ys : List KeptShelf) → map known_of ys ≡ map known_of xs → AreKnown blocks xs → AreKnown blocks ys
 known-same blocks xs ys same known =
-    carry-known (λ number. Unit {0}) (λ number. Unit {0}) blocks xs ys
-    (λ number kept any at. same-at xs ys number kept same at (λ x was room live. record {
+    carry-all blocks xs ys
+    (λ IsSuch number kept such at. same-at xs ys number kept same at (λ x was room live. record {
       was = x;
-      such = tt;
+      such = such;
       there = was;
       known = λ block is. record { room = omega (arith, is.room, room); idle = λ idle. is.idle (ap (λ (n : ℕ). n == 0) (sym live) ∙ idle) };
     })) known
@@ -274,14 +307,14 @@ known-same blocks xs ys same known =
 -- a shelf is known to its blocks where all are known
 pub known-at : (k : ℕ) (before : KeptShelf) (blocks : Blocks) (shelves : List KeptShelf) → slice_get shelves k ≡ Some before → AreKnown blocks shelves → IsKnownAt k before blocks
 known-at k before blocks shelves at known = record {
-  small = λ block stood. known.small k before block tt at stood;
-  middle = λ block stood. known.middle k before block tt at stood;
-  large = λ block stood. known.large k before block tt at stood;
+  small = λ block stood. known.each.small k before block tt at stood;
+  middle = λ block stood. known.each.middle k before block tt at stood;
+  large = λ block stood. known.each.large k before block tt at stood;
 }
 
 -- a busy shelf with no more room than it had is known where it was, and all are where the others are
-pub known-stays : (k : ℕ) (before one : KeptShelf) (blocks : Blocks) (shelves : List KeptShelf) → slice_get shelves k ≡ Some one → one.widest_room ≤ before.widest_room → is_kept_idle one ≡ false → IsKnownAt k before blocks → AreOthersKnown k blocks shelves
-    → AreKnown blocks shelves
+pub known-stays : (k : ℕ) (before one : KeptShelf) (blocks : Blocks) (shelves : List KeptShelf) → slice_get shelves k ≡ Some one → one.widest_room ≤ before.widest_room → is_kept_idle one ≡ false → IsKnownAt k before blocks
+    → AreKnownWhere (λ number. number ≡ k → ⊥) blocks shelves → AreKnownWhere (λ number. Unit {0}) blocks shelves
 known-stays k before one blocks shelves here narrow busy own others = record {
   small = of_size 8 blocks.small own.small others.small;
   middle = of_size 64 blocks.middle own.middle others.middle;

@@ -3,8 +3,9 @@
 //!
 //! Definitions: `Private/Blocks`. What is known of a block may be too much, never too little.
 
-ghost use Rattle.std.specs.Prelude.{◌≡◌, ◌+◌, ◌-◌, ◌*◌, ◌<◌, ◌≤◌, ◌^◌, Some, [], false, length, slice_get};
+ghost use Rattle.std.specs.Prelude.{IsTrue, ◌≡◌, ◌+◌, ◌-◌, ◌*◌, ◌<◌, ◌≤◌, ◌^◌, Some, [], false, length, slice_get};
 ghost use Rattle.etagere_links.specs.Edits.{changed_by};
+ghost use Rattle.bucketed_records.specs.Private.Store.{is_kept_idle};
 ghost use Rattle.bucket_index.specs.Private.Blocks as spec;
 
 use bucketed_records::records::KeptShelf;
@@ -30,6 +31,9 @@ const MOST_MIDDLE: usize = 64;
 /// Of how many large blocks.
 const MOST_LARGE: usize = 8;
 
+/// How many shelves there are at most.
+const MOST_SHELVES: usize = 4096;
+
 /// What is known of the shelves of a block.
 #[derive(Clone, Copy)]
 pub struct Block {
@@ -45,9 +49,32 @@ const NO_SHELVES: Block = Block {
     has_idle: false,
 };
 
+/// What is known of the blocks of a shelf by the others that stand there.
+#[derive(Clone, Copy)]
+pub struct Others {
+    /// The number of the shelf; 4096 where nothing is known.
+    pub number: usize,
+    /// How much room it had when that was known.
+    pub room: u16,
+    pub small: Block,
+    pub middle: Block,
+    pub large: Block,
+}
+
+/// Nothing is known of others.
+const NO_OTHERS: Others = Others {
+    number: MOST_SHELVES,
+    room: 0,
+    small: NO_SHELVES,
+    middle: NO_SHELVES,
+    large: NO_SHELVES,
+};
+
 /// The blocks of the shelves of an atlas, in three sizes.
 #[derive(Clone, Copy)]
 pub struct Blocks {
+    /// Those of the shelf that was raised last, so that it is lowered again without a recount.
+    pub others: Others,
     pub small: [Block; MOST_SMALL],
     pub middle: [Block; MOST_MIDDLE],
     pub large: [Block; MOST_LARGE],
@@ -61,6 +88,14 @@ fn with_shelf(block: Block, kept: &KeptShelf) -> Block
         widest_room: block.widest_room.max(kept.widest_room),
         has_idle: block.has_idle || kept.is_idle(),
     }
+}
+
+/// Whether a shelf is known wherever the one that it was before is: it has no more room, and holds something live.
+fn stays_known(before: &KeptShelf, kept: &KeptShelf) -> bool
+    ensures { IsTrue result → (kept.now.widest_room ≤ before.now.widest_room)
+        × (is_kept_idle kept.now ≡ false) }
+{
+    kept.widest_room <= before.widest_room && !kept.is_idle()
 }
 
 /// What is known of two blocks together.
@@ -117,6 +152,17 @@ fn may_be_idle(blocks: &[Block], number: usize) -> bool
     number >= blocks.len() || blocks[number].has_idle
 }
 
+/// What is known of the block of a number.
+fn block_at(blocks: &[Block], number: usize) -> Block
+    ensures { result ≡ spec.block_at blocks.now number }
+{
+    if number < blocks.len() {
+        blocks[number]
+    } else {
+        NO_SHELVES
+    }
+}
+
 /// Knows a shelf beside the others in the block of a number.
 fn raise_block(blocks: &mut [Block], number: usize, kept: &KeptShelf)
     ensures { blocks.new ≡ changed_by (Some number) (spec.with_shelf kept.now) blocks.old }
@@ -168,9 +214,11 @@ fn behind_narrow_small(blocks: &[Block], shelf: usize, width: u32) -> usize
 impl Blocks {
     /// Those of no shelves.
     pub fn new() -> Blocks
-        ensures { spec.AreKnown result [] }
+        ensures known { spec.AreKnown result [] }
+        ensures none { result.others.number ≡ 4096 }
     {
         Blocks {
+            others: NO_OTHERS,
             small: [NO_SHELVES; MOST_SMALL],
             middle: [NO_SHELVES; MOST_MIDDLE],
             large: [NO_SHELVES; MOST_LARGE],
@@ -237,6 +285,66 @@ impl Blocks {
         raise_block(&mut self.large, number / SHELVES_OF_LARGE, kept);
     }
 
+    /// Keeps the blocks of the shelf of a number, which had this room, as they are known by the others, unless those were
+    /// kept last.
+    fn remember(&mut self, number: usize, room: u16)
+        ensures { self.new ≡ spec.remembered number room self.old }
+    {
+        if number != self.others.number {
+            self.others = Others {
+                number,
+                room,
+                small: block_at(&self.small, number / SHELVES_OF_BLOCK),
+                middle: block_at(&self.middle, number / SHELVES_OF_MIDDLE),
+                large: block_at(&self.large, number / SHELVES_OF_LARGE),
+            };
+        }
+    }
+
+    /// Knows the shelf of a number, which had this room and may have more, or hold nothing live any more.
+    fn raise_beside(&mut self, shelves: &[KeptShelf], number: usize, room: u16)
+        requires within { number < length shelves.now }
+        requires others { spec.AreOthersKnown number self.old shelves.now }
+        ensures { spec.AreKnown self.new shelves.now }
+    {
+        self.remember(number, room);
+        self.raise(number, &shelves[number]);
+    }
+
+    /// Whether the blocks of the shelf of a number, which has this room now, are known by the others.
+    fn knows_others(&self, number: usize, room: u16) -> bool
+        ensures { IsTrue result → (self.now.others.number ≡ number) × (number < 4096) }
+    {
+        number == self.others.number && number < MOST_SHELVES && self.others.room <= room
+    }
+
+    /// Knows the blocks of the shelf of a number by the others and it.
+    fn lower_again(&mut self, number: usize, kept: &KeptShelf)
+        ensures { self.new ≡ spec.lowered number kept.now self.old }
+    {
+        let others = self.others;
+        let small = with_shelf(others.small, kept);
+        let middle = with_shelf(others.middle, kept);
+        let large = with_shelf(others.large, kept);
+        set_block(&mut self.small, number / SHELVES_OF_BLOCK, small);
+        set_block(&mut self.middle, number / SHELVES_OF_MIDDLE, middle);
+        set_block(&mut self.large, number / SHELVES_OF_LARGE, large);
+    }
+
+    /// Knows the shelf of a number, which may have less room, or hold something live now.
+    fn lower(&mut self, shelves: &[KeptShelf], number: usize)
+        requires within { number < length shelves.now }
+        requires others { spec.AreOthersKnown number self.old shelves.now }
+        ensures { spec.AreKnown self.new shelves.now }
+    {
+        let kept = &shelves[number];
+        if self.knows_others(number, kept.widest_room) {
+            self.lower_again(number, kept);
+        } else {
+            self.recount(shelves, number);
+        }
+    }
+
     /// Knows the blocks of the shelf of a number anew.
     #[inline(never)]
     fn recount(&mut self, shelves: &[KeptShelf], number: usize)
@@ -244,6 +352,7 @@ impl Blocks {
         requires others { spec.AreOthersKnown number self.old shelves.now }
         ensures { spec.AreKnown self.new shelves.now }
     {
+        self.others.number = MOST_SHELVES;
         let small = number / SHELVES_OF_BLOCK;
         let middle = number / SHELVES_OF_MIDDLE;
         let large = number / SHELVES_OF_LARGE;
@@ -260,6 +369,15 @@ impl Blocks {
         set_block(&mut self.large, large, fresh_large);
     }
 
+    /// Forgets what is known by others than the shelf of a number.
+    fn forget_others(&mut self, number: usize)
+        ensures { self.new ≡ spec.forgotten number self.old }
+    {
+        if number != self.others.number {
+            self.others.number = MOST_SHELVES;
+        }
+    }
+
     /// Knows the shelf of a number, which was this one before. Its blocks are looked at where more is to be known of it
     /// now, or less may be.
     #[inline(always)]
@@ -274,9 +392,11 @@ impl Blocks {
         let narrows = kept.widest_room < before.widest_room
             && !may_give(&self.small, number / SHELVES_OF_BLOCK, wider);
         if narrows || before.is_idle() && !kept.is_idle() {
-            self.recount(shelves, number);
-        } else if before.widest_room < kept.widest_room || kept.is_idle() {
-            self.raise(number, kept);
+            self.lower(shelves, number);
+        } else if stays_known(before, kept) {
+            self.forget_others(number);
+        } else {
+            self.raise_beside(shelves, number, before.widest_room);
         }
     }
 
@@ -286,7 +406,6 @@ impl Blocks {
         requires others { spec.AreOthersKnown (length shelves.now - 1) self.old shelves.now }
         ensures { spec.AreKnown self.new shelves.now }
     {
-        let number = shelves.len() - 1;
-        self.raise(number, &shelves[number]);
+        self.raise_beside(shelves, shelves.len() - 1, 0);
     }
 }

@@ -1,12 +1,13 @@
 -- What is known of neighbouring shelves together.
 pub use Rattle.std.specs.Prelude.{ℕ}
-use Rattle.std.specs.Prelude.{◌≡◌, ◌<◌, ◌≤◌, ◌+◌, ◌*◌, ◌/◌, max, Bool, true, false, ◌||◌, Some, List, slice_get, nat_le}
+use Rattle.std.specs.Prelude.{◌≡◌, ◌<◌, ◌≤◌, ◌+◌, ◌*◌, ◌/◌, ◌==◌, cond, get_or, max, Bool, true, false, ◌||◌, Some, List, slice_get, nat_le}
 use Rattle.std.specs.Option.{option_map_or}
 use Rattle.etagere_links.specs.Edits.{changed_by}
 use Rattle.bucketed_records.specs.Private.Store.{is_kept_idle}
 pub use Rattle.bucketed_records.specs.declared.records.KeptShelf.{KeptShelf}
 pub use Rattle.bucket_index.specs.declared.blocks.Block.{Block}
 use Rattle.bucket_index.specs.declared.blocks.Blocks.{Blocks}
+pub use Rattle.bucket_index.specs.declared.blocks.Others.{Others}
 
 abbrev pub Shelves : Type 0
 Shelves = List KeptShelf
@@ -69,23 +70,92 @@ pub record AreKnownWhere (IsSuch : ℕ → Type 0) (blocks : Blocks) (shelves : 
 -- what is known with the shelf of a number beside the others
 abbrev pub raised : ℕ → KeptShelf → Blocks → Blocks
 raised number kept blocks =
-    record {
+    record blocks {
       small = changed_by (Some (block_of 8 number)) (with_shelf kept) blocks.small;
       middle = changed_by (Some (block_of 64 number)) (with_shelf kept) blocks.middle;
       large = changed_by (Some (block_of 512 number)) (with_shelf kept) blocks.large;
     }
 
+-- what is known of a block by the shelves that are not there
+abbrev pub no_shelves : Block
+no_shelves = record { widest_room = 0; has_idle = false }
+
+-- what is known of the block of a number
+abbrev pub block_at : List Block → ℕ → Block
+block_at blocks number = get_or blocks number no_shelves
+
+-- nothing is known of others
+abbrev pub no_others : Others → Others
+no_others others = record others { number = 4096 }
+
+-- the blocks of a shelf that had this room, as they stand
+abbrev pub remembered_others : ℕ → ℕ → Blocks → Others
+remembered_others number room blocks =
+    record {
+      number = number;
+      room = room;
+      small = block_at blocks.small (block_of 8 number);
+      middle = block_at blocks.middle (block_of 64 number);
+      large = block_at blocks.large (block_of 512 number);
+    }
+
+-- the blocks of a shelf that had this room are kept as they stand, unless its blocks were kept last
+abbrev pub remembered : ℕ → ℕ → Blocks → Blocks
+remembered number room blocks =
+    record blocks {
+      others =
+          cond (number == blocks.others.number) blocks.others (remembered_others number room blocks);
+    }
+
+-- what is known of the blocks of a shelf by the others and it
+abbrev pub lowered : ℕ → KeptShelf → Blocks → Blocks
+lowered number kept blocks =
+    record blocks {
+      small =
+          changed_by (Some (block_of 8 number)) (λ _. with_shelf kept blocks.others.small) blocks.small;
+      middle =
+          changed_by (Some (block_of 64 number)) (λ _. with_shelf kept blocks.others.middle)
+          blocks.middle;
+      large =
+          changed_by (Some (block_of 512 number)) (λ _. with_shelf kept blocks.others.large)
+          blocks.large;
+    }
+
+-- what is known by others than this shelf is forgotten
+abbrev pub forgotten : ℕ → Blocks → Blocks
+forgotten number blocks =
+    record blocks { others = cond (number == blocks.others.number) blocks.others (no_others blocks.others) }
+
 -- the number of the first shelf behind the block of one
 abbrev pub end_of : ℕ → ℕ → ℕ
 end_of size shelf = block_of size shelf * size + size
 
--- each of these shelves is known to its blocks
-abbrev pub AreKnown : Blocks → List KeptShelf → Type 0
-AreKnown blocks shelves = AreKnownWhere (λ number. Unit {0}) blocks shelves
+-- each other shelf of the block of this size in which one stands is known to what is kept of it
+abbrev pub AreOthersOf : ℕ → ℕ → Block → List KeptShelf → Type 0
+AreOthersOf size one block shelves =
+    (number : ℕ) (kept : KeptShelf) → (number ≡ one → ⊥)
+    → block_of size number ≡ block_of size one
+    → slice_get shelves number ≡ Some kept → IsKnown kept block
 
--- each of these shelves but the one of a number is known to its blocks
-abbrev pub AreOthersKnown : ℕ → Blocks → List KeptShelf → Type 0
-AreOthersKnown one blocks shelves = AreKnownWhere (λ number. number ≡ one → ⊥) blocks shelves
+-- the same of the blocks of each size
+pub record AreBeside (others : Others) (shelves : List KeptShelf) : Type 0 where
+  pub small : AreOthersOf 8 others.number others.small shelves
+  pub middle : AreOthersOf 64 others.number others.middle shelves
+  pub large : AreOthersOf 512 others.number others.large shelves
+
+-- the same where something is known of others
+abbrev pub AreOthers : Others → List KeptShelf → Type 0
+AreOthers others shelves = others.number < 4096 → AreBeside others shelves
+
+-- each of these shelves is known to its blocks, and what is known of others is right
+pub record AreKnown (blocks : Blocks) (shelves : List KeptShelf) : Type 0 where
+  pub each : AreKnownWhere (λ number. Unit {0}) blocks shelves
+  pub others : AreOthers blocks.others shelves
+
+-- the same where nothing is said of one shelf
+pub record AreOthersKnown (one : ℕ) (blocks : Blocks) (shelves : List KeptShelf) : Type 0 where
+  pub each : AreKnownWhere (λ number. number ≡ one → ⊥) blocks shelves
+  pub others : blocks.others.number ≡ one → AreOthers blocks.others shelves
 
 -- each of the first so many shelves is known to its blocks
 abbrev pub AreFirstKnown : ℕ → Blocks → List KeptShelf → Type 0

@@ -1,0 +1,13 @@
+use Rattle.std.proofs.Common.{length, refl}
+use Rattle.std.proofs.lemmas.Option.{slice_get_read}
+use Rattle.bucket_index.proofs.OtherShelves.{lower-known}
+use Rattle.bucket_index.proofs.blocks.Blocks.lower.Goals as goal
+
+pub returns-then-knows_others : goal.returns-then-knows_others
+returns-then-knows_others c =
+    let shelves = c.args.shelves.now in
+    let number = c.args.number in
+    let one = c.index-shelves-number.result in
+    let is = c.knows_others.ensures c.if-knows_others.true in
+    rw c.lower_again.ensures
+    (lower-known number one c.args.self.now shelves (slice_get_read shelves (length shelves) number one refl c.requires.within c.index-shelves-number.is) is.0 is.1 c.requires.others)
