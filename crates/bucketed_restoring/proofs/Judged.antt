@@ -4,6 +4,7 @@ pub mod Breaches
 pub mod Comparisons
 pub mod JudgedShelves
 pub mod LinksRead
+pub mod RefusedWalks
 pub mod RowPasses
 pub mod RowTests
 pub mod StackTests

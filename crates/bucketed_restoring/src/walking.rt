@@ -21,7 +21,7 @@ ghost use Rattle.bucketed_restoring.specs.RestoringSteps.{IsRead};
 use crate::judging::{Judged, are_unused, judged_row};
 use bucketed_records::records::{KeptShelf, LinkedBucket, LinkedBucketShelf};
 use etagere_base::{Frame, RestoreFault};
-use etagere_links::{Link, Walk, WalkRoom, all_marked, mark_all};
+use etagere_links::{Link, WalkFault, WalkRoom, all_marked, mark_onto, unmarked};
 use std::alloc::{AllocError, Global};
 
 /// The links of bucket records, in order of their numbers.
@@ -36,21 +36,33 @@ pub(crate) fn links_of(alloc: Global, buckets: &[LinkedBucket]) -> Result<Vec<u1
     Ok(links)
 }
 
-/// Follows the list from a link on, counts the steps and marks what it met.
-pub(crate) fn walk_list(
-    alloc: Global,
+/// What is wrong with a snapshot where a walk along one of its lists is refused.
+fn list_fault(fault: WalkFault) -> RestoreFault
+    ensures { result ≡ spec.list_fault fault }
+{
+    match fault {
+        WalkFault::OutOfRange => RestoreFault::Link,
+        WalkFault::Marked => RestoreFault::Sharing,
+        WalkFault::Circular => RestoreFault::Sharing,
+        WalkFault::Memory => RestoreFault::Memory,
+    }
+}
+
+/// Follows the list from a link on, counts the steps and marks what it met, which alone then stands in `met`.
+fn walk_list(
     room: &mut WalkRoom,
     links: &[u16],
     marks: &mut [bool],
+    met: &mut Vec<u16>,
     first: u16,
     steps: &mut u64,
-) -> Result<Walk, RestoreFault>
+) -> Result<(), RestoreFault>
     requires few { length links.now ≤ no_link }
     requires room { length links.now ≤ room.old }
     requires marks { length marks.old ≡ length links.now }
-    requires steps { steps.old + length links.now < 2 ^ 64 }
+    requires steps { steps.old < 2 ^ 32 }
     ensures room { room.new ≡ room.old }
-    ensures met { IfOk result (λ walked. walked.met.items ≡ (walk links.now first).met) }
+    ensures met { OnOk result (met.new.items ≡ (walk links.now first).met) }
     ensures end { OnOk result ((walk links.now first).end ≡ no_link) }
     ensures marked { OnOk result ((numbers : List ℕ) → IsMarkedBy marks.old numbers
         → IsMarkedBy marks.new (numbers ++ (walk links.now first).met)) }
@@ -61,28 +73,19 @@ pub(crate) fn walk_list(
         (spec.StopsAfter (steps.old + length (walk links.now first).met) steps.new) }
     ensures bound { steps.new ≤ steps.old + length links.now }
 {
-    let Ok(walked) = room.walk(alloc, links, first) else {
-        return Err(RestoreFault::Memory);
-    };
-    *steps += u64::from(walked.steps);
-    if walked.end != Link::none().bits() {
-        if usize::from(walked.end) < links.len() {
-            return Err(RestoreFault::Sharing);
-        }
-        return Err(RestoreFault::Link);
+    met.clear();
+    match mark_onto(room, marks, met, links, first, steps) {
+        Ok(()) => Ok(()),
+        Err(fault) => Err(list_fault(fault)),
     }
-    if !mark_all(marks, &walked.met) {
-        return Err(RestoreFault::Sharing);
-    }
-    Ok(walked)
 }
 
 /// Follows the list of the shelf of a number, and judges the shelf.
-pub(crate) fn judged_shelf(
-    alloc: Global,
+fn judged_shelf(
     room: &mut WalkRoom,
     links: &[u16],
     marks: &mut [bool],
+    met: &mut Vec<u16>,
     steps: &mut u64,
     frame: &Frame,
     buckets: &[LinkedBucket],
@@ -93,7 +96,7 @@ pub(crate) fn judged_shelf(
     requires buckets { length buckets.now ≤ most_buckets }
     requires room { length buckets.now ≤ room.old }
     requires marks { length marks.old ≡ length buckets.now }
-    requires steps { steps.old + length buckets.now < 2 ^ 64 }
+    requires steps { steps.old < 2 ^ 32 }
     requires alignment { 1 ≤ alignment_along frame.now }
     requires narrow { frame.now.column_width < 2 ^ 16 }
     requires along { shelf.now.x % frame.now.column_width ≡ 0 }
@@ -115,8 +118,8 @@ pub(crate) fn judged_shelf(
     ensures bound { steps.new ≤ steps.old + length buckets.now }
 {
     let first = shelf.first_bucket.bits();
-    let walked = walk_list(alloc, room, links, marks, first, steps)?;
-    judged_row(frame, buckets, shelf, number, &walked.met)
+    walk_list(room, links, marks, met, first, steps)?;
+    judged_row(frame, buckets, shelf, number, met)
 }
 
 /// What is kept of shelves, and the area that their buckets have used, in square pixels.
@@ -160,14 +163,15 @@ pub(crate) fn judged_shelves(
     ensures bound { steps.new ≤ 2 * length buckets.now }
 {
     let mut kept = Vec::new(alloc);
+    let mut met = Vec::new(alloc);
     let mut space: u64 = 0;
     for number in 0..shelves.len() {
         let shelf = &shelves[number];
         let told = judged_shelf(
-            alloc,
             room,
             links,
             marks,
+            &mut met,
             steps,
             frame,
             buckets,
@@ -199,7 +203,7 @@ fn judge_unused(
     requires buckets { length buckets.now ≤ most_buckets }
     requires room { length buckets.now ≤ room.old }
     requires marks { length marks.old ≡ length buckets.now }
-    requires steps { steps.old + length buckets.now < 2 ^ 64 }
+    requires steps { steps.old < 2 ^ 32 }
     ensures fits { OnOk result (LinkFits unused) }
     ensures ends { OnOk result ((bucket_walk buckets.now unused).end ≡ no_link) }
     ensures once { OnOk result ((numbers : List ℕ) → IsMarkedBy marks.old numbers
@@ -215,11 +219,12 @@ fn judge_unused(
     ensures bound { steps.new ≤ steps.old + length buckets.now }
 {
     let first = unused.bits();
-    let walked = walk_list(alloc, room, links, marks, first, steps)?;
+    let mut met = Vec::new(alloc);
+    walk_list(room, links, marks, &mut met, first, steps)?;
     if !all_marked(marks) {
         return Err(RestoreFault::Sharing);
     }
-    if !are_unused(buckets, &walked.met) {
+    if !are_unused(buckets, &met) {
         return Err(RestoreFault::Unused);
     }
     Ok(())
@@ -312,7 +317,7 @@ pub(crate) fn judged_lists(
     let Ok(mut room) = WalkRoom::new(alloc, buckets.len()) else {
         return Err(RestoreFault::Memory);
     };
-    let Ok(mut marks) = vec![in alloc; false; buckets.len()] else {
+    let Ok(mut marks) = unmarked(alloc, buckets.len()) else {
         return Err(RestoreFault::Memory);
     };
     judged_marking(
