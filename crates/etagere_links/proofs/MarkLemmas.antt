@@ -1,13 +1,12 @@
 -- Marks after one more record was marked, and what it means that one was marked before.
-use Rattle.std.proofs.Common.{◌≡◌, ◌≢◌, ℕ, zero, suc, ◌+◌, ◌<◌, ◌≤◌, Bool, true, false, List, [], ◌∷◌, ◌++◌, length, get_or, take, drop, refl, ap, arith, sym, subst, append_assoc, ◌∙◌}
+use Rattle.std.proofs.Common.{◌≡◌, ◌≢◌, ℕ, zero, suc, ◌<◌, ◌≤◌, Bool, true, false, List, [], ◌∷◌, ◌++◌, length, get_or, refl, ap, arith, sym, ◌∙◌}
 use Rattle.std.proofs.Math.ListN.{set}
-use Rattle.std.proofs.Math.Seq.{split_at}
-use Rattle.std.proofs.lemmas.List.{get_or-set_same, get_or-set_other, get_or_past, take_more}
+use Rattle.std.proofs.lemmas.List.{get_or-set_same, get_or-set_other, get_or_past}
 use Rattle.std.specs.Prelude.{◌==◌, ◌||◌, nat_lt, if◌then◌else◌}
 use Rattle.etagere_base.proofs.TimesLemmas.{times-append}
 use Rattle.std.specs.List.{AllByRecursion}
 use Rattle.etagere_base.specs.Lists.{times}
-use Rattle.etagere_links.specs.Marks.{HasTwice, IsMarkedBy}
+use Rattle.etagere_links.specs.Marks.{IsMarkedBy}
 use Rattle.etagere_links.proofs.ListEnds.{times-here, times-other}
 use Rattle.etagere_links.proofs.Tallies.{length-once}
 use Rattle.etagere_links.proofs.WalkSteps.{has}
@@ -37,24 +36,6 @@ marked-more marks numbers at within unmarked marked k = by_test (at == k) refl
         let stays : get_or (set marks at true) k false ≡ get_or marks k false = get_or-set_other marks at k true false other in
         let count : times k (numbers ++ at ∷ []) ≡ times k numbers = grind (arith, times-append k numbers (at ∷ []), times-other k at [] (λ e. other (sym e))) in
         rw stays (count ∙ marked k)
-
--- the same, where the one is the next of a list
-pub marked-next : (marks : List Bool) (numbers met : List ℕ) (i at : ℕ) → i < length met → at ≡ get_or met i 0
-    → at < length marks → get_or marks at false ≡ false
-    → IsMarkedBy marks (numbers ++ take i met) → IsMarkedBy (set marks at true) (numbers ++ take (i + 1) met)
-marked-next marks numbers met i at below is within unmarked marked =
-    let more : numbers ++ take (i + 1) met ≡ (numbers ++ take i met) ++ at ∷ [] =
-    ap (λ (xs : List ℕ). numbers ++ xs) (take_more met i 0 below ∙ ap (λ (n : ℕ). take i met ++ n ∷ []) (sym is)) ∙ sym (append_assoc numbers (take i met) (at ∷ [])) in
-    subst (IsMarkedBy (set marks at true)) (sym more) (marked-more marks (numbers ++ take i met) at within unmarked marked)
-
--- the next of a list, where it was marked, stands twice
-pub marked-twice : (marks : List Bool) (numbers met : List ℕ) (i at : ℕ) → i < length met → at ≡ get_or met i 0
-    → get_or marks at false ≡ true → IsMarkedBy marks (numbers ++ take i met) → HasTwice (numbers ++ met)
-marked-twice marks numbers met i at below is was marked =
-    let once : times at (numbers ++ take i met) ≡ 1 = marked at ∙ ap (λ (b : Bool). if b then 1 else 0) was in
-    let split : met ≡ take i met ++ at ∷ drop (suc i) met = split_at met i 0 below ∙ ap (λ (n : ℕ). take i met ++ n ∷ drop (suc i) met) (sym is) in
-    let count : times at met ≡ times at (take i met) + times at (at ∷ drop (suc i) met) = ap (times at) split ∙ times-append at (take i met) (at ∷ drop (suc i) met) in
-    (at, omega (arith, once, count, times-append at numbers (take i met), times-append at numbers met, times-here at (drop (suc i) met)))
 
 -- what is marked is no more than all
 pub marked-length : (marks : List Bool) (numbers : List ℕ) → IsMarkedBy marks numbers → length numbers ≤ length marks

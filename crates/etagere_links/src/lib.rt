@@ -17,6 +17,6 @@ pub use links::Link;
 pub use lists::{
     insert_after, insert_front, make_unused, next_bits, next_of, previous_of, take, unlink,
 };
-pub use marking::{WalkFault, all_marked, mark_all, mark_onto, unmarked, walk_marking};
+pub use marking::{WalkFault, all_marked, mark_onto, unmarked, walk_marking};
 pub use walking::walks::Walk;
 pub use walking::{WalkRoom, walk};

@@ -3,9 +3,8 @@
 //! Definitions: `Marks`, and `WalkFaults` for what a walk is refused for.
 
 ghost use Rattle.std.specs.Prelude.{◌≡◌, ℕ, ◌+◌, ◌^◌, ◌++◌, ◌<◌, ◌≤◌, false, List, [], IsTrue, IfOk, IfErr, OnOk, drop, length};
-ghost use Rattle.std.specs.List.{AllByRecursion};
 ghost use Rattle.etagere_links.specs.Links.{no_link};
-ghost use Rattle.etagere_links.specs.Marks.{HasTwice, IsMarkedBy};
+ghost use Rattle.etagere_links.specs.Marks.{IsMarkedBy};
 ghost use Rattle.etagere_links.specs.Lists.{HasEachOnce};
 ghost use Rattle.etagere_links.specs.Private.Marking.{IsMarkedAlong};
 ghost use Rattle.etagere_links.specs.WalkFaults.{BreaksOff, IsFirst, first_fault, links_by};
@@ -162,26 +161,6 @@ pub fn unmarked(alloc: Global, count: usize) -> Result<Vec<bool>, AllocError>
     ensures count { IfOk result (λ marks. length marks.items ≡ count) }
 {
     vec![in alloc; false; count]
-}
-
-/// Marks these records. Whether none of them was marked before, nor stands there twice.
-///
-/// The time is linear in the number of records to be marked.
-pub fn mark_all(marks: &mut [bool], met: &[u16]) -> bool
-    requires { AllByRecursion (λ number. number < length marks.old) met.now }
-    ensures marked { IsTrue result → (numbers : List ℕ) →
-        IsMarkedBy marks.old numbers → IsMarkedBy marks.new (numbers ++ met.now) }
-    ensures twice { result ≡ false → (numbers : List ℕ) →
-        IsMarkedBy marks.old numbers → HasTwice (numbers ++ met.now) }
-{
-    for number in met {
-        let at = usize::from(*number);
-        if marks[at] {
-            return false;
-        }
-        marks[at] = true;
-    }
-    true
 }
 
 /// Whether all records are marked. The time is linear in their number. No mark ends the loop, so many are read at once.
