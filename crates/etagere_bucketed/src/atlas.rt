@@ -248,14 +248,15 @@ impl BucketedAtlasAllocator {
             height: self.available_height,
             buckets: MOST_BUCKETS - self.buckets_in_use,
         };
-        let frame = self.frame;
-        let Some(place) = placement_of(&frame, &left, &sides, &self.store) else {
+        let Some(place) = placement_of(&self.frame, &left, &sides, &self.store) else {
             return Ok(None);
         };
-        let found = self.store.prepare(&frame, &place, self.buckets_in_use)?;
-        let allocation = self.store.allocation(&frame, &found, sides.along);
+        let found = self
+            .store
+            .prepare(&self.frame, &place, self.buckets_in_use)?;
+        let allocation = self.store.allocation(&self.frame, &found, sides.along);
         let area = self.store.take(&found, sides.along);
-        let end = self.store.end(&frame);
+        let end = self.store.end(&self.frame);
         self.current_column = end.along;
         self.available_height = end.across;
         self.buckets_in_use += place.needed_buckets();
