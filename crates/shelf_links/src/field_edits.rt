@@ -46,14 +46,22 @@ pub fn set_height(shelves: &mut [LinkedShelf], shelf: usize, height: u16)
     }
 }
 
-/// Says whether a shelf is empty.
-pub fn set_empty(shelves: &mut [LinkedShelf], shelf: usize, is_empty: bool)
+/// Changes the height of a shelf that is there.
+pub fn set_height_present(shelves: &mut [LinkedShelf], shelf: usize, height: u16)
+    requires { shelf < length shelves.old }
+    ensures { shelves.new ≡ edits.with_height shelf height shelves.old }
+{
+    let here = &mut shelves[shelf];
+    here.height = height;
+}
+
+/// Says whether a shelf is empty that is there.
+pub fn set_empty_present(shelves: &mut [LinkedShelf], shelf: usize, is_empty: bool)
+    requires { shelf < length shelves.old }
     ensures { shelves.new ≡ edits.with_empty shelf is_empty shelves.old }
 {
-    if shelf < shelves.len() {
-        let here = &mut shelves[shelf];
-        here.is_empty = is_empty;
-    }
+    let here = &mut shelves[shelf];
+    here.is_empty = is_empty;
 }
 
 /// Changes the width of an item.
@@ -167,6 +175,14 @@ pub fn write_item(items: &mut [LinkedItem], number: usize, item: LinkedItem)
     }
 }
 
+/// Writes the record of an item anew that is there.
+pub fn write_item_present(items: &mut [LinkedItem], number: usize, item: LinkedItem)
+    requires { number < length items.old }
+    ensures { items.new ≡ changed_by (Some number) (λ _. item) items.old }
+{
+    items[number] = item;
+}
+
 /// Writes the record of a shelf anew.
 pub fn write_shelf(shelves: &mut [LinkedShelf], number: usize, shelf: LinkedShelf)
     ensures { shelves.new ≡ changed_by (Some number) (λ _. shelf) shelves.old }
@@ -174,4 +190,12 @@ pub fn write_shelf(shelves: &mut [LinkedShelf], number: usize, shelf: LinkedShel
     if number < shelves.len() {
         shelves[number] = shelf;
     }
+}
+
+/// Writes the record of a shelf anew that is there.
+pub fn write_shelf_present(shelves: &mut [LinkedShelf], number: usize, shelf: LinkedShelf)
+    requires { number < length shelves.old }
+    ensures { shelves.new ≡ changed_by (Some number) (λ _. shelf) shelves.old }
+{
+    shelves[number] = shelf;
 }

@@ -4,7 +4,7 @@
 //! `RecordMaking` for the steps, `Neighbours` for what those ask that test no range. A step calls `lists`,
 //! `field_edits` or `uses` for each list or field that it changes.
 
-ghost use Rattle.std.specs.Prelude.{◌≡◌, ◌+◌, ◌<◌, ◌≤◌, true, [], length, IfOk, IfSome, OnOk, OnErr, if◌then◌else◌};
+ghost use Rattle.std.specs.Prelude.{◌≡◌, ◌+◌, ◌<◌, ◌≤◌, None, true, [], length, IfOk, IfSome, OnOk, OnErr, if◌then◌else◌};
 ghost use Rattle.etagere_links.specs.Links.{no_link};
 
 use crate::records::{LinkedItem, LinkedShelf};
@@ -228,25 +228,6 @@ impl Records {
         field_edits::set_first_free(&mut self.shelf_records, shelf, first);
     }
 
-    /// Makes the record of an item unused that stands in no list.
-    pub fn make_item_unused(&mut self, number: usize)
-        requires { number < no_link }
-        ensures { self.new ≡ edits.item_made_unused number self.old }
-    {
-        lists::make_unused::<Chain, LinkedItem>(
-            &mut self.item_records,
-            &mut self.unused_items,
-            number,
-        );
-    }
-
-    /// Takes a shelf out of the chain of shelves. Its own links stay.
-    pub fn unlink_shelf(&mut self, number: usize)
-        ensures { self.new ≡ edits.shelf_unlinked number self.old }
-    {
-        lists::unlink::<Chain, LinkedShelf>(&mut self.shelf_records, &mut self.first, number);
-    }
-
     /// Puts a shelf that stands in no list after another one.
     pub fn insert_shelf_after(&mut self, previous: usize, number: usize)
         requires previous { previous < no_link }
@@ -254,18 +235,6 @@ impl Records {
         ensures { self.new ≡ edits.shelf_inserted_after previous number self.old }
     {
         lists::insert_after::<Chain, LinkedShelf>(&mut self.shelf_records, previous, number);
-    }
-
-    /// Makes the record of a shelf unused that stands in no list.
-    pub fn make_shelf_unused(&mut self, number: usize)
-        requires { number < no_link }
-        ensures { self.new ≡ edits.shelf_made_unused number self.old }
-    {
-        lists::make_unused::<Chain, LinkedShelf>(
-            &mut self.shelf_records,
-            &mut self.unused_shelves,
-            number,
-        );
     }
 
     /// Changes the width of an item.
@@ -290,6 +259,14 @@ impl Records {
         field_edits::write_item(&mut self.item_records, number, item);
     }
 
+    /// Writes the record of an item anew that is there: no range is tested.
+    pub fn write_item_present(&mut self, number: usize, item: LinkedItem)
+        requires { number < length self.old.items }
+        ensures { self.new ≡ edits.item_changed number (λ _. item) self.old }
+    {
+        field_edits::write_item_present(&mut self.item_records, number, item);
+    }
+
     /// Changes the height of a shelf.
     pub fn set_height(&mut self, shelf: usize, height: u16)
         ensures { self.new
@@ -298,12 +275,13 @@ impl Records {
         field_edits::set_height(&mut self.shelf_records, shelf, height);
     }
 
-    /// Says whether a shelf is empty.
-    pub fn set_empty(&mut self, shelf: usize, is_empty: bool)
+    /// Says whether a shelf is empty that is there: no range is tested.
+    pub fn set_empty_present(&mut self, shelf: usize, is_empty: bool)
+        requires { shelf < length self.old.shelves }
         ensures { self.new
             ≡ edits.shelf_changed shelf (λ here. record here { is_empty = is_empty }) self.old }
     {
-        field_edits::set_empty(&mut self.shelf_records, shelf, is_empty);
+        field_edits::set_empty_present(&mut self.shelf_records, shelf, is_empty);
     }
 
     /// Writes the record of a shelf anew.
@@ -398,8 +376,9 @@ impl Records {
     }
 
     /// Keeps the lower part of a shelf, of this height. The rest, a shelf and an item that stand in no list,
-    /// gets these records and comes after it.
-    pub fn split_shelf(
+    /// gets these records and comes after it. All of them are there, and what the links of the shelf name: no range is
+    /// tested.
+    pub fn split_shelf_present(
         &mut self,
         shelf: usize,
         height: u16,
@@ -408,15 +387,41 @@ impl Records {
         rest_item: usize,
         item: LinkedItem,
     )
-        requires shelf { shelf < no_link }
-        requires rest { rest < no_link }
+        requires small { (shelf < no_link) × (rest < no_link) }
+        requires shelf { HasNeighbours shelf_chain self.old.shelves shelf }
+        requires rest { rest < length self.old.shelves }
+        requires item { rest_item < length self.old.items }
+        requires alone { (rest_shelf.next ≡ None) × (rest_shelf.prev ≡ None) }
         ensures { self.new
             ≡ merges.shelf_split shelf rest rest_item height rest_shelf item self.old }
     {
-        self.write_item(rest_item, item);
-        self.write_shelf(rest, rest_shelf);
-        self.insert_shelf_after(shelf, rest);
-        self.set_height(shelf, height);
+        field_edits::write_item_present(&mut self.item_records, rest_item, item);
+        field_edits::write_shelf_present(&mut self.shelf_records, rest, rest_shelf);
+        lists::insert_after_present::<Chain, LinkedShelf>(&mut self.shelf_records, shelf, rest);
+        field_edits::set_height_present(&mut self.shelf_records, shelf, height);
+    }
+
+    /// Gives an empty shelf this height, and lets it take the place of the empty one after it, which becomes unused with
+    /// its item. Both shelves and the item are there, and what the links of the later shelf name: no range is tested.
+    pub fn absorb_shelf(&mut self, shelf: usize, next: usize, item: usize, height: u16)
+        requires shelf { shelf < length self.old.shelves }
+        requires small { (next < no_link) × (item < no_link) }
+        requires next { HasNeighbours shelf_chain self.old.shelves next }
+        requires item { item < length self.old.items }
+        ensures { self.new ≡ merges.shelf_absorbed shelf next item height self.old }
+    {
+        lists::unlink_present::<Chain, LinkedShelf>(&mut self.shelf_records, &mut self.first, next);
+        lists::make_unused_present::<Chain, LinkedItem>(
+            &mut self.item_records,
+            &mut self.unused_items,
+            item,
+        );
+        lists::make_unused_present::<Chain, LinkedShelf>(
+            &mut self.shelf_records,
+            &mut self.unused_shelves,
+            next,
+        );
+        field_edits::set_height_present(&mut self.shelf_records, shelf, height);
     }
 }
 

@@ -12,14 +12,15 @@ ghost use Rattle.shelf_store.specs.Private.ItemReturned as returned;
 ghost use Rattle.shelf_store.specs.Private.ItemReturned.{CanMergeItem, CanMergeShelves, CanReturn, FreeNextIsThere, HeightsFit, AreThere, WidthsFit};
 ghost use Rattle.shelf_store.specs.Private.ReturnedByHeight as lists;
 ghost use Rattle.shelf_store.specs.Private.ReturnedByHeight.{CanMergeNamedByHeight, CanMergeByHeight, CanMergeAllByHeight, CanReturnByHeight};
+ghost use Rattle.etagere_links.specs.Edits.{link_at};
 ghost use Rattle.etagere_links.specs.Links.{no_link};
-ghost use Rattle.etagere_links.specs.Neighbours.{NamesOneOf};
+ghost use Rattle.etagere_links.specs.Neighbours.{HasNeighbours, NamesOneOf};
+ghost use Rattle.shelf_links.specs.Records.{shelf_chain};
 
-use etagere_links::{Chain, Link, next_of, previous_of};
+use etagere_links::{Chain, Link, previous_of};
 use shelf_heights::by_height::ShelvesByHeight;
 use shelf_heights::heights::{position_of, raise, settle, take_out};
 use shelf_links::{LinkedItem, LinkedShelf, Records};
-use shelf_records::fields;
 
 /// The item that remains where one was freed, and how many item records became unused.
 #[derive(Drop)]
@@ -52,7 +53,7 @@ pub fn return_item(
     let width = width_of(records.items(), merged.item);
     raise(records.shelves(), by_height, shelf, width);
     if is_alone(records.items(), merged.item) {
-        records.set_empty(shelf, true);
+        records.set_empty_present(shelf, true);
         merged.made_unused + merge_shelves(records, by_height, shelf)
     } else {
         merged.made_unused
@@ -237,10 +238,7 @@ fn absorb_shelf(
     let height = height_of(records.shelves(), shelf) + height_of(records.shelves(), next);
     take_out(records.shelves(), by_height, next);
     let index = position_of(records.shelves(), by_height, shelf);
-    records.unlink_shelf(next);
-    records.make_item_unused(item);
-    records.make_shelf_unused(next);
-    records.set_height(shelf, height);
+    records.absorb_shelf(shelf, next, item, height);
     settle(records.shelves(), by_height, shelf, index);
     1
 }
@@ -262,15 +260,40 @@ fn height_of(shelves: &[LinkedShelf], shelf: usize) -> u16
     shelves[shelf].height
 }
 
-/// The shelf after one, where both are empty and stand in one column.
+/// Whether a shelf that is there says that it is empty.
+fn is_empty(shelves: &[LinkedShelf], shelf: usize) -> bool
+    requires { shelf < length shelves.now }
+    ensures { result ≡ spec.is_empty_at shelves.now shelf }
+{
+    shelves[shelf].is_empty
+}
+
+/// Where the column of a shelf begins that is there.
+fn along(shelves: &[LinkedShelf], shelf: usize) -> u16
+    requires { shelf < length shelves.now }
+    ensures { result ≡ spec.along_of shelves.now shelf }
+{
+    shelves[shelf].x
+}
+
+/// The link to the shelf after one that is there.
+fn next_link(shelves: &[LinkedShelf], shelf: usize) -> Link
+    requires { shelf < length shelves.now }
+    ensures { result ≡ link_at shelf_chain.next shelves.now shelf }
+{
+    shelves[shelf].next
+}
+
+/// The shelf after one, where both are empty and stand in one column. Both are there.
 fn empty_next(shelves: &[LinkedShelf], shelf: usize) -> Option<usize>
+    requires { HasNeighbours shelf_chain shelves.now shelf }
     ensures value { result ≡ returned.empty_next shelves.now shelf }
     ensures small { IfSome result (λ number. number < no_link) }
 {
-    if !fields::is_empty(shelves, shelf) {
+    if !is_empty(shelves, shelf) {
         return None;
     }
-    let next = next_of::<Chain, LinkedShelf>(shelves, shelf).number()?;
+    let next = next_link(shelves, shelf).number()?;
     if are_both_empty(shelves, shelf, next) {
         Some(next)
     } else {
@@ -278,11 +301,13 @@ fn empty_next(shelves: &[LinkedShelf], shelf: usize) -> Option<usize>
     }
 }
 
-/// Whether two shelves are empty and stand in one column.
+/// Whether two shelves are empty and stand in one column. Both are there.
 fn are_both_empty(shelves: &[LinkedShelf], shelf: usize, next: usize) -> bool
+    requires shelf { shelf < length shelves.now }
+    requires next { next < length shelves.now }
     ensures { result ≡ returned.are_both_empty shelves.now shelf next }
 {
-    fields::along(shelves, shelf) == fields::along(shelves, next)
-        && fields::is_empty(shelves, shelf)
-        && fields::is_empty(shelves, next)
+    along(shelves, shelf) == along(shelves, next)
+        && is_empty(shelves, shelf)
+        && is_empty(shelves, next)
 }

@@ -9,7 +9,7 @@ ghost use Rattle.etagere_links.specs.Links.{no_link};
 ghost use Rattle.shelf_links.specs.RecordUses.{rests_missing};
 ghost use Rattle.shelf_model.specs.Choice.{splits};
 ghost use Rattle.shelf_store.specs.Private.PlacementTaken as spec;
-ghost use Rattle.shelf_store.specs.Private.PlacementTaken.{CanTakeByHeight, CanTakeFrom, HasSpare, IsItemSplittable, IsItemThere, CanPutRestIn, CanPutShelfIn, IsShelfSplittable, placement_taken, taken_by_height};
+ghost use Rattle.shelf_store.specs.Private.PlacementTaken.{AreRestsThere, CanTakeByHeight, CanTakeFrom, HasSpare, IsItemSplittable, IsItemThere, CanPutRestIn, CanPutShelfIn, IsShelfSplittable, placement_taken, taken_by_height};
 
 use etagere_base::{AllocId, INDEX_MODULUS};
 use etagere_links::Link;
@@ -57,7 +57,7 @@ pub fn take_placement(
         rests.shelf_item,
     );
     give_item(records, found, rests.item);
-    records.set_empty(found.shelf, false);
+    records.set_empty_present(found.shelf, false);
     Ok(id)
 }
 
@@ -73,6 +73,7 @@ fn make_shelf_rest(
     requires splittable { IsShelfSplittable found.now records.old }
     requires shelf { IfSome shelf (λ number. number < no_link) }
     requires item { IfSome item (λ number. number < no_link) }
+    requires there { AreRestsThere shelf item records.old }
     requires by_height { CanPutRestIn column_width found.now shelf item records.old by_height.old.items }
     requires room { IfSome shelf (λ number. length by_height.old.items < by_height.old.capacity) }
     ensures capacity { by_height.old.capacity ≤ by_height.new.capacity }
@@ -104,6 +105,7 @@ fn split_shelf(
     requires splittable { IsShelfSplittable found.now records.old }
     requires shelf { shelf < no_link }
     requires item { item < no_link }
+    requires there { AreRestsThere (Some shelf) (Some item) records.old }
     requires by_height { CanPutShelfIn found.now.shelf shelf records.old.shelves
         (spec.with_shelf_rest column_width found.now (Some shelf) (Some item) records.old).shelves
         by_height.old.items }
@@ -119,9 +121,9 @@ fn split_shelf(
     let whole = records.shelves()[found.shelf];
     let height = found.height as u16;
     let rest = rest_shelf(&whole, height, item);
-    let generation = item_record(records.items(), item).generation;
+    let generation = present_item(records.items(), item).generation;
     let free = free_item(whole.x, column_width, shelf as u16, generation);
-    records.split_shelf(found.shelf, height, shelf, rest, item, free);
+    records.split_shelf_present(found.shelf, height, shelf, rest, item, free);
     settle(records.shelves(), by_height, found.shelf, index);
     let left = bounded(shelf, column_width);
     put_in(records.shelves(), by_height, left, index);
@@ -153,7 +155,7 @@ fn write_item_rest(records: &mut Records, found: &Placement, rest: usize)
     let whole = present_item(records.items(), found.item);
     let generation = present_item(records.items(), rest).generation;
     let item = rest_item(&whole, found.width as u16, found.shelf as u16, generation);
-    records.write_item(rest, item);
+    records.write_item_present(rest, item);
 }
 
 /// The id under which the item of this number is given.
@@ -172,17 +174,6 @@ fn present_item(items: &[LinkedItem], number: usize) -> LinkedItem
     ensures { result ≡ spec.item_record items.now number }
 {
     items[number]
-}
-
-/// The record of the item of this number; a new one where there is no such item.
-fn item_record(items: &[LinkedItem], number: usize) -> LinkedItem
-    ensures { result ≡ spec.item_record items.now number }
-{
-    if number < items.len() {
-        items[number]
-    } else {
-        free_item(0, 0, 0, 1)
-    }
 }
 
 /// The record of a free item in no list.

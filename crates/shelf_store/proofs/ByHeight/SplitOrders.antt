@@ -84,7 +84,7 @@ same-given found (Some rest) records k =
     (free-first found.shelf (first_without (link_at free_list.previous two found.item) (link_at free_list.next two found.item) (first_free_of records.shelves found.shelf)) records.shelves)
 
 -- there are as many then
-length-given : (found : Placement) (rest : Option ℕ) (records : Records) → length (with_item_given found rest records).shelves ≡ length records.shelves
+pub length-given : (found : Placement) (rest : Option ℕ) (records : Records) → length (with_item_given found rest records).shelves ≡ length records.shelves
 length-given found None records = given-shelves records found.shelf found.item
 length-given found (Some rest) records = front-shelves (with_rest_written found rest records) found.shelf found.item rest found.width
 

@@ -3,15 +3,17 @@ use Rattle.shelf_links.proofs.AllLists.LinkedEdits.{Around, around_of, with_entr
 use Rattle.std.proofs.Common.{◌≡◌, ◌≢◌, ℕ, suc, ◌+◌, ◌≤◌, ◌<◌, Bool, true, false, Option, None, Some, List, [], ◌∷◌, ◌++◌, length, map, refl, ap, subst, arith, sym, ◌∙◌, append_assoc}
 use Rattle.std.proofs.lemmas.List.{length-append}
 use Rattle.std.specs.Prelude.{slice_get}
+use Rattle.etagere_base.proofs.TimesLemmas.{times-append}
 use Rattle.etagere_base.specs.Lists.{times}
 use Rattle.etagere_base.specs.MergingAt.{merged_at, merged_before}
 use Rattle.etagere_links.specs.Edits.{link_at}
 use Rattle.etagere_links.specs.Lists.{last_or}
-use Rattle.shelf_links.specs.RecordLists.{Entry, shelf_numbers}
+use Rattle.etagere_links.specs.Neighbours.{HasNeighbours, NamesOneOf}
+use Rattle.shelf_links.specs.RecordLists.{Entry, first_item_of, item_numbers, shelf_numbers}
 use Rattle.shelf_links.specs.Records.{shelf_chain}
-use Rattle.shelf_links.proofs.AllLists.LinkedFrames.{shelf_numbers-append}
+use Rattle.shelf_links.proofs.AllLists.LinkedFrames.{item_numbers-append, shelf_numbers-append}
 use Rattle.shelf_links.proofs.AllLists.LinkedUnused.{lists_of}
-use Rattle.etagere_links.proofs.ListEnds.{last-append}
+use Rattle.etagere_links.proofs.ListEnds.{last-append, times-here}
 use Rattle.shelf_records.specs.AtlasRecords.{AtlasRecords, height_of, spelled_shelf}
 use Rattle.shelf_model.specs.Merging.{both_empty, combined_shelves}
 use Rattle.shelf_model.specs.Places.{column_height}
@@ -24,6 +26,7 @@ use Rattle.shelf_store.proofs.ByHeight.MergedByHeight.{IsPair, HoldsByHeight, by
 use Rattle.shelf_model.proofs.Places.Heights.{column_height-merged_at, heights-le}
 use Rattle.shelf_store.proofs.Spelled.EmptinessSaid.{IsFlagged}
 use Rattle.shelf_store.proofs.Spelled.ItemsAround.{by_end}
+use Rattle.shelf_store.proofs.Spelled.NeighboursThere.{first_item-there, shelf-neighbours}
 use Rattle.shelf_store.proofs.Spelled.ShelvesMerged.{AreNeighbours, MergesShelf, merges-shelf, neighbours, next-link, previous-link}
 use Rattle.shelf_store.proofs.Spelled.SpelledLists.{with_records}
 
@@ -190,16 +193,68 @@ can-merge-shelves {atlas} around entry low flagged =
         (heights-fit middle xs (entry ∷ merges.rest) last merges.left_unused merges.gone still_low
         (subst (λ (es : List Entry). IsFlagged middle (lists_of es merges.left_unused merges.gone)) regrouped merges.flagged))
 
--- a shelf and the next one, if both are empty, stand by height
+-- a shelf in use has neighbours
+in-use-neighbours : {atlas : AtlasRecords} (around : Around) (entry : Entry) → IsFlagged atlas (with_entry around entry) → HasNeighbours shelf_chain atlas.records.shelves entry.number
+in-use-neighbours {atlas} around entry flagged =
+    shelf-neighbours atlas.records (with_entry around entry) [] [] flagged.spelled.linked entry.number
+    (omega (
+      arith,
+      ap (times entry.number) (shelf_numbers-append around.before (entry ∷ around.after)),
+      times-append entry.number (shelf_numbers around.before) (entry.number ∷ shelf_numbers around.after),
+      times-here entry.number (shelf_numbers around.after),
+    ))
+
+-- a shelf and the next one, if both are empty, stand by height, and what merging them reads is there
 can-merge-by_height : (atlas : AtlasRecords) (before after : List Entry) (entry : Entry) (unused shelves : List ℕ) (by_height : List BoundedShelf) → IsFlagged atlas (lists_of (before ++ entry ∷ after) unused shelves) → HoldsByHeight atlas (before ++ entry ∷ after) by_height → CanMergeByHeight entry.number atlas.records by_height
 can-merge-by_height atlas before [] entry unused shelves by_height flagged in_list =
     let none : empty_next atlas.records.shelves entry.number ≡ None = ap (empty_named atlas.records.shelves entry.number) (next-link (around_of before [] unused shelves) entry flagged.spelled) in
-    record { order = in_list.order; few = in_list.few; both = λ n e. absurd (cc (none, e)) }
+    record {
+      there =
+          record {
+            here = in-use-neighbours (around_of before [] unused shelves) entry flagged;
+            next = λ n e. absurd (cc (none, e));
+            item = λ n e. absurd (cc (none, e));
+          };
+      order = in_list.order;
+      few = in_list.few;
+      both = λ n e. absurd (cc (none, e));
+    }
 can-merge-by_height atlas before (next ∷ after) entry unused shelves by_height flagged in_list =
-    record { order = in_list.order; few = in_list.few; both = λ n e. both n (named n e (are_both_empty atlas.records.shelves entry.number next.number) refl) }
+    record {
+      there =
+          record {
+            here = in-use-neighbours (around_of before (next ∷ after) unused shelves) entry flagged;
+            next = λ n e. subst (HasNeighbours shelf_chain atlas.records.shelves) (named n e (are_both_empty atlas.records.shelves entry.number next.number) refl) behind;
+            item = λ n e. subst (λ m. NamesOneOf atlas.records.items (first_item_of atlas.records.shelves m)) (named n e (are_both_empty atlas.records.shelves entry.number next.number) refl) first;
+          };
+      order = in_list.order;
+      few = in_list.few;
+      both = λ n e. both n (named n e (are_both_empty atlas.records.shelves entry.number next.number) refl);
+    }
   where
     near : AreNeighbours atlas entry next
     near = neighbours (around_of before after unused shelves) entry next flagged
+
+    behind : HasNeighbours shelf_chain atlas.records.shelves next.number
+    behind =
+        shelf-neighbours atlas.records (lists_of (before ++ entry ∷ next ∷ after) unused shelves) [] [] flagged.spelled.linked next.number
+        (omega (
+          arith,
+          ap (times next.number) (shelf_numbers-append before (entry ∷ next ∷ after)),
+          times-append next.number (shelf_numbers before) (entry.number ∷ next.number ∷ shelf_numbers after),
+          times-append next.number (entry.number ∷ []) (next.number ∷ shelf_numbers after),
+          times-here next.number (shelf_numbers after),
+        ))
+
+    first : NamesOneOf atlas.records.items (first_item_of atlas.records.shelves next.number)
+    first =
+        first_item-there atlas.records (lists_of (before ++ entry ∷ next ∷ after) unused shelves) [] [] flagged.spelled.linked next near.is
+        (λ k. omega (
+          arith,
+          item_numbers-append before (entry ∷ next ∷ after) k,
+          times-append k entry.items (next.items ++ item_numbers after),
+          times-append k next.items (item_numbers after),
+        ))
 
     named : (n : ℕ) → empty_next atlas.records.shelves entry.number ≡ Some n → (b : Bool) → are_both_empty atlas.records.shelves entry.number next.number ≡ b → next.number ≡ n
     named n e false t =

@@ -10,11 +10,12 @@ use Rattle.etagere_links.specs.Chains.{IsChainIn}
 use Rattle.etagere_links.specs.Edits.{link_at}
 use Rattle.etagere_links.specs.Families.{Family}
 use Rattle.etagere_links.specs.Lists.{first_or, last_or}
-use Rattle.etagere_links.specs.Neighbours.{HasNeighbours}
-use Rattle.shelf_links.specs.RecordLists.{Records, Entry, IsEntry, IsLinked, first_free_of, first_item_of}
-use Rattle.shelf_links.specs.Records.{free_list, item_chain}
+use Rattle.etagere_links.specs.Neighbours.{HasNeighbours, NamesOneOf}
+use Rattle.shelf_links.specs.RecordLists.{Records, Entry, IsEntry, IsLinked, IsLinkedExcept, Lists, first_free_of, first_item_of, item_numbers, shelf_numbers}
+use Rattle.shelf_links.specs.Records.{free_list, item_chain, shelf_chain}
 use Rattle.etagere_links.proofs.Chains.{Leads-start, next-is, previous-is}
 use Rattle.etagere_links.proofs.ListEnds.{first-stands, last-stands-in, times-here}
+use Rattle.etagere_links.proofs.WalkedLists.{once-part}
 use Rattle.shelf_records.specs.AtlasRecords.{AtlasRecords, is_allocated_at}
 use Rattle.shelf_store.specs.Private.ItemReturned.{FreeNextIsThere, AreThere, free_named, free_next}
 use Rattle.shelf_records.proofs.Spelled.Witnessed.{IsPlaced}
@@ -50,6 +51,36 @@ member-neighbours family records first xs number within chain stands =
           let before : last_or None member.front ≡ Some k = sym (previous-is (link_at family.previous records) member.front member.back number None split.backward) ∙ link in
           within k (omega (arith, count k, last-stands-in member.front k before));
     }
+
+-- the lists of linked records, whose parts are there
+module _ (records : Records) (lists : Lists) (loose loose_shelves : List ℕ) (linked : IsLinkedExcept records lists loose loose_shelves) where
+  abbrev Numbers : List ℕ
+  Numbers = shelf_numbers lists.entries
+
+  abbrev All : List ℕ
+  All = Numbers ++ lists.unused_shelves ++ loose_shelves
+
+  all-count : (k : ℕ) → times k All ≡ times k Numbers + times k lists.unused_shelves + times k loose_shelves
+  all-count k = omega (arith, times-append k (Numbers ++ lists.unused_shelves) loose_shelves, times-append k Numbers lists.unused_shelves)
+
+  -- a shelf in use has neighbours
+  pub shelf-neighbours : (number : ℕ) → 1 ≤ times number (shelf_numbers lists.entries) → HasNeighbours shelf_chain records.shelves number
+  shelf-neighbours number stands =
+      member-neighbours shelf_chain records.shelves records.first_shelf Numbers number
+      (λ k in_use. (once-part (length records.shelves) All k (times k Numbers) linked.shelves_once (omega (arith, all-count k))).1 in_use)
+      linked.shelves stands
+
+  -- a shelf record in no list is there
+  pub loose_shelf-there : (k : ℕ) → 1 ≤ times k loose_shelves → k < length records.shelves
+  loose_shelf-there k stands = (once-part (length records.shelves) All k (times k loose_shelves) linked.shelves_once (omega (arith, all-count k))).1 stands
+
+  -- the first item of a shelf in use is there
+  pub first_item-there : (entry : Entry) → IsEntry records entry → ((k : ℕ) → times k entry.items ≤ times k (item_numbers lists.entries)) → NamesOneOf records.items (first_item_of records.shelves entry.number)
+  first_item-there entry is less k link =
+      let items : List ℕ = item_numbers lists.entries in
+      (once-part (length records.items) (items ++ lists.unused_items ++ loose) k (times k entry.items) linked.items_once
+      (omega (arith, less k, times-append k (items ++ lists.unused_items) loose, times-append k items lists.unused_items))).1
+      (first-stands entry.items k (sym (Leads-start (link_at item_chain.next records.items) entry.items (first_item_of records.shelves entry.number) None is.items.forward) ∙ link))
 
 -- the shelf of an item, its neighbours there and the first of the free list are there
 pub are-there : (records : Records) (around : Around) (shelf number : ℕ) (front back free : List ℕ) → IsLinked records (with_entry around (entry_of shelf (front ++ number ∷ back) free)) → AreThere shelf number records

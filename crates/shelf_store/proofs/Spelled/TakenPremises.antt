@@ -15,9 +15,9 @@ use Rattle.shelf_links.specs.declared.records.LinkedItem.{LinkedItem}
 use Rattle.shelf_links.specs.declared.records.LinkedShelf.{LinkedShelf}
 use Rattle.etagere_links.specs.Links.{no_link}
 use Rattle.shelf_links.specs.Records.{free_list, item_chain}
-use Rattle.shelf_links.specs.RecordLists.{Records, Entry, IsEntry, Lists, first_free_of, first_item_of, item_numbers, shelf_walk, walked_entry, walked_lists}
+use Rattle.shelf_links.specs.RecordLists.{Records, Entry, IsEntry, Lists, first_free_of, first_item_of, item_numbers, shelf_numbers, shelf_walk, walked_entry, walked_lists}
 use Rattle.shelf_links.specs.RecordUses.{number_used, rests_used}
-use Rattle.shelf_links.proofs.AllLists.LinkedFrames.{item_numbers-append}
+use Rattle.shelf_links.proofs.AllLists.LinkedFrames.{item_numbers-append, shelf_numbers-append}
 use Rattle.etagere_links.proofs.ListEnds.{times-here}
 use Rattle.etagere_links.proofs.RecordChanges.{length-changed_by}
 use Rattle.shelf_records.specs.AtlasRecords.{AtlasRecords, across_of, along_of, height_of, item_at, spelled_shelf}
@@ -30,7 +30,7 @@ use Rattle.shelf_model.proofs.Chosen.Placed.{IsPlaced, placement_of-placed}
 use Rattle.shelf_store.proofs.Searched.FoundPlacements.{across-at}
 use Rattle.shelf_store.proofs.Spelled.GivenItems.{width-read}
 use Rattle.shelf_store.proofs.Spelled.LocatedPlacements.{IsLocated}
-use Rattle.shelf_store.proofs.Spelled.NeighboursThere.{member-neighbours}
+use Rattle.shelf_store.proofs.Spelled.NeighboursThere.{loose_shelf-there, member-neighbours, shelf-neighbours}
 use Rattle.shelf_records.proofs.Spelled.RecordValues.{SameItem, item-same}
 use Rattle.shelf_store.proofs.Spelled.SpelledSplits.{HasShelfSplit, read-record}
 use Rattle.shelf_records.proofs.Spelled.SpelledNumbers.{items_in_use-spelled}
@@ -159,10 +159,20 @@ can-take frame records size placement found kept h locates =
       shelves = rests.used.few;
       splits_shelf =
           record {
-            shelf = apart.number;
+            shelf = shelf-neighbours used (lists_of entries rests.unused_items rests.unused_shelves) loose (list_where of_shelf rests.shelf) rests.used.spelled.linked shelf
+                (omega (arith, ap (times shelf) (shelf_numbers-append is.before (entry ∷ is.after)), times-append shelf (shelf_numbers is.before) (shelf ∷ shelf_numbers is.after), times-here shelf (shelf_numbers is.after)));
             few = rests.used.few;
             bottom = omega (arith, read-record (λ (x : LinkedShelf). x.y) (shelf_record [] shelf) used.shelves shelf, used_shelf.across, across-placed frame records size placement found kept h locates, ends.bottom);
             shorter = omega (arith, read-record (λ (x : LinkedShelf). x.height) (shelf_record [] shelf) used.shelves shelf, used_shelf.height, height);
+          };
+      rests =
+          record {
+            shelf = subst (λ (o : Option ℕ). IfSome o (λ number. number < length used.shelves)) (sym rests.shelf_is)
+                (wanted-there of_shelf rests.shelf (length used.shelves)
+                (loose_shelf-there used (lists_of entries rests.unused_items rests.unused_shelves) loose (list_where of_shelf rests.shelf) rests.used.spelled.linked));
+            item = subst (λ (o : Option ℕ). IfSome o (λ number. number < length used.items)) (sym rests.shelf_item_is)
+                (wanted-there of_shelf rests.shelf_item (length used.items)
+                (λ k wanted. apart.loose_within k (omega (arith, wanted, times-append k (list_where of_shelf rests.shelf_item) (list_where of_item rests.item)))));
           };
       splits_item =
           record {

@@ -189,6 +189,15 @@ pub record FreeNextIsThere (number : ℕ) (items : List LinkedItem) : Type 0 whe
   pub in_shelf : (n : ℕ) → free_next items number ≡ Some n → HasNeighbours item_chain items n
   pub in_free_list : (n : ℕ) → free_next items number ≡ Some n → HasNeighbours free_list items n
 
+-- a shelf and its neighbours are there, and where the next one is empty too, its neighbours and its first item
+pub record IsShelfThere (shelf : ℕ) (records : Records) : Type 0 where
+  pub here : HasNeighbours shelf_chain records.shelves shelf
+  pub next :
+      (n : ℕ) → empty_next records.shelves shelf ≡ Some n → HasNeighbours shelf_chain records.shelves n
+  pub item :
+      (n : ℕ) → empty_next records.shelves shelf ≡ Some n
+      → NamesOneOf records.items (first_item_of records.shelves n)
+
 -- what freeing and merging an item adds up fits 16 bits, and all that it reads is there
 pub record CanMergeItem (shelf number : ℕ) (records : Records) : Type 0 where
   pub here : AreThere shelf number records

@@ -132,10 +132,15 @@ id_of items number = number + index_modulus * (item_record items number).generat
 
 -- what splitting its shelf needs
 pub record IsShelfSplittable (found : Placement) (records : Records) : Type 0 where
-  pub shelf : found.shelf < length records.shelves
+  pub shelf : HasNeighbours shelf_chain records.shelves found.shelf
   pub few : length records.shelves ≤ no_link
   pub bottom : (shelf_record records.shelves found.shelf).y + found.height ≤ longest_side
   pub shorter : found.height ≤ (shelf_record records.shelves found.shelf).height
+
+-- the records of the rest of a shelf and of its item are there
+pub record AreRestsThere (rest rest_item : Option ℕ) (records : Records) : Type 0 where
+  pub shelf : IfSome rest (λ number. number < length records.shelves)
+  pub item : IfSome rest_item (λ number. number < length records.items)
 
 -- what splitting its item needs
 pub record IsItemSplittable (found : Placement) (records : Records) : Type 0 where
@@ -158,6 +163,9 @@ pub record CanTakeFrom (column_width : ℕ) (found : Placement) (records : Recor
   pub items : length (rests_used_for found records).items ≤ no_link
   pub shelves : length (rests_used_for found records).shelves ≤ no_link
   pub splits_shelf : IsShelfSplittable found (rests_used_for found records)
+  pub rests :
+      (let rests = rests_of found.splits_shelf found.splits_item records in
+      AreRestsThere rests.shelf rests.shelf_item (rests_used_for found records))
   pub splits_item : IsItemSplittable found (shelf_split_for column_width found records)
   pub there :
       IsItemThere found (rests_of found.splits_shelf found.splits_item records).item

@@ -10,7 +10,7 @@ use Rattle.shelf_links.specs.RecordLists.{Records, first_item_of}
 use Rattle.shelf_links.specs.Records.{shelf_chain}
 use Rattle.shelf_records.specs.AtlasRecords.{shelf_of, width_of}
 use Rattle.shelf_heights.specs.Private.ByHeight.{AreInOrder, bound_of, put_in, raised, numbers_by_height, taken_out}
-use Rattle.shelf_store.specs.Private.ItemReturned.{emptiness_said, empty_next, free_next, free_previous, item_merged, merged_width, shelf_merged, shelf_of_item_absorbed}
+use Rattle.shelf_store.specs.Private.ItemReturned.{IsShelfThere, emptiness_said, empty_next, free_next, free_previous, item_merged, merged_width, shelf_merged, shelf_of_item_absorbed}
 use Rattle.shelf_heights.specs.declared.by_height.BoundedShelf.{BoundedShelf}
 
 -- the width of an item, where there is one
@@ -69,8 +69,10 @@ returned_by_height number records by_height =
     let freed = emptiness_said shelf (item_merged shelf number records).records in
     shelves_merged_by_height shelf freed (raised shelf (freed_width records.items number) by_height)
 
--- the shelves by height stand in their order, a shelf and the next one among them, if both are empty
+-- the shelves by height stand in their order, a shelf and the next one among them, if both are empty; all that merging
+-- them reads is there
 pub record CanMergeByHeight (shelf : ℕ) (records : Records) (by_height : List BoundedShelf) : Type 0 where
+  pub there : IsShelfThere shelf records
   pub order : AreInOrder records.shelves by_height
   pub few : length records.shelves ≤ no_link
   pub both :

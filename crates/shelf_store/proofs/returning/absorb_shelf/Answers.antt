@@ -1,9 +1,10 @@
 use Rattle.std.proofs.Common.{◌≡◌, ◌+◌, ◌<◌, Some, length, refl, arith}
 use Rattle.etagere_base.specs.Lists.{times}
 use Rattle.shelf_heights.specs.Private.ByHeight.{AreInOrder, numbers_by_height, taken_out}
+use Rattle.etagere_links.specs.Neighbours.{HasNeighbours}
 use Rattle.shelf_links.specs.RecordLists.{first_item_of}
+use Rattle.shelf_links.specs.Records.{shelf_chain}
 use Rattle.shelf_heights.proofs.ByHeight.Edited.{in_order-taken_out}
-use Rattle.shelf_heights.proofs.ByHeight.Positions.{stands-within}
 use Rattle.shelf_store.proofs.ByHeight.MergedByHeight.{absorbed-order, merging-pair, still-there}
 use Rattle.shelf_store.proofs.returning.absorb_shelf.Goals as goal
 use Rattle.shelf_store.proofs.returning.absorb_shelf.Goals.{Start}
@@ -13,10 +14,7 @@ returns-clause-records c =
     let item : first_item_of c.args.records.now.shelves c.args.next ≡ Some c.in-Some.item =
     cc (c.shelves.ensures, c.first_item.ensures.value, c.in-Some.is) in
     rw (
-      c.set_height.ensures,
-      c.make_shelf_unused.ensures,
-      c.make_item_unused.ensures,
-      c.unlink_shelf.ensures,
+      c.absorb_shelf.ensures,
       c.requires.next,
       item,
       c.height_of.ensures,
@@ -34,10 +32,7 @@ returns-clause-by_height c =
       c.position_of-index.ensures.same,
       c.take_out.ensures.by_height,
       c.shelves-6.ensures,
-      c.set_height.ensures,
-      c.make_shelf_unused.ensures,
-      c.make_item_unused.ensures,
-      c.unlink_shelf.ensures,
+      c.absorb_shelf.ensures,
       c.requires.next,
       item,
       c.height_of.ensures,
@@ -60,7 +55,7 @@ position_of-index-requires-clause-stands c =
 -- the others when the shelf settles, and its record
 others-then : (c : goal.After-settle-arg-1) → AreInOrder c.shelves-6.result.now (taken_out c.args.shelf c.position_of-index.new.by_height.items) × (c.args.shelf < length c.shelves-6.result.now)
 others-then c =
-    rw (c.shelves-6.ensures, c.set_height.ensures, c.make_shelf_unused.ensures, c.make_item_unused.ensures, c.unlink_shelf.ensures, c.position_of-index.ensures.same, c.take_out.ensures.by_height)
+    rw (c.shelves-6.ensures, c.absorb_shelf.ensures, c.position_of-index.ensures.same, c.take_out.ensures.by_height)
     (absorbed-order c.args.records.now c.args.shelf c.args.next c.in-Some.item (c.height_of.result + c.height_of-2.result) c.args.by_height.now.items
     (merging-pair c.args.records.now c.args.shelf c.args.next c.args.by_height.now.items c.requires.by_height c.requires.next)
     c.requires.by_height.order)
@@ -78,18 +73,26 @@ settle-requires-clause-once c =
     rw (c.position_of-index.ensures.same, c.take_out.ensures.by_height) (omega (arith, here))
 
 -- both shelves are there
-both-there : (c : Start) → (c.args.shelf < length c.args.records.now.shelves) × (c.args.next < length c.args.records.now.shelves)
-both-there c =
-    let pair = merging-pair c.args.records.now c.args.shelf c.args.next c.args.by_height.now.items c.requires.by_height c.requires.next in (
-      stands-within c.args.records.now.shelves c.args.shelf c.args.by_height.now.items c.requires.by_height.order (omega (arith, pair.own)),
-      stands-within c.args.records.now.shelves c.args.next c.args.by_height.now.items c.requires.by_height.order (omega (arith, pair.other)),
-    )
+both-there : (c : Start) → (c.args.shelf < length c.args.records.now.shelves) × HasNeighbours shelf_chain c.args.records.now.shelves c.args.next
+both-there c = (c.requires.by_height.there.here.here, c.requires.by_height.there.next c.args.next c.requires.next)
 
 pub first_item-requires : goal.first_item-requires
-first_item-requires c = rw c.shelves.ensures (both-there (goal.at.first_item-requires c).Start).1
+first_item-requires c = rw c.shelves.ensures (both-there (goal.at.first_item-requires c).Start).1.here
 
 pub height_of-requires : goal.height_of-requires
 height_of-requires c = rw c.shelves-2.ensures (both-there (goal.at.height_of-requires c).Start).0
 
 pub height_of-requires-2 : goal.height_of-requires-2
-height_of-requires-2 c = rw c.shelves-3.ensures (both-there (goal.at.height_of-requires-2 c).Start).1
+height_of-requires-2 c = rw c.shelves-3.ensures (both-there (goal.at.height_of-requires-2 c).Start).1.here
+
+pub absorb_shelf-requires-clause-shelf : goal.absorb_shelf-requires-clause-shelf
+absorb_shelf-requires-clause-shelf c = (both-there (goal.at.absorb_shelf-requires-clause-shelf c).Start).0
+
+pub absorb_shelf-requires-clause-next : goal.absorb_shelf-requires-clause-next
+absorb_shelf-requires-clause-next c = (both-there (goal.at.absorb_shelf-requires-clause-next c).Start).1
+
+pub absorb_shelf-requires-clause-item : goal.absorb_shelf-requires-clause-item
+absorb_shelf-requires-clause-item c =
+    let item : first_item_of c.args.records.now.shelves c.args.next ≡ Some c.in-Some.item =
+    cc (c.shelves.ensures, c.first_item.ensures.value, c.in-Some.is) in
+    c.requires.by_height.there.item c.args.next c.requires.next c.in-Some.item item

@@ -5,11 +5,12 @@ use Rattle.shelf_links.specs.RecordEdits.{shelf_changed}
 use Rattle.shelf_links.specs.RecordLists.{Records}
 use Rattle.shelf_records.specs.AtlasRecords.{shelf_of, width_of}
 use Rattle.shelf_heights.specs.Private.ByHeight.{raised}
+use Rattle.shelf_heights.proofs.ByHeight.Positions.{stands-within}
 use Rattle.shelf_store.specs.Private.ItemReturned.{emptiness_said, has_one_free, item_merged, merged_width}
 use Rattle.shelf_store.specs.Private.ReturnedByHeight.{freed_width}
 use Rattle.shelf_store.proofs.Spelled.NotEmptied.{StaysInUse, stays-in-use}
 use Rattle.shelf_store.proofs.returning.return_item.Goals as goal
-use Rattle.shelf_store.proofs.returning.return_item.Goals.{After-raise, After-is_alone, After-set_empty}
+use Rattle.shelf_store.proofs.returning.return_item.Goals.{After-raise, After-is_alone, After-set_empty_present}
 
 pub merge_item-merged-requires-clause-fits : goal.merge_item-merged-requires-clause-fits
 merge_item-merged-requires-clause-fits c = rw c.requires.shelf (c.requires.fits.item)
@@ -27,6 +28,11 @@ raise-requires-clause-stands c = rw c.requires.shelf (c.requires.by_height.stand
 pub is_alone-requires : goal.is_alone-requires
 is_alone-requires c =
     rw (c.items-2.ensures, c.merge_item-merged.ensures.records, c.merge_item-merged.ensures.item, c.requires.shelf) (c.requires.fits.remaining.there)
+
+pub set_empty_present-requires : goal.set_empty_present-requires
+set_empty_present-requires c =
+    rw (c.merge_item-merged.ensures.records, c.requires.shelf)
+    (stands-within (item_merged (shelf_of c.args.records.now.items c.args.number) c.args.number c.args.records.now).records.shelves (shelf_of c.args.records.now.items c.args.number) c.args.by_height.now.items c.requires.by_height.order c.requires.by_height.stands)
 
 -- the bound that rises is that of the item's shelf, and it rises to what becomes free
 rises : (c : After-raise) → c.raise.new.by_height.items ≡ raised (shelf_of c.args.records.now.items c.args.number) (freed_width c.args.records.now.items c.args.number) c.args.by_height.now.items
@@ -48,34 +54,34 @@ emptied c =
     ∙ sym (rw (c.is_alone.ensures, c.items-2.ensures, c.merge_item-merged.ensures.records, c.merge_item-merged.ensures.item, c.requires.shelf) refl)
 
 -- the records once the shelf says that it is empty
-said : (c : After-set_empty) → (let shelf = shelf_of c.args.records.now.items c.args.number in has_one_free shelf (item_merged shelf c.args.number c.args.records.now).records ≡ true → c.set_empty.new.self ≡ emptiness_said shelf (item_merged shelf c.args.number c.args.records.now).records)
+said : (c : After-set_empty_present) → (let shelf = shelf_of c.args.records.now.items c.args.number in has_one_free shelf (item_merged shelf c.args.number c.args.records.now).records ≡ true → c.set_empty_present.new.self ≡ emptiness_said shelf (item_merged shelf c.args.number c.args.records.now).records)
 said c is_empty =
     let shelf : ℕ = shelf_of c.args.records.now.items c.args.number in
     let merged : Records = (item_merged shelf c.args.number c.args.records.now).records in
-    rw (c.set_empty.ensures, c.merge_item-merged.ensures.records, c.requires.shelf)
+    rw (c.set_empty_present.ensures, c.merge_item-merged.ensures.records, c.requires.shelf)
     (ap (λ (b : Bool). shelf_changed shelf (λ (here : LinkedShelf). record here { is_empty = b }) merged) (sym is_empty))
 
 pub merge_shelves-requires-clause-fits : goal.merge_shelves-requires-clause-fits
 merge_shelves-requires-clause-fits c =
     let at = goal.at.merge_shelves-requires-clause-fits c in
-    rw (said at.After-set_empty (emptied at.After-is_alone ∙ c.if-is_alone.true), c.requires.shelf) (c.requires.fits.shelves)
+    rw (said at.After-set_empty_present (emptied at.After-is_alone ∙ c.if-is_alone.true), c.requires.shelf) (c.requires.fits.shelves)
 
 pub merge_shelves-requires-clause-by_height : goal.merge_shelves-requires-clause-by_height
 merge_shelves-requires-clause-by_height c =
     let at = goal.at.merge_shelves-requires-clause-by_height c in
-    rw (said at.After-set_empty (emptied at.After-is_alone ∙ c.if-is_alone.true), rises at.After-raise, c.requires.shelf) (c.requires.by_height.shelves)
+    rw (said at.After-set_empty_present (emptied at.After-is_alone ∙ c.if-is_alone.true), rises at.After-raise, c.requires.shelf) (c.requires.by_height.shelves)
 
 pub returns-then-is_alone-clause-records : goal.returns-then-is_alone-clause-records
 returns-then-is_alone-clause-records c =
     let at = goal.at.returns-then-is_alone-clause-records c in
-    rw (c.merge_shelves.ensures.records, said at.After-set_empty (emptied at.After-is_alone ∙ c.if-is_alone.true), c.requires.shelf) refl
+    rw (c.merge_shelves.ensures.records, said at.After-set_empty_present (emptied at.After-is_alone ∙ c.if-is_alone.true), c.requires.shelf) refl
 
 pub returns-then-is_alone-clause-by_height : goal.returns-then-is_alone-clause-by_height
 returns-then-is_alone-clause-by_height c =
     let at = goal.at.returns-then-is_alone-clause-by_height c in
     rw (
       c.merge_shelves.ensures.by_height,
-      said at.After-set_empty (emptied at.After-is_alone ∙ c.if-is_alone.true),
+      said at.After-set_empty_present (emptied at.After-is_alone ∙ c.if-is_alone.true),
       rises at.After-raise,
       c.requires.shelf,
     ) refl
@@ -86,7 +92,7 @@ returns-then-is_alone-clause-made_unused c =
     rw (
       c.merge_shelves.ensures.made_unused,
       c.merge_item-merged.ensures.made_unused,
-      said at.After-set_empty (emptied at.After-is_alone ∙ c.if-is_alone.true),
+      said at.After-set_empty_present (emptied at.After-is_alone ∙ c.if-is_alone.true),
       c.requires.shelf,
     ) refl
 

@@ -1,17 +1,18 @@
-use Rattle.std.proofs.Common.{◌≡◌, ◌+◌, ◌≤◌, ap, arith, length, rules, sym, if◌then◌else◌}
+use Rattle.std.proofs.Common.{◌≡◌, ℕ, ◌+◌, ◌≤◌, Option, ap, arith, length, rules, sym, if◌then◌else◌}
 use Rattle.shelf_links.specs.RecordLists.{Records}
-use Rattle.shelf_links.specs.RecordUses.{missing}
+use Rattle.shelf_links.specs.RecordUses.{missing, rests_of}
 use Rattle.shelf_links.specs.Records.{shelf_chain}
 use Rattle.shelf_model.specs.Choice.{Placement}
-use Rattle.shelf_store.specs.Private.PlacementTaken.{placement_taken}
+use Rattle.shelf_store.specs.Private.PlacementTaken.{placement_taken, shelf_split_for, with_item_given}
 use Rattle.shelf_store.proofs.ByHeight.RoomByHeight.{taken-count}
+use Rattle.shelf_store.proofs.ByHeight.SplitOrders.{length-given}
 use Rattle.shelf_store.proofs.taking.take_placement.Goals as goal
 use Rattle.shelf_store.proofs.taking.take_placement.Goals.{then-found+in_ok-reserve_by_height, else-found}
 
 pub returns-clause-room : goal.returns-clause-room
 returns-clause-room c =
     let records = c.args.records.now in
-    let made : c.set_empty.new.self ≡ placement_taken c.args.column_width c.args.found.now records = search rules in
+    let made : c.set_empty_present.new.self ≡ placement_taken c.args.column_width c.args.found.now records = search rules in
     let split = sym (ap (λ (p : Placement). p.splits_shelf) c.found.view_is) in
     let room : length records.shelves + missing shelf_chain (if c.args.found.now.splits_shelf then 1 else 0) records.unused_shelves records.shelves ≤ c.if-found.by_height.capacity =
     elim c.if-found.branch [
@@ -24,4 +25,19 @@ returns-clause-room c =
       taken-count c.args.column_width c.args.found.now records,
       room,
       c.make_shelf_rest.ensures.capacity,
+    )
+
+pub set_empty_present-requires : goal.set_empty_present-requires
+set_empty_present-requires c =
+    let records : Records = c.args.records.now in
+    let found : Placement = c.args.found.now in
+    let rest : Option ℕ = (rests_of found.splits_shelf found.splits_item records).item in
+    let split : Records = shelf_split_for c.args.column_width found records in
+    let given : c.give_item.new.records ≡ with_item_given found rest split = search rules in
+    omega (
+      arith,
+      ap (λ (p : Placement). p.shelf) c.found.view_is,
+      ap (λ (r : Records). length r.shelves) given,
+      length-given found rest split,
+      c.requires.takes.there.shelf,
     )
