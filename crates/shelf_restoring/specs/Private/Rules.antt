@@ -9,10 +9,17 @@ use Rattle.shelf_links.specs.RecordLists.{Entry}
 use Rattle.etagere_links.specs.Chains.{LeadsBack}
 use Rattle.etagere_links.specs.Edits.{link_at}
 use Rattle.shelf_links.specs.Records.{free_list, item_chain}
-use Rattle.shelf_records.specs.AtlasRecords.{across_of, along_of, height_of, is_allocated_at, item_at, item_place_of, shelf_of, width_of}
+use Rattle.shelf_records.specs.AtlasRecords.{across_of, along_of, height_of, is_allocated_at, is_empty_at, item_at, item_place_of, shelf_of, width_of}
 use Rattle.shelf_records.specs.Private.Judging.{column_at, height_below, is_own_free}
 use Rattle.shelf_model.specs.Valid.{IsItem}
 use Rattle.shelf_records.specs.StandsFor.{free_present}
+
+-- what the record of the shelf of this number says
+pub record SaysOf (shelves : List LinkedShelf) (number : ℕ) (shelf : LinkedShelf) : Type 0 where
+  pub along : shelf.x ≡ along_of shelves number
+  pub across : shelf.y ≡ across_of shelves number
+  pub height : shelf.height ≡ height_of shelves number
+  pub is_empty : shelf.is_empty ≡ is_empty_at shelves number
 
 -- a shelf stands where so much of this column is filled: it is of this column, or the first of the next one after this
 -- one was filled, and it begins where its column and the one before it say

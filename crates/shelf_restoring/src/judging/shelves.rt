@@ -14,7 +14,7 @@ ghost use Rattle.shelf_model.specs.State as state;
 ghost use Rattle.shelf_records.specs.AtlasRecords as spec;
 ghost use Rattle.shelf_records.specs.Private.Judging.{atlas_of_records};
 ghost use Rattle.shelf_records.specs.StandsFor.{HasItems, HasNeighbours, HasShelves, LinkBack};
-ghost use Rattle.shelf_restoring.specs.Private.Rules.{FreeOwn};
+ghost use Rattle.shelf_restoring.specs.Private.Rules.{FreeOwn, SaysOf};
 ghost use Rattle.std.specs.List.{AllByRecursion};
 
 use crate::judging::WalkedShelf;
@@ -23,8 +23,8 @@ use crate::judging::freeing::has_free_list;
 use crate::judging::items::judge_items;
 use crate::judging::stacking::{fills_columns, is_next};
 use etagere_base::Frame;
+use etagere_links::Link;
 use shelf_links::{LinkedItem, LinkedShelf};
-use shelf_records::fields;
 
 /// Which rules shelves keep, and the area of their allocated items.
 #[derive(Clone, Copy, Drop)]
@@ -95,9 +95,10 @@ pub fn judge_shelves(
     let mut height = 0;
     let mut was_empty = false;
     for entry in entries {
-        let one = judge_shelf(frame, shelves, items, marks, entry);
-        let along = u32::from(fields::along(shelves, usize::from(entry.number)));
-        let is_next = is_next(frame, shelves, start, height, entry);
+        let shelf = shelf_of(shelves, usize::from(entry.number));
+        let one = judge_shelf(frame, shelves, items, marks, entry, &shelf);
+        let along = u32::from(shelf.x);
+        let is_next = is_next(frame, shelves, start, height, entry, &shelf);
         let touches = (along == start) & (was_empty & one.is_empty);
         judged.are_linked = one.is_linked & judged.are_linked;
         judged.have_free_lists = one.has_free_list & judged.have_free_lists;
@@ -106,7 +107,7 @@ pub fn judge_shelves(
         judged.are_apart = (one.is_apart & !touches) & judged.are_apart;
         judged.space += one.space;
         let below = if along == start { height } else { 0 };
-        height = below + u32::from(fields::height(shelves, usize::from(entry.number)));
+        height = below + u32::from(shelf.height);
         start = along;
         was_empty = one.is_empty;
     }
@@ -114,35 +115,54 @@ pub fn judge_shelves(
     judged
 }
 
-/// Judges a shelf. The marks say which items are in use.
+/// The record of the shelf of this number; what it says is 0 where there is none. So each shelf is read once.
+fn shelf_of(shelves: &[LinkedShelf], number: usize) -> LinkedShelf
+    ensures { SaysOf shelves.now number result }
+{
+    if number < shelves.len() {
+        return shelves[number];
+    }
+    LinkedShelf {
+        x: 0,
+        y: 0,
+        height: 0,
+        prev: Link::none(),
+        next: Link::none(),
+        first_item: Link::none(),
+        first_unallocated: Link::none(),
+        is_empty: false,
+    }
+}
+
+/// Judges a shelf, of which this is the record. The marks say which items are in use.
 #[inline(always)]
 fn judge_shelf(
     frame: &Frame,
-    shelves: &[LinkedShelf],
+    _shelves: &[LinkedShelf],
     items: &[LinkedItem],
     marks: &[bool],
     entry: &WalkedShelf,
+    shelf: &LinkedShelf,
 ) -> JudgedShelf
     requires frame { IsFrame longest_side frame.now }
+    requires shelf { SaysOf _shelves.now entry.now.number shelf.now }
     requires short { length entry.now.items ≤ no_link }
     ensures links { Decides result.is_linked (LinkBack items.now entry.now) }
     ensures free { Decides result.has_free_list (FreeOwn items.now marks.now entry.now) }
     ensures filled { Decides result.is_filled
-        (HasItems frame.now shelves.now items.now entry.now) }
+        (HasItems frame.now _shelves.now items.now entry.now) }
     ensures apart { Decides result.is_apart
         (NoNeighbours both_free (map (spec.item_at items.now) entry.now.items)) }
     ensures empty { result.is_empty ≡ state.is_one_free (map (spec.item_at items.now) entry.now.items) }
     ensures space { result.space
         ≡ space.allocated_width (map (spec.item_at items.now) entry.now.items)
-        * spec.height_of shelves.now entry.now.number }
+        * spec.height_of _shelves.now entry.now.number }
     ensures small { result.space ≤ no_link * no_link * no_link }
 {
-    let shelf = usize::from(entry.number);
-    let start = fields::along(shelves, shelf);
-    let found = judge_items(frame, items, entry.number, start, entry.items);
+    let found = judge_items(frame, items, entry.number, shelf.x, entry.items);
     let is_full = found.lie_in_row & (found.width == frame.column_width);
     let is_empty = is_one_free(items, entry.items);
-    let says_empty = fields::is_empty(shelves, shelf) == is_empty;
+    let says_empty = shelf.is_empty == is_empty;
     JudgedShelf {
         is_linked: found.are_linked,
         has_free_list: has_free_list(
@@ -155,6 +175,6 @@ fn judge_shelf(
         is_filled: is_full & says_empty,
         is_apart: found.are_apart,
         is_empty,
-        space: found.allocated_width * u64::from(fields::height(shelves, shelf)),
+        space: found.allocated_width * u64::from(shelf.height),
     }
 }

@@ -7,35 +7,36 @@ ghost use Rattle.std.specs.Prelude.{◌≡◌, ◌≤◌, ◌/◌, ◌%◌, List
 ghost use Rattle.etagere_base.specs.Frames.{longest_side};
 ghost use Rattle.etagere_links.specs.Links.{no_link};
 ghost use Rattle.shelf_links.specs.declared.records.LinkedShelf.{LinkedShelf};
-ghost use Rattle.shelf_restoring.specs.Private.Rules.{FollowFrom, IsNext};
+ghost use Rattle.shelf_restoring.specs.Private.Rules.{FollowFrom, IsNext, SaysOf};
 
 use crate::judging::WalkedShelf;
 use etagere_base::Frame;
 use shelf_links::LinkedShelf;
-use shelf_records::fields;
 
-/// Whether a shelf stands where so much is filled of the column that starts here, if a column does.
+/// Whether a shelf, of which this is the record, stands where so much is filled of the column that starts here, if a
+/// column does.
 pub fn is_next(
     frame: &Frame,
-    shelves: &[LinkedShelf],
+    _shelves: &[LinkedShelf],
     start: u32,
     height: u32,
-    entry: &WalkedShelf,
+    _entry: &WalkedShelf,
+    shelf: &LinkedShelf,
 ) -> bool
+    requires shelf { SaysOf _shelves.now _entry.now.number shelf.now }
     requires wide { 1 ≤ frame.now.column_width }
     requires narrow { frame.now.column_width ≤ longest_side }
     requires small { start ≤ no_link }
     ensures { start % frame.now.column_width ≡ 0 →
         Decides result
-        (IsNext frame.now shelves.now (start / frame.now.column_width) height entry.now) }
+        (IsNext frame.now _shelves.now (start / frame.now.column_width) height _entry.now) }
 {
-    let shelf = usize::from(entry.number);
-    let along = u32::from(fields::along(shelves, shelf));
+    let along = u32::from(shelf.x);
     if along != start && (height != frame.across_side() || along != start + frame.column_width) {
         return false;
     }
     let below = if along == start { height } else { 0 };
-    u32::from(fields::across(shelves, shelf)) == below && fields::height(shelves, shelf) >= 1
+    u32::from(shelf.y) == below && shelf.height >= 1
 }
 
 /// Whether no column is left where so much is filled of the one that starts here.

@@ -35,32 +35,31 @@ returns-clause-links c =
 pub returns-clause-filled : goal.returns-clause-filled
 returns-clause-filled c =
     let frame = c.args.frame.now in
-    let shelves = c.args.shelves.now in
+    let shelves = c.args._shelves.now in
     let items = c.args.items.now in
     let entry = c.args.entry.now in
     let found = c.judge_items-found.result in
     let numbers : c.entry.inside.items.now ≡ entry.items = ap (λ (e : Entry). e.items) c.entry.view_is in
-    let own : c.from-shelf.result ≡ entry.number = c.from-shelf.ensures ∙ ap (λ (e : Entry). e.number) c.entry.view_is in
-    let start : c.along-start.result ≡ along_of shelves entry.number = c.along-start.ensures ∙ ap (along_of shelves) own in
+    let shelf = c.args.shelf.now in
     let width : found.width ≡ state.total_width (map (item_at items) entry.items) =
     c.judge_items-found.ensures.width ∙ ap (λ (ns : List ℕ). state.total_width (map (item_at items) ns)) numbers in
-    let says : c.is_empty.result ≡ is_empty_at shelves entry.number = c.is_empty.ensures ∙ ap (is_empty_at shelves) own in
+    let says : shelf.is_empty ≡ is_empty_at shelves entry.number = c.requires.shelf.is_empty in
     let one : c.is_one_free-is_empty.result ≡ state.is_one_free (map (item_at items) entry.items) =
     c.is_one_free-is_empty.ensures ∙ ap (λ (ns : List ℕ). state.is_one_free (map (item_at items) ns)) numbers in
     let row : Decides found.lie_in_row (RowFrom frame items (along_of shelves entry.number) entry.items) =
-    subst (λ (s : ℕ). Decides found.lie_in_row (RowFrom frame items s entry.items)) start
-    (subst (λ (ns : List ℕ). Decides found.lie_in_row (RowFrom frame items c.along-start.result ns)) numbers c.judge_items-found.ensures.places) in
+    subst (λ (s : ℕ). Decides found.lie_in_row (RowFrom frame items s entry.items)) c.requires.shelf.along
+    (subst (λ (ns : List ℕ). Decides found.lie_in_row (RowFrom frame items shelf.x ns)) numbers c.judge_items-found.ensures.places) in
     let full = decides-equal found.width frame.column_width (state.total_width (map (item_at items) entry.items) ≡ frame.column_width)
     (λ same. sym width ∙ same) (λ same. width ∙ same) in
-    let empty = decides-same c.is_empty.result c.is_one_free-is_empty.result in
+    let empty = decides-same shelf.is_empty c.is_one_free-is_empty.result in
     let Row : Type 0 = RowFrom frame items (along_of shelves entry.number) entry.items in
     let Full : Type 0 = state.total_width (map (item_at items) entry.items) ≡ frame.column_width in
-    let Says : Type 0 = c.is_empty.result ≡ c.is_one_free-is_empty.result in
-    decides-map ((found.lie_in_row && (found.width == frame.column_width)) && beq c.is_empty.result c.is_one_free-is_empty.result) ((Row × Full) × Says) (HasItems frame shelves items entry)
+    let Says : Type 0 = shelf.is_empty ≡ c.is_one_free-is_empty.result in
+    decides-map ((found.lie_in_row && (found.width == frame.column_width)) && beq shelf.is_empty c.is_one_free-is_empty.result) ((Row × Full) × Says) (HasItems frame shelves items entry)
     (λ all. let lies = row-lies items frame (along_of shelves entry.number) entry.items all.0.0 in
     record { places = lies.0; items = lies.1; width = all.0.1; is_empty = sym says ∙ all.1 ∙ one })
     (λ has. ((lies-row items frame (along_of shelves entry.number) entry.items has.places has.items, has.width), says ∙ has.is_empty ∙ sym one))
-    (decides-both (found.lie_in_row && (found.width == frame.column_width)) (beq c.is_empty.result c.is_one_free-is_empty.result) (Row × Full) Says
+    (decides-both (found.lie_in_row && (found.width == frame.column_width)) (beq shelf.is_empty c.is_one_free-is_empty.result) (Row × Full) Says
     (decides-both found.lie_in_row (found.width == frame.column_width) Row Full row full) empty)
 
 pub returns-clause-apart : goal.returns-clause-apart

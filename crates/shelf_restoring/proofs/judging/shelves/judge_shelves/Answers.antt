@@ -12,14 +12,14 @@ use Rattle.shelf_model.specs.State.{is_empty}
 use Rattle.shelf_records.specs.AtlasRecords.{along_of, height_of, item_at, spelled_shelf, spelled_state}
 use Rattle.shelf_records.specs.Private.Judging.{atlas_of_records, column_at, height_below}
 use Rattle.shelf_records.specs.StandsFor.{HasItems, HasNeighbours, HasShelves, LinkBack}
-use Rattle.shelf_restoring.specs.Private.Rules.{FollowFrom, FreeOwn, IsNext}
+use Rattle.shelf_restoring.specs.Private.Rules.{FollowFrom, FreeOwn, IsNext, SaysOf}
 use Rattle.shelf_restoring.proofs.Judged.ColumnStarts.{filled-here, filled-other, same-column}
 use Rattle.shelf_restoring.proofs.Judged.FlagPasses.{IsFlagged, both-true, flagged-end, flagged-more, flagged-same, flagged-where}
 use Rattle.shelf_restoring.proofs.Judged.ItemPasses.{decides-not}
 use Rattle.shelf_restoring.proofs.Judged.JudgedShelves.{follow-kept, shelves-follow}
 use Rattle.shelf_restoring.proofs.Judged.NeighbourPasses.{StandApart, StandsApart, apart-neighbours, neighbours-apart, touches}
 use Rattle.shelf_restoring.proofs.judging.shelves.judge_shelves.Goals as goal
-use Rattle.shelf_restoring.proofs.judging.shelves.judge_shelves.Goals.{then-along-start, else-along-start}
+use Rattle.shelf_restoring.proofs.judging.shelves.judge_shelves.Goals.{After-shelf_of-shelf, then-along-start, else-along-start}
 
 pub loop-entry-preserved : goal.loop-entry-preserved
 loop-entry-preserved c =
@@ -44,13 +44,13 @@ loop-entry-preserved c =
     let own : ℕ = height_below frame shelves (start / width) height entry + height_of shelves entry.number in
     let more : drop i entries ≡ entry ∷ drop (i + 1) entries = drop_more entries i entry below ∙ ap (λ (e : Entry). e ∷ drop (i + 1) entries) (sym is) in
     let areas = ap (λ (es : List Entry). space_in (map (spelled_shelf atlas) es)) more in
-    let number : c.entry.inside.number ≡ entry.number = ap (λ (e : Entry). e.number) c.entry.view_is in
-    let along : c.from-along.result ≡ along_of shelves entry.number = c.from-along.ensures ∙ c.along.ensures ∙ ap (along_of shelves) (c.from.ensures ∙ number) in
-    let tall : c.from-in-loop-entry-2.result ≡ height_of shelves entry.number = c.from-in-loop-entry-2.ensures ∙ c.height.ensures ∙ ap (height_of shelves) (c.from-in-loop-entry.ensures ∙ number) in
+    let number : c.from.result ≡ entry.number = c.from.ensures ∙ ap (λ (e : Entry). e.number) c.entry.view_is in
+    let along : c.from-along.result ≡ along_of shelves entry.number = c.from-along.ensures ∙ c.shelf_of-shelf.ensures.along ∙ ap (along_of shelves) number in
+    let tall : c.from-in-loop-entry.result ≡ height_of shelves entry.number = c.from-in-loop-entry.ensures ∙ c.shelf_of-shelf.ensures.height ∙ ap (height_of shelves) number in
     let starts : stacked ≡ true → start % width ≡ 0 = λ e. kept.at_column (both-true c.is_next-is_next.result judged.are_stacked e).1 in
     let next : stacked ≡ true → IsNext frame shelves (start / width) height entry =
     λ e. granted c.is_next-is_next.result (IsNext frame shelves (start / width) height entry) (c.is_next-is_next.ensures (starts e)) (both-true c.is_next-is_next.result judged.are_stacked e).0 in
-    let high : stacked ≡ true → own ≡ c.if-along-start.below + c.from-in-loop-entry-2.result =
+    let high : stacked ≡ true → own ≡ c.if-along-start.below + c.from-in-loop-entry.result =
     λ e. elim c.if-along-start.branch [
       | then-along-start w ↦ omega (arith, filled-here frame shelves entry start height (sym along ∙ w.if-along-start.true), w.below-is, tall)
       | else-along-start w ↦ omega (arith, filled-other frame shelves entry start height (next e).along (starts e) (λ same. w.if-along-start.false (along ∙ same)), w.below-is, tall)
@@ -79,8 +79,8 @@ loop-entry-preserved c =
           i entries entry entry (λ later h. h) (λ later h. h) below is one.ensures.links kept.links;
       free = flagged-more one.result.has_free_list judged.have_free_lists (AllByRecursion (FreeOwn items marks) entries) (AllByRecursion (FreeOwn items marks)) (AllByRecursion (FreeOwn items marks)) (FreeOwn items marks entry)
           i entries entry entry (λ later h. h) (λ later h. h) below is one.ensures.free kept.free;
-      stacked = subst (λ (n : ℕ). IsFlagged stacked Whole (FollowFrom frame shelves n (c.if-along-start.below + c.from-in-loop-entry-2.result)) (i + 1) entries) column
-          (flagged-same stacked Whole (λ (h : ℕ). FollowFrom frame shelves (column_at frame shelves entry) h) own (c.if-along-start.below + c.from-in-loop-entry-2.result) (i + 1) entries high follows);
+      stacked = subst (λ (n : ℕ). IsFlagged stacked Whole (FollowFrom frame shelves n (c.if-along-start.below + c.from-in-loop-entry.result)) (i + 1) entries) column
+          (flagged-same stacked Whole (λ (h : ℕ). FollowFrom frame shelves (column_at frame shelves entry) h) own (c.if-along-start.below + c.from-in-loop-entry.result) (i + 1) entries high follows);
       filled = flagged-more one.result.is_filled judged.are_filled (AllByRecursion (HasItems frame shelves items) entries) (AllByRecursion (HasItems frame shelves items)) (AllByRecursion (HasItems frame shelves items)) (HasItems frame shelves items entry)
           i entries entry entry (λ later h. h) (λ later h. h) below is one.ensures.filled kept.filled;
       apart = λ e. subst (λ (n : ℕ). IsFlagged ((one.result.is_apart && not test) && judged.are_apart) (StandApart atlas 0 false entries) (StandApart atlas n one.result.is_empty) (i + 1) entries) column
@@ -88,13 +88,25 @@ loop-entry-preserved c =
       sum = omega (arith, kept.sum, areas, one.ensures.space);
       small = omega (arith, kept.small, one.ensures.small);
       short = (subst (AllByRecursion (λ (e : Entry). length e.items ≤ 65535)) more kept.short).1;
-      near = omega (arith, c.from-along.ensures, c.along.type_inv);
+      near = omega (arith, c.from-along.ensures, c.shelf_of-shelf.type_inv);
       high = elim c.if-along-start.branch [
-        | then-along-start w ↦ omega (arith, kept.high, w.below-is, c.from-in-loop-entry-2.ensures, c.height.type_inv)
-        | else-along-start w ↦ omega (arith, w.below-is, c.from-in-loop-entry-2.ensures, c.height.type_inv)
+        | then-along-start w ↦ omega (arith, kept.high, w.below-is, c.from-in-loop-entry.ensures, c.shelf_of-shelf.type_inv)
+        | else-along-start w ↦ omega (arith, w.below-is, c.from-in-loop-entry.ensures, c.shelf_of-shelf.type_inv)
       ];
       at_column = λ e. ap (λ (n : ℕ). n % width) along ∙ (next e).along;
     }
+
+-- the record of a shelf that is read says what the shelf of its number does
+says : (c : After-shelf_of-shelf) → SaysOf c.args.shelves.now c.entry-item.result.number c.shelf_of-shelf.result
+says c =
+    let number : c.from.result ≡ c.entry-item.result.number = c.from.ensures ∙ ap (λ (e : Entry). e.number) c.entry.view_is in
+    subst (λ (n : ℕ). SaysOf c.args.shelves.now n c.shelf_of-shelf.result) number c.shelf_of-shelf.ensures
+
+pub judge_shelf-one-requires-clause-shelf : goal.judge_shelf-one-requires-clause-shelf
+judge_shelf-one-requires-clause-shelf c = says (goal.at.judge_shelf-one-requires-clause-shelf c).After-shelf_of-shelf
+
+pub is_next-is_next-requires-clause-shelf : goal.is_next-is_next-requires-clause-shelf
+is_next-is_next-requires-clause-shelf c = says (goal.at.is_next-is_next-requires-clause-shelf c).After-shelf_of-shelf
 
 pub returns-clause-stacked : goal.returns-clause-stacked
 returns-clause-stacked c =

@@ -1,6 +1,5 @@
 -- What the tests of a shelf say of where it stands.
-use Rattle.std.proofs.Common.{◌≡◌, ◌+◌, ◌/◌, ap, arith, sym, ◌∙◌}
-use Rattle.shelf_links.specs.RecordLists.{Entry}
+use Rattle.std.proofs.Common.{◌≡◌, ◌+◌, ◌/◌, arith, sym, ◌∙◌}
 use Rattle.shelf_records.specs.AtlasRecords.{across_of, along_of, height_of}
 use Rattle.shelf_restoring.specs.Private.Rules.{IsNext}
 use Rattle.shelf_restoring.proofs.Judged.ColumnStarts.{decides-tall, next-after, next-here}
@@ -10,15 +9,13 @@ use Rattle.shelf_restoring.proofs.judging.stacking.is_next.Goals.{else-along-sta
 pub returns-then-from-below : goal.returns-then-from-below
 returns-then-from-below c = λ at_column.
     let frame = c.args.frame.now in
-    let shelves = c.args.shelves.now in
-    let entry = c.args.entry.now in
+    let shelves = c.args._shelves.now in
+    let entry = c.args._entry.now in
     let start = c.args.start in
     let height = c.args.height in
-    let number : c.from-shelf.result ≡ entry.number = c.from-shelf.ensures ∙ ap (λ (e : Entry). e.number) c.entry.view_is in
-    let along : c.from-along.result ≡ along_of shelves entry.number = c.from-along.ensures ∙ c.along.ensures ∙ ap (along_of shelves) number in
-    let across : c.from.result ≡ across_of shelves entry.number = c.from.ensures ∙ c.across.ensures ∙ ap (across_of shelves) number in
-    let tall : c.height.result ≡ height_of shelves entry.number = c.height.ensures ∙ ap (height_of shelves) number in
-    decides-tall c.height.result (height_of shelves entry.number) (IsNext frame shelves (start / frame.column_width) height entry) tall
+    let along : c.from-along.result ≡ along_of shelves entry.number = c.from-along.ensures ∙ c.requires.shelf.along in
+    let across : c.from.result ≡ across_of shelves entry.number = c.from.ensures ∙ c.requires.shelf.across in
+    decides-tall c.args.shelf.now.height (height_of shelves entry.number) (IsNext frame shelves (start / frame.column_width) height entry) c.requires.shelf.height
     (λ high. elim c.if-along-start-3.branch [
       | then-along-start-3 w ↦
           next-here frame shelves entry start height c.requires.wide at_column (sym along ∙ w.if-along-start-3.true) (sym across ∙ c.if-from-below.true ∙ w.below-is) high
