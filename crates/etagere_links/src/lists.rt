@@ -86,21 +86,21 @@ fn set_first_without(first: &mut Link, previous: Link, next: Link)
     }
 }
 
-/// Takes the record of this number out of its list, whose first record `first` names: its neighbours are
-/// linked to each other. Its own links stay.
-pub fn unlink<List, T: Linked<List>>(records: &mut [T], first: &mut Link, number: usize)
-    ensures records { records.new ≡ spec.unlinked T.family number records.old }
-    ensures first { first.new
-        ≡ spec.first_without
-        (spec.link_at T.family.previous records.old number)
-        (spec.link_at T.family.next records.old number)
-        first.old }
+/// Changes the link to the next one in the record of this number, which is there.
+fn set_next_at<List, T: Linked<List>>(records: &mut [T], number: usize, next: Link)
+    requires { number < length records.old }
+    ensures { records.new ≡ spec.changed_by (Some number) (T.family.with_next next) records.old }
 {
-    let previous = previous_of::<List, T>(records, number);
-    let next = next_of::<List, T>(records, number);
-    set_next_of::<List, T>(records, previous, next);
-    set_previous_of::<List, T>(records, next, previous);
-    set_first_without(first, previous, next);
+    records[number].set_next(next);
+}
+
+/// Changes the link to the previous one in the record of this number, which is there.
+fn set_previous_at<List, T: Linked<List>>(records: &mut [T], number: usize, previous: Link)
+    requires { number < length records.old }
+    ensures { records.new
+        ≡ spec.changed_by (Some number) (T.family.with_previous previous) records.old }
+{
+    records[number].set_previous(previous);
 }
 
 /// Changes the link to the next one in the record that `from` names, if any, which is there.
@@ -123,7 +123,8 @@ pub fn set_previous_present<List, T: Linked<List>>(records: &mut [T], from: Link
     }
 }
 
-/// Takes a record out of its list as `unlink` does, where it and its neighbours are there.
+/// Takes the record of this number out of its list, whose first record `first` names: its neighbours are linked to each
+/// other. Its own links stay. It and its neighbours are there.
 pub fn unlink_present<List, T: Linked<List>>(records: &mut [T], first: &mut Link, number: usize)
     requires { HasNeighbours T.family records.old number }
     ensures records { records.new ≡ spec.unlinked T.family number records.old }
@@ -182,9 +183,9 @@ pub fn insert_after_present<List, T: Linked<List>>(
 {
     let next = records[previous].next();
     let link = Link::to(number);
-    set_next_present::<List, T>(records, link, next);
-    set_previous_present::<List, T>(records, link, Link::to(previous));
-    set_next_present::<List, T>(records, Link::to(previous), link);
+    set_next_at::<List, T>(records, number, next);
+    set_previous_at::<List, T>(records, number, Link::to(previous));
+    set_next_at::<List, T>(records, previous, link);
     set_previous_present::<List, T>(records, next, link);
 }
 
@@ -199,26 +200,15 @@ pub fn insert_front<List, T: Linked<List>>(records: &mut [T], first: &mut Link, 
     *first = Link::to(number);
 }
 
-/// Puts the record of this number, which stands in no list, onto the pile whose top record `top` names. A
+/// Puts the record of this number, which is there and stands in no list, onto the pile whose top record `top` names. A
 /// pile is linked through `next` alone.
-pub fn make_unused<List, T: Linked<List>>(records: &mut [T], top: &mut Link, number: usize)
-    requires { number < no_link }
-    ensures records { records.new ≡ spec.made_unused T.family top.old number records.old }
-    ensures top { top.new ≡ Some number }
-{
-    let link = Link::to(number);
-    set_next_of::<List, T>(records, link, *top);
-    *top = link;
-}
-
-/// Makes a record unused as `make_unused` does, where it is there.
 pub fn make_unused_present<List, T: Linked<List>>(records: &mut [T], top: &mut Link, number: usize)
     requires here { number < length records.old }
     requires small { number < no_link }
     ensures records { records.new ≡ spec.made_unused T.family top.old number records.old }
     ensures top { top.new ≡ Some number }
 {
-    records[number].set_next(*top);
+    set_next_at::<List, T>(records, number, *top);
     *top = Link::to(number);
 }
 
