@@ -16,7 +16,8 @@ ghost use Rattle.shelf_store.specs.Private.Asking as recorded;
 ghost use Rattle.shelf_store.specs.Private.Searching as searching;
 
 use crate::choosing::{
-    Candidate, MOST_ITEMS, Searched, placement_at, rank_of, search_free_list, shelf_height,
+    Candidate, MOST_ITEMS, MOST_SPLITS, Searched, placement_at, rank_of, search_free_list,
+    shelf_height,
 };
 use crate::free_items::free_items_of;
 use etagere_base::{Frame, Sides, Size, is_not_positive, is_too_long, rounded};
@@ -24,9 +25,6 @@ use etagere_links::{Chain, next_of};
 use shelf_links::{LinkedShelf, Records};
 use shelf_model::faults::Refusal;
 use shelf_records::fields;
-
-/// A place makes no more splits than this.
-const MOST_SPLITS: u32 = 2;
 
 /// The first reason for which a size has no place; none where it has one.
 pub fn refusal(frame: &Frame, records: &Records, items_in_use: u32, size: Size) -> Option<Refusal>

@@ -41,6 +41,9 @@ const SHELF_SLACK: u32 = 8;
 /// An item is split where more than this would be left of its width.
 const ITEM_SLACK: u32 = 8;
 
+/// A place makes no more splits than this.
+pub(crate) const MOST_SPLITS: u32 = 2;
+
 /// A shelf and the first of its free items that is wide enough, by the numbers of their records, and how
 /// the shelf ranks.
 #[derive(Clone, Copy)]
@@ -91,7 +94,7 @@ pub fn placement_of(
 }
 
 /// Whether a new atlas of a frame has room for the size. Its columns are alike, each one empty shelf, so the first one
-/// tells.
+/// tells. What is split there matters only where two splits might make too many items.
 pub fn fits_when_empty(frame: &Frame, size: Size) -> bool
     requires { IsFrame longest_side frame.now }
     ensures { result ≡ is_some (choice.placement_of (fresh frame.now) size) }
@@ -99,6 +102,9 @@ pub fn fits_when_empty(frame: &Frame, size: Size) -> bool
     let Some(sides) = asked(frame, size) else {
         return false;
     };
+    if frame.columns + MOST_SPLITS <= MOST_ITEMS {
+        return true;
+    }
     let splits_shelf = shelf_height(frame, sides.across) + SHELF_SLACK < frame.across_side();
     let splits_item = sides.along + ITEM_SLACK < frame.column_width;
     frame.columns + u32::from(splits_shelf) + u32::from(splits_item) <= MOST_ITEMS

@@ -1,5 +1,6 @@
 use Rattle.std.proofs.Common.{◌≡◌, ℕ, ◌+◌, ◌≤◌, Bool, true, false, nat_lt, refl, sym, ◌∙◌, ap, arith}
 use Rattle.std.specs.Prelude.{nat_le, if◌then◌else◌}
+use Rattle.std.proofs.lemmas.Bool.{le-leb}
 use mir.Val.{bool_byte}
 use Rattle.etagere_base.specs.Frames.{across_side}
 use Rattle.etagere_base.proofs.FrameSides.{columns-le}
@@ -14,6 +15,17 @@ one_at_most false = omega arith
 
 pub overflow_add-result-2 : goal.overflow_add-result-2
 overflow_add-result-2 c = grind (arith, columns-le c.args.frame.now c.requires, one_at_most)
+
+-- where two splits may come, so may those of the place
+pub returns-then-frame-le-MOST_ITEMS : goal.returns-then-frame-le-MOST_ITEMS
+returns-then-frame-le-MOST_ITEMS c =
+    let frame = c.args.frame.now in
+    let sides = c.in-Some.sides in
+    let room : frame.columns + 2 ≤ 65535 = c.if-frame-le-MOST_ITEMS.true in
+    let splits_shelf = one_at_most (nat_lt (choice.shelf_height frame sides.across + 8) (across_side frame)) in
+    let splits_item = one_at_most (nat_lt (sides.along + 8) frame.column_width) in
+    let few : frame.columns + fresh_splits frame sides ≤ 65535 = omega (arith, room, splits_shelf, splits_item) in
+    sym (fits-fresh frame c.args.size sides c.requires (sym c.asked.ensures ∙ c.in-Some.is) ∙ le-leb _ _ few)
 
 -- a test as a number counts one where it holds
 counts : (b : Bool) → ◌≡◌ {A = ℕ} (bool_byte b) (if b then 1 else 0)
