@@ -1,5 +1,5 @@
 -- What becomes of a map when a test says of each key and value whether they stay.
-use Rattle.std.specs.Prelude.{◌≡◌, Bool, true, false, List, [], ◌∷◌, length, reverse}
+use Rattle.std.specs.Prelude.{◌≡◌, ◌⊎◌, Bool, true, false, List, [], ◌∷◌, length, reverse}
 use Rattle.std.specs.Borrow.{Bor}
 use Rattle.std.specs.Fn.{Called, Mut}
 use Rattle.std.specs.List.{items_where_true}
@@ -22,6 +22,13 @@ refused_keys [] keys = []
 refused_keys (answer ∷ answers) [] = []
 refused_keys (true ∷ answers) (key ∷ keys) = refused_keys answers keys
 refused_keys (false ∷ answers) (key ∷ keys) = key ∷ refused_keys answers keys
+
+-- a test was asked of these pairs in turn, up to one of which it said no
+abbrev pub RefusesSome : {F K V : Type 0} → Mut F (Bor K × (Bor V × Unit {0})) Bool → F → List (K × V) → Type 0
+RefusesSome calls test [] = ⊥
+RefusesSome {F} calls test (pair ∷ pairs) =
+    ((after : F) × Answers calls test pair false after)
+    ⊎ ((after : F) × Answers calls test pair true after × RefusesSome calls after pairs)
 
 -- a clone of a key equals it
 abbrev pub AreClonesEqual : {K : Type 0} → (K → K → Type 0) → (K → K → Bool) → Type 0

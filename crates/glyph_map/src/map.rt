@@ -3,7 +3,7 @@
 //! Definitions: `State` for what the clauses see, `Calls` and `Placing` for what becomes of it, `Promises` for what every
 //! map keeps, `Saved` for what it is saved as. Where they speak of a cache, they are those of `glyph_shelf`.
 
-ghost use Rattle.std.specs.Prelude.{◌≡◌, ◌↔◌, ◌≤◌, [], Err, None, Some, IfOk, IfErr, IfSome, IsOkAnd, IsErrAnd, OnErr, OnOk, IsTrue, length, option_map};
+ghost use Rattle.std.specs.Prelude.{◌≡◌, ◌↔◌, ◌≤◌, [], Err, None, Some, IfOk, IfErr, IfSome, IsOkAnd, IsErrAnd, OnErr, OnOk, IsTrue, length, option_map, reverse};
 ghost use Rattle.std.specs.Borrow.{sem};
 ghost use Rattle.std.specs.List.{range_with_len};
 ghost use Rattle.std.specs.NonZero.{non_zero_usize_get};
@@ -19,7 +19,7 @@ ghost use Rattle.glyph_map.specs.State.{cache_of, pairs_of};
 ghost use Rattle.glyph_map.specs.Calls.{dropped_pairs, empty_map, in_new_frame, listed, map_grown, seen_at, surplus, used, with_capacity, with_value, without_key};
 ghost use Rattle.glyph_map.specs.Placing.{IsFrameFull, IsLeft, IsNew, IsTooLarge, Places, Spares, evictable};
 ghost use Rattle.glyph_map.specs.Promises.{KeepsMapPromises};
-ghost use Rattle.glyph_map.specs.Retaining.{AreClonesEqual, Retains, without_keys};
+ghost use Rattle.glyph_map.specs.Retaining.{AreClonesEqual, RefusesSome, Retains, without_keys};
 ghost use Rattle.glyph_map.specs.Saved.{IsMapBroken, MapStandsFor, without_frame};
 
 use crate::faults::{MapFault, MapRestoreFault, NotRestored, Refused};
@@ -470,13 +470,16 @@ impl<K: Eq + Hash + Clone, V: Drop> GlyphMap<K, V> {
     /// first; the others are removed in this order, and dropped with their values. The order of use stays, and so does
     /// what was used in the frame. That holds where a clone of a key equals it.
     ///
-    /// The error comes only where there was no memory; then nothing changes, but that the test may have been asked.
-    /// Takes memory for a clone of each key that goes. A key that goes costs a `remove`, another one constant time.
+    /// The error comes only where keys have to go and there was no memory; then nothing changes, but that the test may
+    /// have been asked. Takes memory for a clone of each key that goes. A key that goes costs a `remove`, another one
+    /// constant time.
     pub fn retain<F: FnMut(&K, &V) -> bool>(&mut self, keeps: F) -> Result<(), AllocError>
         requires { F.IsAlwaysCallable keeps }
         ensures retained { AreClonesEqual K.is_clone K.eq
             → OnOk result (Retains F.FnMut K.eq keeps self.old self.new) }
         ensures err { OnErr result (self.new ≡ self.old) }
+        ensures refused { OnErr result
+            (RefusesSome F.FnMut keeps (reverse (pairs_of self.old.entries))) }
         ensures promises { KeepsMapPromises K.eq self.new }
     {
         let refused = clones_of_refused(self.alloc, &self.entries, keeps)?;
