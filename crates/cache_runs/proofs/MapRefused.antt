@@ -1,16 +1,21 @@
 -- What a test leaves of a map that says no of just the keys among some.
-use Rattle.std.proofs.Common.{◌≡◌, Bool, true, false, cond, List, [], ◌∷◌, length, map, reverse, refl, ap, sym, ◌∙◌, arith}
+use Rattle.std.proofs.Common.{◌≡◌, ◌≤◌, Bool, true, false, cond, inl, inr, List, [], ◌∷◌, length, map, reverse, refl, ap, sym, ◌∙◌, arith}
 use Rattle.std.proofs.lemmas.List.{length-map, length-reverse}
 use Rattle.std.specs.Borrow.{Bor}
 use Rattle.std.specs.Fn.{Called, Mut}
 use Rattle.std.specs.List.{filter, items_where_true}
 use Rattle.std.specs.Map.{keys_of}
 use Rattle.std.specs.Prelude.{not}
-use Rattle.glyph_map.specs.Retaining.{Answers, Retains, refused_keys, without_keys}
+use Rattle.glyph_map.specs.Retaining.{Answers, RefusesSome, Retains, refused_keys, without_keys}
 use Rattle.glyph_map.specs.State.{Held, MapState, pairs_of}
 use Rattle.cache_runs.specs.Dropping.{is_one_of}
 use Rattle.cache_runs.specs.MapRuns.{DropsKeys}
-use Rattle.cache_runs.proofs.Refused.{answered, kept-in_order, map-reversed, map-twice}
+use Rattle.cache_runs.proofs.Refused.{answered, filter-reverse, kept-in_order, map-reversed, map-twice}
+
+-- what isn't said no of is said yes of
+not-false : (b : Bool) → false ≡ not b → b ≡ true
+not-false true is = refl
+not-false false is = absurd (cc)
 
 module _ {K : Type 0} where
   -- the keys of which it said no
@@ -52,3 +57,42 @@ module _ {K : Type 0} where
             ∙ ap (without_keys eq old) (refused-among p (reverse (keys_of es)));
         order = retains.order ∙ ap (λ (l : List Bool). reverse (items_where_true l (reverse es))) by_entry ∙ kept-in_order stays_of es;
       }
+
+  -- one of them goes where it said no of one
+  pub some-goes : {F V : Type 0} (eq : K → K → Bool) (calls : Mut F (Bor K × (Bor V × Unit {0})) Bool) (gone : List K) (stays : F → Type 0)
+      → ((before : F) (key : Bor K) (value : Bor V) (answer : Bool) (after : F) → stays before → Called calls before (key, (value, tt)) answer after
+      → (answer ≡ not (is_one_of eq gone key.now)) × stays after)
+      → (test : F) → stays test → (pairs : List (K × V)) → RefusesSome calls test pairs
+      → 1 ≤ length (filter (is_one_of eq gone) (keys_of pairs))
+  some-goes eq calls gone stays tells test at [] refuses = absurd refuses
+  some-goes eq calls gone stays tells test at (pair ∷ pairs) (inl (after, says)) =
+      let told = tells test says.key says.value false after at says.called in
+      let goes : is_one_of eq gone pair.0 ≡ true =
+      ap (is_one_of eq gone) (sym says.shown.0) ∙ not-false (is_one_of eq gone says.key.now) told.0 in
+      rw goes (omega arith)
+  some-goes eq calls gone stays tells test at (pair ∷ pairs) (inr (after, says, later)) =
+      let told = tells test says.key says.value true after at says.called in
+      counted (is_one_of eq gone pair.0) (some-goes eq calls gone stays tells after told.1 pairs later)
+    where
+      counted : (b : Bool) → 1 ≤ length (filter (is_one_of eq gone) (keys_of pairs))
+          → 1 ≤ length (cond b (pair.0 ∷ filter (is_one_of eq gone) (keys_of pairs)) (filter (is_one_of eq gone) (keys_of pairs)))
+      counted true some = omega arith
+      counted false some = some
+
+  -- of all keys one goes
+  pub some-key-goes : {F V : Type 0} (eq : K → K → Bool) (calls : Mut F (Bor K × (Bor V × Unit {0})) Bool) (gone : List K) (stays : F → Type 0)
+      → ((before : F) (key : Bor K) (value : Bor V) (answer : Bool) (after : F) → stays before → Called calls before (key, (value, tt)) answer after
+      → (answer ≡ not (is_one_of eq gone key.now)) × stays after)
+      → (test : F) → stays test → (old : MapState K V) → RefusesSome calls test (reverse (pairs_of old.entries))
+      → 1 ≤ length (filter (is_one_of eq gone) (keys_of old.entries))
+  some-key-goes {F} {V} eq calls gone stays tells test at old refuses =
+      let p : K → Bool = is_one_of eq gone in
+      let key_of : K × V → K = λ e. e.0 in
+      let pair_of : K × Held V → K × V = λ e. (e.0, e.1.value) in
+      let turned : keys_of (reverse (pairs_of old.entries)) ≡ reverse (keys_of old.entries) =
+      map-reversed key_of (pairs_of old.entries) ∙ ap reverse (map-twice pair_of key_of old.entries) in
+      let same : length (filter p (keys_of (reverse (pairs_of old.entries)))) ≡ length (filter p (keys_of old.entries)) =
+      ap (λ (l : List K). length (filter p l)) turned ∙ ap length (filter-reverse p (keys_of old.entries))
+      ∙ length-reverse (filter p (keys_of old.entries)) in
+      let some = some-goes eq calls gone stays tells test at (reverse (pairs_of old.entries)) refuses in
+      omega (arith, some, same)

@@ -101,7 +101,7 @@ module _ {K V : Type 0} where
     told-step old new (Remove key) reply.NotThere (is_new, same) = ap entries_seen same
     told-step old new (Retain gone) reply.Retained drops =
         ap (map shown) drops.order ∙ kept-shown seen (λ key. not (is_one_of eq gone.items key)) old.entries
-    told-step old new (Retain gone) reply.NoMemory same = ap entries_seen same
+    told-step old new (Retain gone) reply.NoMemory (some, same) = ap entries_seen same
     told-step old new BeginFrame reply.Begun after = ap entries_seen after
     told-step old new (Grow size) reply.Grown (none, after) = ap entries_seen after
     told-step old new (Grow size) (reply.NotGrown fault) (is_fault, same) = ap entries_seen same

@@ -18,7 +18,7 @@ module _ {X : Type 0} where
   reverse-first : (x : X) (xs : List X) → reverse (x ∷ xs) ≡ reverse xs ++ x ∷ []
   reverse-first x xs = reverse-append (x ∷ []) xs
 
-  filter-reverse : (p : X → Bool) (xs : List X) → filter p (reverse xs) ≡ reverse (filter p xs)
+  pub filter-reverse : (p : X → Bool) (xs : List X) → filter p (reverse xs) ≡ reverse (filter p xs)
   filter-reverse p [] = refl
   filter-reverse p (x ∷ xs) =
       ap (filter p) (reverse-first x xs)

@@ -77,7 +77,8 @@ module _ {K V : Type 0} (eq : K → K → Bool) where
       (seen_at (eq key) old ≡ Some (rectangle, value)) × (new ≡ without_key (eq key) old)
   MayAnswer old (Remove key) reply.NotThere new = IsNew (eq key) old × (new ≡ old)
   MayAnswer old (Retain gone) reply.Retained new = DropsKeys old gone.items new
-  MayAnswer old (Retain gone) reply.NoMemory new = new ≡ old
+  MayAnswer old (Retain gone) reply.NoMemory new =
+      (1 ≤ length (filter (is_one_of eq gone.items) (keys_of old.entries))) × (new ≡ old)
   MayAnswer old BeginFrame reply.Begun new = new ≡ in_new_frame old
   MayAnswer old (Grow size) reply.Grown new = (grow_fault old.atlas size ≡ None) × (new ≡ map_grown old size)
   MayAnswer old (Grow size) (reply.NotGrown fault) new = IsNotGrown old.atlas size fault × (new ≡ old)

@@ -43,7 +43,7 @@ pub fn answer_on_map<K: Eq + Hash + Drop, V: Drop>(
 }
 
 /// Retains the keys of a map that equal none of these, and gives what it answers. That is a step where a clone of a key
-/// equals it.
+/// equals it, and wherever there was no memory.
 ///
 /// Takes the memory of `retain`, and costs what it does; it goes through these keys for each key that is there.
 pub fn retain_on_map<K: Eq + Hash + Clone, V: Drop>(
@@ -51,6 +51,8 @@ pub fn retain_on_map<K: Eq + Hash + Clone, V: Drop>(
     gone: Vec<K>,
 ) -> MapReply<K, V>
     ensures step { AreClonesEqual K.is_clone K.eq
+        → Step K.eq map.old (MapCall.Retain gone) result map.new }
+    ensures no_memory { result ≡ MapReply.NoMemory
         → Step K.eq map.old (MapCall.Retain gone) result map.new }
     ensures promises { KeepsMapPromises K.eq map.new }
 {
