@@ -1,12 +1,11 @@
 //! A page of text through a small cache of glyphs: each letter of standard input gets a place in one atlas, and the
-//! atlas is drawn to standard output as it is in the end.
-#![tactic(auto)]
+//! atlas is drawn as it is in the end.
 
+use anyhow::{Context, Result};
 use etagere::{DEFAULT_OPTIONS, Size, size2};
 use glyph_shelf::GlyphCache;
 use std::io::{self, Read};
 use std::num::NonZeroUsize;
-use std::process::ExitCode;
 
 /// The atlas has these sides in pixels.
 const SIDES: (i32, i32) = (160, 96);
@@ -14,34 +13,23 @@ const SIDES: (i32, i32) = (160, 96);
 /// At most so many glyphs are kept.
 const MOST_GLYPHS: usize = 64;
 
-fn main(rt: HostRuntime) -> ExitCode {
-    match draw_page(&rt) {
-        Ok(()) => ExitCode::SUCCESS,
-        Err(why) => {
-            let _ = rt.eprintln(why);
-            ExitCode::from(3)
-        }
-    }
-}
-
-fn draw_page(rt: &(impl Input + Print + AllocGlobal)) -> Result<(), &'static str> {
+pub fn draw_text(rt: &(impl Input + Print + AllocGlobal)) -> Result<()> {
     let mut text = Vec::new(rt.alloc());
-    let read = rt.reader().read_to_end(&mut text);
-    read.map_err(|_| "read fault")?;
+    rt.reader().read_to_end(&mut text)?;
     let mut cache = empty_cache(rt)?;
     place_text(&mut cache, &text)?;
-    let drawn = cache.atlas().dump_svg(&mut io::writer(rt));
-    drawn.map_err(|_| "write fault")
+    cache.atlas().dump_svg(&mut io::writer(rt))?;
+    Ok(())
 }
 
-fn empty_cache(rt: &impl AllocGlobal) -> Result<GlyphCache, &'static str> {
-    let capacity = NonZeroUsize::new(MOST_GLYPHS).ok_or("no capacity")?;
+fn empty_cache(rt: &impl AllocGlobal) -> Result<GlyphCache> {
+    let capacity = NonZeroUsize::new(MOST_GLYPHS).context("no capacity")?;
     let (width, height) = SIDES;
-    let made = GlyphCache::new(rt.alloc(), size2(width, height), &DEFAULT_OPTIONS, capacity);
-    made.map_err(|_| "no memory")
+    let cache = GlyphCache::new(rt.alloc(), size2(width, height), &DEFAULT_OPTIONS, capacity)?;
+    Ok(cache)
 }
 
-fn place_text(cache: &mut GlyphCache, text: &[u8]) -> Result<(), &'static str> {
+fn place_text(cache: &mut GlyphCache, text: &[u8]) -> Result<()> {
     for line in text.split(|byte| *byte == b'\n') {
         place_line(cache, line)?;
     }
@@ -49,12 +37,11 @@ fn place_text(cache: &mut GlyphCache, text: &[u8]) -> Result<(), &'static str> {
 }
 
 /// Places the glyphs of a line. One that begins with `#` is a heading.
-fn place_line(cache: &mut GlyphCache, line: &[u8]) -> Result<(), &'static str> {
+fn place_line(cache: &mut GlyphCache, line: &[u8]) -> Result<()> {
     let is_heading = line.first() == Some(&b'#');
     for letter in line {
         if letter.is_ascii_graphic() {
-            let placed = cache.place(key_of(*letter, is_heading), glyph_size(*letter, is_heading));
-            placed.map_err(|_| "no place")?;
+            cache.place(key_of(*letter, is_heading), glyph_size(*letter, is_heading))?;
         }
     }
     Ok(())
