@@ -6,10 +6,11 @@ use Rattle.etagere_base.specs.declared.options.AllocatorOptions.{AllocatorOption
 use Rattle.etagere_base.specs.Frames.{IsAccepted}
 use Rattle.run_commands.specs.declared.commands.Reply.{Reply}
 use Rattle.run_answers.specs.Laws.{without_number}
+use Rattle.run_answers.specs.Leading.{HasMemory}
 use Rattle.run_scripts.specs.Script.{Commands, OfBuckets, OfShelves, Request, script_of}
 use Rattle.run_scripts.proofs.ShortHeader.{script-short}
 use Rattle.run_scripts.proofs.ShortNumbers.{IsShort}
-use Rattle.etagere_run.specs.Drawing.{HasMemory, IsDrawingOf, ShowsEnd}
+use Rattle.etagere_run.specs.Drawing.{IsDrawingOf, ShowsEnd}
 use Rattle.etagere_run.specs.Replaying.{IsRunOf, RepliesTo, longest_asked}
 use Rattle.run_answers.proofs.TwoRuns.{atlas-runs-differ, bucketed-runs-differ}
 

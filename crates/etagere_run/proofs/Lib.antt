@@ -1,4 +1,3 @@
-pub mod AllAnswered
 pub mod Pictures
 pub mod InputsDecide
 pub mod ReplayAnswers

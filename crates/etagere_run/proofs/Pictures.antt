@@ -10,7 +10,8 @@ use Rattle.run_commands.specs.declared.commands.AtlasCommand.{AtlasCommand}
 use Rattle.run_commands.specs.declared.commands.BucketedCommand.{BucketedCommand}
 use Rattle.run_answers.specs.AtlasRuns.{shelf_atlas}
 use Rattle.run_answers.specs.BucketedRuns.{bucketed_atlas}
-use Rattle.etagere_run.specs.Drawing.{IsPictureOf, LeadsTo, ShowsEnd}
+use Rattle.run_answers.specs.Leading.{LeadsTo}
+use Rattle.etagere_run.specs.Drawing.{IsPictureOf, ShowsEnd}
 use Rattle.etagere_run.specs.Replaying.{longest_asked}
 use Rattle.run_scripts.specs.Script.{Commands, OfBuckets, OfShelves, Request}
 

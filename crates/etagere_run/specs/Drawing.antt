@@ -1,5 +1,5 @@
 -- What drawing writes: the picture of what is there at a script's end, or of what a snapshot stands for.
-use Rattle.std.specs.Prelude.{◌≡◌, ◌≢◌, ◌==◌, ◌⊎◌, ℕ, All, Bool, true, false, List, [], ◌∷◌, Option, Result, Ok, Err, IfSome}
+use Rattle.std.specs.Prelude.{◌≡◌, ◌==◌, ◌⊎◌, ℕ, Bool, true, false, List, [], ◌∷◌, Option, Result, Ok, Err, IfSome}
 use Rattle.std.specs.Io.KnownBytes.{Appends, Keeps}
 use Rattle.etagere_base.specs.declared.frames.Frame.{Frame}
 use Rattle.etagere_base.specs.declared.geometry.Size.{Size}
@@ -9,8 +9,6 @@ use Rattle.pictures.specs.Sending.{AppendsBeginning}
 use Rattle.bucketed_model.specs.Frames.{bucketed_frame}
 use Rattle.bucketed_model.specs.Svg as buckets
 use Rattle.shelf_model.specs.Svg as shelves
-use Rattle.run_commands.specs.declared.commands.Reply.{Reply}
-use Rattle.run_commands.specs.declared.commands.Reply.TheVariants.{NoMemory}
 use Rattle.run_commands.specs.declared.faults.Checked.{Checked}
 use Rattle.run_commands.specs.declared.faults.Checked.TheVariants.{Fine}
 use Rattle.run_commands.specs.declared.faults.Drawing.{Drawing}
@@ -23,23 +21,12 @@ use Rattle.run_answers.specs.AtlasRuns.{shelf_atlas}
 use Rattle.run_answers.specs.BucketedRuns.{bucketed_atlas}
 use Rattle.etagere_run.specs.Replaying.{HasFault, longest_asked}
 use Rattle.run_scripts.specs.ReplyText.{options_text}
-use Rattle.run_answers.specs.Runs.{Kind, Runs, RunKeepsPromisesThroughout}
+use Rattle.run_answers.specs.Leading.{LeadsTo}
+use Rattle.run_answers.specs.Runs.{Kind}
 use Rattle.etagere_run.specs.Saved.{MayAnswer, ShowsSaved}
 use Rattle.run_scripts.specs.Script.{Commands, OfBuckets, OfShelves, Request, script_of}
 use Rattle.saved_json.specs.declared.saved.Saved.{Saved}
 use Rattle.saved_json.specs.Snapshots.{Spells}
-
--- memory was there for the command that has this reply
-abbrev pub HasMemory : Reply → Type 0
-HasMemory reply = reply ≢ NoMemory
-
--- The commands may lead a new state of this frame to this one: with some replies, none of which is that memory was
--- wanting, in a run that keeps its promises at each moment.
-pub record LeadsTo {S C : Type 0} (kind : Kind S C) (frame : Frame) (commands : List C) (last : S) : Type 0 where
-  pub replies : List Reply
-  pub run : Runs kind 0 [] (kind.fresh frame) commands replies last
-  pub memory : All HasMemory replies
-  pub promises : RunKeepsPromisesThroughout kind frame commands replies
 
 -- the text is the picture of a state to which the commands may lead a new one of this frame
 pub record ShowsLast {S C : Type 0} (kind : Kind S C) (picture : S → List ℕ) (frame : Frame) (commands : List C)

@@ -1,8 +1,9 @@
 -- Laws of replays and drawings: what an input decides.
 use Rattle.std.specs.Prelude.{◌≡◌, ℕ, All, List, map}
-use Rattle.etagere_run.specs.Drawing.{HasMemory, IsDrawingOf}
+use Rattle.etagere_run.specs.Drawing.{IsDrawingOf}
 use Rattle.etagere_run.specs.Replaying.{IsRunOf}
 use Rattle.run_answers.specs.Laws.{without_number}
+use Rattle.run_answers.specs.Leading.{HasMemory}
 
 -- what two replays of an input answer, neither refused memory, is the same but for the numbers of ids
 abbrev pub ReplaysDifferInIds : Type 0

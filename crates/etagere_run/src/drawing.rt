@@ -3,19 +3,16 @@
 //!
 //! Definition: `Drawing`, over `Script`, `Runs` and `Saved`. What a picture shows is decided by each atlas.
 
-ghost use Rattle.std.specs.Prelude.{◌≡◌, ◌↔◌, ℕ, All, List, Ok, Err, IfErr, IfOk, IsTrue, OnErr, OnOk};
+ghost use Rattle.std.specs.Prelude.{◌≡◌, ℕ, List, Ok, Err, OnErr, OnOk};
 ghost use Rattle.std.specs.Io.KnownBytes.{IsAtEnd};
-ghost use Rattle.etagere_base.specs.Frames.{IsAccepted};
-ghost use Rattle.etagere_run.specs.Drawing.{Draws, HasMemory, LeadsTo, is_snapshot};
+ghost use Rattle.etagere_run.specs.Drawing.{Draws, is_snapshot};
 ghost use Rattle.etagere_run.specs.Private.Drawn.{DrawsEnd, DrawsInput, DrawsSaved, DrawsScript, DrawsSnapshot};
-ghost use Rattle.run_answers.specs.Runs.{RefusesRun};
 ghost use Rattle.run_scripts.specs.Script.{script_of};
 
 use crate::saved::refusal;
-use etagere::{AllocatorOptions, AtlasAllocator, OptionsFault, Size};
+use etagere::{AtlasAllocator, OptionsFault};
 use etagere_bucketed::BucketedAtlasAllocator;
-use run_answers::running::{Beginning, run_new};
-use run_commands::commands::Reply;
+use run_answers::leading::atlas_after;
 use run_commands::faults::{Checked, Drawing, Outcome, ReplayFault, RunFault};
 use run_scripts::reading::read_all;
 use run_scripts::script::{Commands, Script, ScriptFault, read_script};
@@ -182,40 +179,4 @@ fn draw_end<W: Write>(alloc: Global, script: &Script, writer: &mut W) -> Result<
             Ok(atlas.dump_svg(writer)?)
         }
     }
-}
-
-/// A new atlas after the commands.
-fn atlas_after<A: Beginning>(
-    alloc: Global,
-    size: Size,
-    options: &AllocatorOptions,
-    commands: &[A::Command],
-) -> Result<A, RunFault>
-    ensures led { IfOk result (λ atlas.
-        LeadsTo A.kind (A.framed size options.now) commands.now atlas) }
-    ensures accepted { OnOk result (IsAccepted A.longest size options.now) }
-    ensures err { IfErr result (RefusesRun A.longest size options.now) }
-{
-    let answered = run_new::<A>(alloc, size, options, commands)?;
-    with_all_answered(answered.atlas, answered.replies.as_slice())
-}
-
-/// The atlas, if memory was there for every command that has these replies.
-fn with_all_answered<A: Drop>(atlas: A, replies: &[Reply]) -> Result<A, RunFault>
-    ensures same { IfOk result (λ after. after ≡ atlas) }
-    ensures all { OnOk result (All HasMemory replies.now) }
-    ensures memory { IfErr result (λ fault. fault ≡ RunFault.Memory) }
-{
-    if replies.iter().all(|reply| had_memory(reply)) {
-        Ok(atlas)
-    } else {
-        Err(RunFault::Memory)
-    }
-}
-
-/// Whether memory was there for the command that has this reply.
-fn had_memory(reply: &Reply) -> bool
-    ensures { IsTrue result ↔ HasMemory reply.now }
-{
-    !matches!(reply, Reply::NoMemory)
 }

@@ -1,15 +1,10 @@
 -- Runs with the states that they go through, and what is told of their commands.
-use Rattle.std.specs.Prelude.{◌≡◌, ◌≢◌, ℕ, ◌+◌, Option, None, Some, List, [], ◌∷◌}
+use Rattle.std.specs.Prelude.{◌≡◌, ℕ, ◌+◌, Option, None, Some, List, [], ◌∷◌}
 use Rattle.run_commands.specs.declared.commands.Reply.{Reply}
-use Rattle.run_commands.specs.declared.commands.Reply.TheVariants.{NoMemory}
 use Rattle.run_answers.specs.Live.{Entry, live_after}
 use Rattle.run_answers.specs.Runs.{Kind}
 use Rattle.traffic.specs.declared.going_on.Finding.{Finding}
 use Rattle.traffic.specs.declared.going_on.Refused.{Refused}
-
--- memory was there for the command that has this reply
-abbrev pub HasMemory : Reply → Type 0
-HasMemory reply = reply ≢ NoMemory
 
 -- where these entries are live, a state may give these replies to commands, the first of them at this position, one
 -- after another, and go through these states, one after each command

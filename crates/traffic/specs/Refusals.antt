@@ -13,11 +13,12 @@ use Rattle.run_commands.specs.declared.commands.BucketedCommand.{BucketedCommand
 use Rattle.run_commands.specs.declared.commands.BucketedCommand.TheVariants as buckets
 use Rattle.run_commands.specs.declared.commands.Reply.{Reply}
 use Rattle.run_commands.specs.declared.commands.Reply.TheVariants as replies
+use Rattle.run_answers.specs.Leading.{HasMemory}
 use Rattle.run_answers.specs.Runs.{Kind}
 use Rattle.traffic.specs.declared.going_on.Finding.{Finding}
 use Rattle.traffic.specs.declared.going_on.Reason.TheVariants.{OfShelves, OfBuckets, OfGrow}
 use Rattle.traffic.specs.declared.going_on.Refused.{Refused}
-use Rattle.traffic.specs.GoingOn.{GoesOn, HasMemory}
+use Rattle.traffic.specs.GoingOn.{GoesOn}
 
 -- why a shelf atlas refused a command: a size by the first reason that holds, a growth by the number of its fault
 abbrev pub atlas_told : AtlasState → AtlasCommand → Reply → Option Refused

@@ -1,5 +1,5 @@
 -- What is saved of an atlas that a script leaves.
-use Rattle.std.specs.Prelude.{All, List, []}
+use Rattle.std.specs.Prelude.{List}
 use Rattle.etagere_base.specs.declared.frames.Frame.{Frame}
 use Rattle.bucketed_model.specs.State.{BucketedState}
 use Rattle.bucketed_snapshots.specs.declared.BucketedSnapshot.{BucketedSnapshot}
@@ -11,17 +11,9 @@ use Rattle.shelf_records.specs.Snapshots as shelves
 use Rattle.shelf_records.specs.StandsFor as shelf_rules
 use Rattle.run_commands.specs.declared.commands.AtlasCommand.{AtlasCommand}
 use Rattle.run_commands.specs.declared.commands.BucketedCommand.{BucketedCommand}
-use Rattle.run_commands.specs.declared.commands.Reply.{Reply}
 use Rattle.run_answers.specs.AtlasRuns.{shelf_atlas}
 use Rattle.run_answers.specs.BucketedRuns.{bucketed_atlas}
-use Rattle.run_answers.specs.Runs.{Kind, Runs}
-use Rattle.traffic.specs.GoingOn.{HasMemory}
-
--- the commands may lead a new state of a frame to this one, where memory was there for each
-pub record LeadsTo {S C : Type 0} (kind : Kind S C) (frame : Frame) (commands : List C) (last : S) : Type 0 where
-  pub replies : List Reply
-  pub run : Runs kind 0 [] (kind.fresh frame) commands replies last
-  pub memory : All HasMemory replies
+use Rattle.run_answers.specs.Leading.{LeadsTo}
 
 -- a snapshot stands for a state to which the commands may lead a new atlas of a frame
 abbrev pub SavesAtlas : Frame → List AtlasCommand → AtlasSnapshot → Type 0

@@ -2,12 +2,12 @@
 //!
 //! Definition: `GoingOn`, over `Runs`. What is told of a command is said by `Explaining`.
 
-ghost use Rattle.std.specs.Prelude.{◌≡◌, ◌≤◌, ◌+◌, ◌++◌, ◌↔◌, [], All, IfErr, IfOk, IsTrue, OnOk, length, vec_capacity, vec_len};
+ghost use Rattle.std.specs.Prelude.{◌≡◌, ◌≤◌, ◌+◌, ◌++◌, [], IfErr, IfOk, OnOk, length, vec_capacity, vec_len};
 ghost use Rattle.etagere_base.specs.Frames.{IsAccepted};
 ghost use Rattle.run_answers.specs.Live.{live_from};
 ghost use Rattle.run_answers.specs.Runs.{RefusesRun, effects, live_in};
 ghost use Rattle.run_answers.specs.Private.Tables.{entries_of};
-ghost use Rattle.traffic.specs.GoingOn.{GoesOn, HasMemory, with_finding};
+ghost use Rattle.traffic.specs.GoingOn.{GoesOn, with_finding};
 
 use etagere::{AllocatorOptions, BucketedRefusal, Refusal, Size};
 use run_answers::ledger::Ledger;
@@ -150,19 +150,4 @@ fn note(
         findings.push(Finding { position, refused })?;
     }
     Ok(())
-}
-
-/// Whether memory was there for every command that has these replies.
-pub(crate) fn had_memory(replies: &[Reply]) -> bool
-    ensures same { IsTrue result ↔ All HasMemory replies.now }
-    ensures all { IsTrue result → All HasMemory replies.now }
-{
-    replies.iter().all(|reply| has_memory(reply))
-}
-
-/// Whether memory was there for the command that has this reply.
-fn has_memory(reply: &Reply) -> bool
-    ensures { IsTrue result ↔ HasMemory reply.now }
-{
-    !matches!(reply, Reply::NoMemory)
 }

@@ -10,8 +10,9 @@ ghost use Rattle.run_answers.specs.BucketedRuns.{bucketed_atlas};
 ghost use Rattle.run_answers.specs.Runs.{RefusesRun};
 ghost use Rattle.traffic.specs.Refusals.{IsExplainedBy, atlas_told, bucketed_told};
 
-use crate::going_on::{Explaining, Finding, Reason, Refused, go_on_new, had_memory};
+use crate::going_on::{Explaining, Finding, Reason, Refused, go_on_new};
 use etagere::{AllocatorOptions, AtlasAllocator, BucketedAtlasAllocator, Size};
+use run_answers::leading::had_memory;
 use run_commands::commands::{AtlasCommand, BucketedCommand, Reply};
 use run_commands::faults::RunFault;
 use std::alloc::Global;

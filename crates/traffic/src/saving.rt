@@ -1,18 +1,17 @@
 //! The snapshot of the atlas that a script leaves.
 //!
-//! Definition: `Saving`, over `Runs` and the rules of snapshots.
+//! Definition: `Saving`, over `Leading` and the rules of snapshots.
 
 ghost use Rattle.std.specs.Prelude.{IfErr, IfOk, OnOk};
 ghost use Rattle.etagere_base.specs.Frames.{IsAccepted, atlas_frame, longest_side};
 ghost use Rattle.bucketed_model.specs.Frames.{bucketed_frame, longest_bucketed_side};
 ghost use Rattle.run_answers.specs.Runs.{RefusesRun};
-ghost use Rattle.traffic.specs.Saving.{LeadsTo, SavesAtlas, SavesBuckets};
+ghost use Rattle.traffic.specs.Saving.{SavesAtlas, SavesBuckets};
 
-use crate::going_on::had_memory;
 use etagere::{
     AllocatorOptions, AtlasAllocator, AtlasSnapshot, BucketedAtlasAllocator, BucketedSnapshot, Size,
 };
-use run_answers::running::{Beginning, run_new};
+use run_answers::leading::atlas_after;
 use run_commands::commands::{AtlasCommand, BucketedCommand};
 use run_commands::faults::RunFault;
 use std::alloc::Global;
@@ -55,23 +54,4 @@ pub fn save_buckets(
         return Err(RunFault::Memory);
     };
     Ok(snapshot)
-}
-
-/// A new atlas that has answered the commands, if memory was there for each.
-fn atlas_after<A: Beginning>(
-    alloc: Global,
-    size: Size,
-    options: &AllocatorOptions,
-    commands: &[A::Command],
-) -> Result<A, RunFault>
-    ensures led { IfOk result (λ atlas.
-        LeadsTo A.kind (A.framed size options.now) commands.now atlas) }
-    ensures accepted { OnOk result (IsAccepted A.longest size options.now) }
-    ensures err { IfErr result (RefusesRun A.longest size options.now) }
-{
-    let answered = run_new::<A>(alloc, size, options, commands)?;
-    if !had_memory(answered.replies.as_slice()) {
-        return Err(RunFault::Memory);
-    }
-    Ok(answered.atlas)
 }

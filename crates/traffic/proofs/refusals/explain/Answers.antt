@@ -1,7 +1,7 @@
 use Rattle.std.proofs.Common.{List, rules, subst}
 use Rattle.std.specs.Prelude.{All}
 use Rattle.run_commands.specs.declared.commands.Reply.{Reply}
-use Rattle.traffic.specs.GoingOn.{HasMemory}
+use Rattle.run_answers.specs.Leading.{HasMemory}
 use Rattle.traffic.proofs.refusals.explain.Goals as goal
 
 pub returns-clause-told : goal.returns-clause-told
