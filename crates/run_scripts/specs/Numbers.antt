@@ -1,6 +1,5 @@
 -- What the numbers and positions of a script stand for.
 use Rattle.std.specs.Prelude.{ℕ, ◌+◌, ◌-◌, ◌*◌, ◌^◌, ℤ, pos, neg_ℤ, Bool, false, ◌&&◌, List, [], ◌∷◌, length, Option, Some, None, option_map, nat_le, ◌==◌, if◌then◌else◌}
-use Rattle.std.specs.Char.{is_ascii_digit}
 use Rattle.std.specs.Str.{all_ascii_digits}
 
 -- the bytes `0` and `-`
@@ -36,10 +35,3 @@ number_of (first ∷ rest) =
 -- digits, where the value fits a `u32`
 abbrev pub position_of : List ℕ → Option ℕ
 position_of word = natural_of (2 ^ 32 - 1) word
-
--- a value and one more digit behind it, where it fits a `u64`
-abbrev pub with_digit : ℕ → ℕ → Option ℕ
-with_digit value byte =
-    if is_ascii_digit byte && nat_le (value * 10 + (byte - digit_zero)) (2 ^ 64 - 1)
-    then Some (value * 10 + (byte - digit_zero))
-    else None

@@ -5,6 +5,7 @@
 ghost use Rattle.std.specs.Prelude.{◌≡◌, ◌-◌, ◌^◌};
 ghost use Rattle.run_scripts.specs.Numbers as spec;
 ghost use Rattle.run_scripts.specs.Private.Arguments.{within_position};
+ghost use Rattle.run_scripts.specs.Private.Digits as private;
 
 /// The number that a word spells: one or more digits, with a `-` before them or none, where it fits
 /// an `i32`.
@@ -50,7 +51,7 @@ pub fn natural_of(word: &[u8]) -> Option<u64>
 
 /// The value with one more digit at its end, where it fits a `u64`.
 fn with_digit(value: u64, byte: u8) -> Option<u64>
-    ensures { result ≡ spec.with_digit value byte }
+    ensures { result ≡ private.with_digit value byte }
 {
     if !byte.is_ascii_digit() {
         return None;
