@@ -12,6 +12,7 @@ ghost use Rattle.bucketed_store.specs.Private.Grows as spec;
 ghost use Rattle.bucketed_store.specs.Private.Returns.{width_of};
 
 use crate::making::{NewBuckets, make_buckets};
+use crate::store::first_bucket;
 use bucket_index::spans::Spans;
 use bucketed_records::records::{KeptShelf, LinkedBucket, LinkedBucketShelf};
 use etagere_links::Link;
@@ -72,14 +73,6 @@ fn width_of(shelves: &[KeptShelf], number: usize) -> u16
     shelves[number].shelf.bucket_width
 }
 
-/// The link to the first bucket of the shelf of a number.
-fn first_of(shelves: &[KeptShelf], number: usize) -> Link
-    requires { number < length shelves.now }
-    ensures { result ≡ spec.first_of shelves.now number }
-{
-    shelves[number].shelf.first_bucket
-}
-
 /// Gives the shelf of a number so many buckets, side by side from a place on.
 fn widen_shelf(
     shelves: &mut [KeptShelf],
@@ -112,7 +105,7 @@ fn widen_shelf(
         width: width_of(shelves, number),
         x: place as u16,
     };
-    let old = first_of(shelves, number);
+    let old = first_bucket(shelves, number);
     let first = make_buckets(buckets, spans, unused, old, &row, count);
     set_widened(shelves, number, count, first);
 }

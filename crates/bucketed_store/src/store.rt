@@ -193,11 +193,11 @@ impl Store {
             Placement::InBucket(found) => Ok(*found),
             Placement::InAdded(news) => {
                 self.add(frame, news, in_use)?;
-                Ok(self.first_of_last())
+                Ok(found_first(&self.shelves, self.shelves.len() - 1))
             }
             Placement::InMerged(group) => {
                 self.merge(group);
-                Ok(self.first_of(group.first))
+                Ok(found_first(&self.shelves, group.first))
             }
         }
     }
@@ -209,25 +209,6 @@ impl Store {
             ≡ record self.old { shelves = spec.kept_merged group.now self.old.shelves } }
     {
         merge(&mut self.shelves, group);
-    }
-
-    /// The first bucket of the shelf of a number.
-    fn first_of(&self, number: usize) -> Found
-        requires within { number < length self.now.shelves }
-        requires some { IsSome (spec.first_bucket_of self.now.shelves number) }
-        ensures { spec.found_first number self.now.shelves ≡ Some result }
-    {
-        found_first(&self.shelves, number)
-    }
-
-    /// The first bucket of the last shelf.
-    fn first_of_last(&self) -> Found
-        requires within { 0 < length self.now.shelves }
-        requires some { IsSome
-            (spec.first_bucket_of self.now.shelves (length self.now.shelves - 1)) }
-        ensures { spec.found_first (length self.now.shelves - 1) self.now.shelves ≡ Some result }
-    {
-        found_first(&self.shelves, self.shelves.len() - 1)
     }
 
     /// What a bucket that was found gives next, if it is this wide.
@@ -440,7 +421,7 @@ fn next_item(
 }
 
 /// The link to the first bucket of the shelf of a number.
-fn first_bucket(shelves: &[KeptShelf], number: usize) -> Link
+pub(crate) fn first_bucket(shelves: &[KeptShelf], number: usize) -> Link
     requires { number < length shelves.now }
     ensures { result ≡ spec.first_bucket_of shelves.now number }
 {

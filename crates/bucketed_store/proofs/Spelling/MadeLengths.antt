@@ -8,9 +8,9 @@ use Rattle.bucketed_model.specs.Adding.{NewShelf, NewShelves, news_of, width_of_
 use Rattle.bucketed_model.specs.State.{column_place}
 use Rattle.bucketed_records.specs.declared.records.LinkedBucket.{LinkedBucket}
 use Rattle.bucketed_records.specs.Private.Store.{Stored}
-use Rattle.bucketed_store.specs.Private.Grows.{first_of, share, shelf_widened, shelves_widened}
+use Rattle.bucketed_store.specs.Private.Grows.{share, shelf_widened, shelves_widened}
 use Rattle.bucketed_store.specs.Private.Returns.{width_of}
-use Rattle.bucketed_store.specs.Private.StoreEdits.{Made, after_first, made_again, made_many, made_new, made_one, new_record, stored_shelf, stored_shelves}
+use Rattle.bucketed_store.specs.Private.StoreEdits.{Made, after_first, first_bucket_of, made_again, made_many, made_new, made_one, new_record, stored_shelf, stored_shelves}
 use Rattle.bucketed_store.specs.declared.making.NewBuckets.{NewBuckets}
 
 -- one more bucket takes no record away
@@ -56,7 +56,7 @@ widened-keeps (suc count) number place added left stored =
     let width = width_of stored.shelves number in
     let more = share added width left in
     let new : NewBuckets = record { shelf = number; width = width; x = place } in
-    let made : Made = record { buckets = stored.buckets; unused = stored.unused; first = first_of stored.shelves number } in
+    let made : Made = record { buckets = stored.buckets; unused = stored.unused; first = first_bucket_of stored.shelves number } in
     omega (
       arith,
       made_many-keeps more new made,

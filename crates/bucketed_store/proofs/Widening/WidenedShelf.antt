@@ -17,9 +17,9 @@ use Rattle.bucketed_records.specs.declared.records.LinkedBucket.{LinkedBucket}
 use Rattle.bucketed_records.specs.Private.Store.{AreBucketsSpelled, AreShelvesSpelled, Spells, Stored, first_link, kept_shelf, kept_shelves, live_items, widest_room}
 use Rattle.bucketed_records.specs.declared.records.KeptShelf.{KeptShelf}
 use Rattle.bucketed_records.proofs.Spelling.KeptShelves.{kept-append, kept-heights, length-kept}
-use Rattle.bucketed_store.specs.Private.Grows.{first_of, shelf_made, shelf_widened, widened_kept}
+use Rattle.bucketed_store.specs.Private.Grows.{shelf_made, shelf_widened, widened_kept}
 use Rattle.bucketed_store.specs.Private.Returns.{width_of}
-use Rattle.bucketed_store.specs.Private.StoreEdits.{Made, made_many}
+use Rattle.bucketed_store.specs.Private.StoreEdits.{Made, first_bucket_of, made_many}
 use Rattle.bucketed_store.proofs.Emptying.ItemReturns.{changed-middle}
 use Rattle.bucketed_store.proofs.Emptying.SpelledPlaces.{shelf-spelled}
 use Rattle.bucketed_store.proofs.Emptying.SpelledReturns.{widest-all}
@@ -95,8 +95,8 @@ widens-shelf frame stored unused front x back place count spells few =
     let whole : stored.shelves ≡ A ++ kept ∷ B = spells.shelves ∙ kept-append frame [] front (x ∷ back) in
     let here : slice_get stored.shelves i ≡ Some kept = ap (λ (ks : List KeptShelf). slice_get ks i) whole ∙ slice_get-append A kept B i long in
     let width : width_of stored.shelves i ≡ w = ap (λ (r : Option KeptShelf). option_map_or (λ (k : KeptShelf). k.shelf.bucket_width) r 0) here in
-    let first : first_of stored.shelves i ≡ first_link x.buckets = ap (λ (r : Option KeptShelf). option_map_or (λ (k : KeptShelf). k.shelf.first_bucket) r None) here in
-    let before : Made = record { buckets = stored.buckets; unused = stored.unused; first = first_of stored.shelves i } in
+    let first : first_bucket_of stored.shelves i ≡ first_link x.buckets = ap (λ (r : Option KeptShelf). option_map_or (λ (k : KeptShelf). k.shelf.first_bucket) r None) here in
+    let before : Made = record { buckets = stored.buckets; unused = stored.unused; first = first_bucket_of stored.shelves i } in
     let made = shelf_made i place count stored in
     let same : made_many count (record { shelf = i; width = w; x = place }) before ≡ made =
     ap (λ (v : ℕ). made_many count (record { shelf = i; width = v; x = place }) before) (sym width) in

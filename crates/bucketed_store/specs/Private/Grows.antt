@@ -1,13 +1,12 @@
 -- What a growth does to records: shelves get further buckets.
-use Rattle.std.specs.Prelude.{◌≡◌, ℕ, zero, suc, ◌-◌, ◌/◌, min, max, Option, None, Some, List, [], ◌∷◌, length, slice_get, ◌==◌, if◌then◌else◌}
-use Rattle.std.specs.Option.{option_map_or}
+use Rattle.std.specs.Prelude.{◌≡◌, ℕ, zero, suc, ◌-◌, ◌/◌, min, max, Option, Some, List, [], ◌∷◌, length, ◌==◌, if◌then◌else◌}
 use Rattle.etagere_links.specs.Edits.{changed_by}
 use Rattle.bucketed_model.specs.State.{most_buckets}
 use Rattle.bucketed_records.specs.declared.records.LinkedBucket.{LinkedBucket}
 use Rattle.bucketed_records.specs.declared.records.KeptShelf.{KeptShelf}
 use Rattle.bucketed_records.specs.Private.Store.{Stored}
 use Rattle.bucketed_store.specs.Private.Returns.{width_of}
-use Rattle.bucketed_store.specs.Private.StoreEdits.{Made, made_many}
+use Rattle.bucketed_store.specs.Private.StoreEdits.{Made, first_bucket_of, made_many}
 
 -- how many buckets this wide a shelf gets for a width that is added, where so many are left
 abbrev pub share : ℕ → ℕ → ℕ → ℕ
@@ -28,11 +27,6 @@ widened_kept count first kept =
       widest_room = if count == 0 then kept.widest_room else kept.shelf.bucket_width;
     }
 
--- the first bucket of the shelf of a number
-abbrev pub first_of : List KeptShelf → ℕ → Option ℕ
-first_of shelves number =
-    option_map_or (λ (kept : KeptShelf). kept.shelf.first_bucket) (slice_get shelves number) None
-
 abbrev pub stored_of : List KeptShelf → List LinkedBucket → Option ℕ → Stored
 stored_of shelves buckets unused = record { shelves = shelves; buckets = buckets; unused = unused }
 
@@ -43,7 +37,7 @@ shelf_made number place count stored =
     (record {
       buckets = stored.buckets;
       unused = stored.unused;
-      first = first_of stored.shelves number;
+      first = first_bucket_of stored.shelves number;
     })
 
 -- the shelf of a number got so many buckets from a place on
