@@ -48,13 +48,6 @@ pub fn chain_order(along: u16, across: u16) -> u32
     u32::from(along) * 65536 + u32::from(across)
 }
 
-/// Where a shelf of this height that begins there stands in the order.
-fn order_at(height: u32, place: u32) -> u64
-    ensures { result ≡ spec.order_at height place }
-{
-    u64::from(height) * (65536 * 65536) + u64::from(place)
-}
-
 /// Where a shelf stands in the order.
 pub fn order_of(shelves: &[LinkedShelf], shelf: usize) -> u64
     requires { shelf < length shelves.now }
@@ -62,7 +55,7 @@ pub fn order_of(shelves: &[LinkedShelf], shelf: usize) -> u64
     ensures small { result < 2 ^ 48 }
 {
     let record = &shelves[shelf];
-    order_at(u32::from(record.height), chain_order(record.x, record.y))
+    u64::from(record.height) * (65536 * 65536) + u64::from(chain_order(record.x, record.y))
 }
 
 /// Whether a shelf comes before this height and place: the place decides only where the heights are equal.
