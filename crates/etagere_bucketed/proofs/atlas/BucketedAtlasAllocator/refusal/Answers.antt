@@ -11,7 +11,7 @@ use Rattle.bucketed_model.specs.Adding.{Remaining, left_to}
 use Rattle.bucketed_model.specs.declared.refusals.BucketedRefusal.{BucketedRefusal}
 use Rattle.bucketed_model.specs.Picking.{or_else}
 use Rattle.bucketed_model.specs.Refusal.{place_refusal, refusal, size_refusal}
-use Rattle.bucketed_model.specs.State.{BucketedState, available_height, current_column, most_buckets}
+use Rattle.bucketed_model.specs.State.{BucketedState, current_column, most_buckets}
 use Rattle.bucketed_store.specs.Private.Refusals.{kept_refusal}
 use Rattle.bucketed_store.proofs.Refused.{refusal-kept}
 use Rattle.etagere_bucketed.specs.declared.atlas.BucketedAtlasAllocator.TheInside.{Inside}

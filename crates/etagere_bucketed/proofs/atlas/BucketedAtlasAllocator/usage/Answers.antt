@@ -1,5 +1,4 @@
-use Rattle.std.specs.Prelude.{◌^◌}
-use Rattle.std.proofs.Common.{◌<◌, ap, arith, ◌∙◌}
+use Rattle.std.proofs.Common.{ap, arith, ◌∙◌}
 use Rattle.bucketed_model.specs.Usage.{usage}
 use Rattle.bucketed_store.proofs.Emptying.EndTotals.{tells-end}
 use Rattle.bucketed_store.proofs.Refused.{items-few, usage-kept}
