@@ -1,5 +1,5 @@
 -- Laws of records: what they stand for.
-use Rattle.std.specs.Prelude.{◌≡◌}
+use Rattle.std.specs.Prelude.{◌≡◌, IfErr, Result}
 use Rattle.etagere_base.specs.declared.faults.RestoreFault.{RestoreFault}
 use Rattle.etagere_base.specs.declared.faults.RestoreFault.TheVariants.{Memory}
 use Rattle.shelf_records.specs.AtlasRecords.{AtlasRecords}
@@ -18,3 +18,9 @@ abbrev pub BrokenStandsForNone : Type 0
 BrokenStandsForNone =
     (atlas : AtlasRecords) (state : AtlasState) (fault : RestoreFault) → IsBroken atlas fault
     → StandsFor atlas state → fault ≡ Memory
+
+-- where records stand for a state, an answer that names a rule that they break is want of memory
+abbrev pub OnlyMemoryIsWanting : Type 0
+OnlyMemoryIsWanting =
+    (atlas : AtlasRecords) (state : AtlasState) (answer : Result AtlasState RestoreFault) → StandsFor atlas state
+    → IfErr answer (IsBroken atlas) → IfErr answer (λ fault. fault ≡ Memory)

@@ -3,7 +3,7 @@
 
 ghost use Rattle.std.specs.Prelude.{◌≡◌, IfErr, IfOk};
 ghost use Rattle.etagere_base.specs.declared.faults.RestoreFault.TheVariants as faults;
-ghost use Rattle.etagere.specs.RecordLaws.{BrokenStandsForNone, StandsForOne};
+ghost use Rattle.etagere.specs.RecordLaws.{BrokenStandsForNone, OnlyMemoryIsWanting, StandsForOne};
 
 use crate::atlas::AtlasAllocator;
 pub use crate::restored::restore_atlas;
@@ -15,10 +15,12 @@ pub use etagere_bucketed::laws::{
 pub use etagere_links::{Walk, walk};
 use std::alloc::Global;
 
-/// Records stand for one state at most, and those that break a rule for none. It is a law, and does nothing.
+/// Records stand for one state at most, and those that break a rule for none: so a `restore` of what stands for one finds
+/// no fault but `Memory`. It is a law, and does nothing.
 pub fn records_stand_for_one_state()
     ensures one { StandsForOne }
     ensures none { BrokenStandsForNone }
+    ensures memory { OnlyMemoryIsWanting }
 {}
 
 /// Saves an atlas and restores what was saved: the other atlas is in the same state. It is a law, and not meant for
@@ -37,5 +39,6 @@ pub fn saved_and_restored(
     let Ok(snapshot) = atlas.snapshot() else {
         return Err(RestoreFault::Memory);
     };
+    records_stand_for_one_state();
     AtlasAllocator::restore(alloc, snapshot)
 }

@@ -1,5 +1,5 @@
 -- Laws of records, proved of all of them: they stand for one state at most, and where a rule is broken for none.
-use Rattle.std.specs.Prelude.{◌≡◌}
+use Rattle.std.specs.Prelude.{◌≡◌, IfErr, Result}
 use Rattle.etagere_base.specs.declared.faults.RestoreFault.{RestoreFault}
 use Rattle.etagere_base.specs.declared.faults.RestoreFault.TheVariants.{Memory}
 use Rattle.bucketed_model.specs.State.{BucketedState}
@@ -18,3 +18,9 @@ abbrev pub BrokenStandsForNone : Type 0
 BrokenStandsForNone =
     (atlas : BucketRecords) (state : BucketedState) (fault : RestoreFault) → Breaks atlas fault → StandsFor atlas state
     → fault ≡ Memory
+
+-- where records stand for a state, an answer that names a rule that they break is want of memory
+abbrev pub OnlyMemoryIsWanting : Type 0
+OnlyMemoryIsWanting =
+    (atlas : BucketRecords) (state : BucketedState) (answer : Result BucketedState RestoreFault) → StandsFor atlas state
+    → IfErr answer (Breaks atlas) → IfErr answer (λ fault. fault ≡ Memory)

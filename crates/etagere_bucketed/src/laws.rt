@@ -3,17 +3,19 @@
 
 ghost use Rattle.std.specs.Prelude.{◌≡◌, IfErr, IfOk};
 ghost use Rattle.etagere_base.specs.declared.faults.RestoreFault.TheVariants as faults;
-ghost use Rattle.etagere_bucketed.specs.RecordLaws.{StandsForOne, BrokenStandsForNone};
+ghost use Rattle.etagere_bucketed.specs.RecordLaws.{BrokenStandsForNone, OnlyMemoryIsWanting, StandsForOne};
 
 use crate::atlas::BucketedAtlasAllocator;
 pub use crate::restored::restore_bucketed;
 use etagere_base::RestoreFault;
 use std::alloc::Global;
 
-/// Records stand for one state at most, and those of which a rule is broken for none. It is a law, and does nothing.
+/// Records stand for one state at most, and those of which a rule is broken for none: so a `restore` of what stands for
+/// one finds no fault but `Memory`. It is a law, and does nothing.
 pub fn records_stand_for_one_state()
     ensures one { StandsForOne }
     ensures none { BrokenStandsForNone }
+    ensures memory { OnlyMemoryIsWanting }
 {}
 
 /// Saves an atlas and restores what was saved: the other atlas is in the same state. It is a law, and not meant for
@@ -31,5 +33,6 @@ pub fn saved_and_restored(
     let Ok(snapshot) = atlas.snapshot() else {
         return Err(RestoreFault::Memory);
     };
+    records_stand_for_one_state();
     BucketedAtlasAllocator::restore(alloc, snapshot)
 }
