@@ -98,6 +98,14 @@ fn stays_known(before: &KeptShelf, kept: &KeptShelf) -> bool
     kept.widest_room <= before.widest_room && !kept.is_idle()
 }
 
+/// Whether a shelf is to be known just as the one that it was before: it has the same room, and both hold something live.
+fn stays_equal(before: &KeptShelf, kept: &KeptShelf) -> bool
+    ensures { IsTrue result → (kept.now.widest_room ≤ before.now.widest_room)
+        × (is_kept_idle kept.now ≡ false) }
+{
+    kept.widest_room == before.widest_room && !before.is_idle() && !kept.is_idle()
+}
+
 /// What is known of two blocks together.
 fn joined(one: Block, other: Block) -> Block
     ensures { result ≡ spec.joined one other }
@@ -382,6 +390,22 @@ impl Blocks {
     /// now, or less may be.
     #[inline(always)]
     pub fn follow(&mut self, shelves: &[KeptShelf], number: usize, before: &KeptShelf)
+        requires within { number < length shelves.now }
+        requires before { spec.IsKnownAt number before.now self.old }
+        requires others { spec.AreOthersKnown number self.old shelves.now }
+        ensures { spec.AreKnown self.new shelves.now }
+    {
+        if stays_equal(before, &shelves[number]) {
+            self.forget_others(number);
+        } else {
+            self.follow_change(shelves, number, before);
+        }
+    }
+
+    /// Knows the shelf of a number, which was this one before, and may be known by more or by less now. It is seldom
+    /// called, so that those who follow a shelf needn't keep what it uses.
+    #[inline(never)]
+    fn follow_change(&mut self, shelves: &[KeptShelf], number: usize, before: &KeptShelf)
         requires within { number < length shelves.now }
         requires before { spec.IsKnownAt number before.now self.old }
         requires others { spec.AreOthersKnown number self.old shelves.now }

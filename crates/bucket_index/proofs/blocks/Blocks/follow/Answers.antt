@@ -5,13 +5,13 @@ use Rattle.bucket_index.proofs.KnownBlocks.{known-stays}
 use Rattle.bucket_index.proofs.OtherShelves.{known-whatever, others-left}
 use Rattle.bucket_index.proofs.blocks.Blocks.follow.Goals as goal
 
-pub returns-then-stays_known : goal.returns-then-stays_known
-returns-then-stays_known c =
+pub returns-then-stays_equal : goal.returns-then-stays_equal
+returns-then-stays_equal c =
     let shelves = c.args.shelves.now in
     let number = c.args.number in
     let old = c.args.self.now in
     let one = c.index-shelves-number.result in
-    let is = c.stays_known.ensures c.if-stays_known.true in
+    let is = c.stays_equal.ensures c.if-stays_equal.true in
     rw c.forget_others.ensures (record {
       each = known-whatever (forgotten number old).others old shelves
           (known-stays number c.args.before.now one old shelves (slice_get_read shelves (length shelves) number one refl c.requires.within c.index-shelves-number.is) is.0 is.1
