@@ -2,7 +2,7 @@
 //!
 //! Definitions: `Private/Placing` and `StoreEdits`, and `Placing` of `bucketed_model` for what they mean.
 
-ghost use Rattle.std.specs.Prelude.{◌≡◌, ◌<◌, ◌^◌};
+ghost use Rattle.std.specs.Prelude.{◌≡◌, ◌<◌, ◌^◌, IsTrue};
 ghost use Rattle.std.specs.Option.{option_map};
 ghost use Rattle.bucketed_model.specs.Frames.{IsBucketedFrame};
 ghost use Rattle.bucket_index.specs.Private.Blocks.{AreKnown};
@@ -31,6 +31,16 @@ pub enum Placement {
 }
 
 impl Placement {
+    /// Whether it is in a bucket that is there.
+    pub fn is_there(&self) -> bool
+        ensures { IsTrue result → edits.IsThere (spec.placement_seen self.now) }
+    {
+        match self {
+            Placement::InBucket(_) => true,
+            _ => false,
+        }
+    }
+
     /// How many buckets have to be made for it.
     pub fn needed_buckets(&self) -> u32
         requires { edits.needed_for (spec.placement_seen self.now) < 2 ^ 32 }

@@ -372,6 +372,23 @@ impl Store {
         Ok(left - rest)
     }
 
+    /// How many shelves there are.
+    pub fn shelf_count(&self) -> usize
+        ensures { result ≡ length self.now.shelves }
+    {
+        self.shelves.len()
+    }
+
+    /// The current column, and the height that it leaves; these are known where they are kept.
+    pub fn end_unless(&self, frame: &Frame, is_kept: bool, kept: Sides) -> Sides
+        requires frame { IsBucketedFrame frame.now }
+        requires short { spec.IsShort frame.now self.now.shelves }
+        requires kept { IsTrue is_kept → spec.end_of frame.now self.now.shelves ≡ kept }
+        ensures { result ≡ spec.end_of frame.now self.now.shelves }
+    {
+        if is_kept { kept } else { self.end(frame) }
+    }
+
     /// The current column, and the height that it leaves.
     pub fn end(&self, frame: &Frame) -> Sides
         requires frame { IsBucketedFrame frame.now }

@@ -1,12 +1,20 @@
 -- An atlas after a return: what its fields stand for, and that they keep it.
-use Rattle.std.proofs.Common.{◌≡◌, ℕ, ◌+◌, true, List, length, ap, arith, subst, sym, ◌∙◌}
+use Rattle.std.proofs.Common.{◌≡◌, ℕ, ◌+◌, true, List, length, ap, arith, refl, subst, sym, ◌∙◌}
+use Rattle.std.specs.Prelude.{nat_le}
+use Rattle.etagere_base.specs.declared.sides.Sides.{Sides}
 use Rattle.bucketed_model.specs.Returning.{bucket_returned, is_known, tag_of}
 use Rattle.bucketed_model.specs.Space.{allocated_space}
-use Rattle.bucketed_model.specs.State.{buckets_in_use}
+use Rattle.bucketed_model.specs.State.{available_height, buckets_in_use, most_buckets}
 use Rattle.bucketed_records.specs.Private.Store.{Stored}
 use Rattle.bucketed_records.specs.Private.Witnessed.{Witnessed}
-use Rattle.bucketed_store.specs.Private.Returns.{Dropping, dropping_from, end_dropped, is_known_in, item_returned, returned_area}
+use Rattle.bucketed_records.specs.StandsFor.{live_of, shelf_of}
+use Rattle.bucket_index.specs.Private.Searching.{widest_from}
+use Rattle.bucketed_store.specs.Private.Placing.{Placement, InBucket, InAdded, InMerged}
+use Rattle.bucketed_store.specs.Private.Returns.{Dropping, dropping_from, end_dropped, is_known_in, item_returned, returned_area, returned_kept}
+use Rattle.bucketed_store.specs.Private.StoreEdits.{IsThere, end_of, first_bucket_of, given_from, stored_ready, stored_taken}
 use Rattle.bucketed_store.proofs.Emptying.EndTotals.{TellsEnd, tells-end}
+use Rattle.bucketed_store.proofs.Emptying.SpelledDrops.{leaves-dropped}
+use Rattle.bucketed_store.proofs.Spelling.Ends.{end-changed, end-kept}
 use Rattle.bucketed_store.proofs.Emptying.Returned.{IsReturned, known-is, returned-is, stored_returned}
 use Rattle.etagere_bucketed.specs.declared.atlas.BucketedAtlasAllocator.TheInside.{Inside}
 use Rattle.etagere_bucketed.specs.Private.Consistent.{IsConsistent, state_in}
@@ -46,3 +54,39 @@ after-return inside id middle new number dropped area consistent known named ret
       in_use = omega (arith, count, r.in_use, consistent.totals.in_use);
       space = omega (arith, r.space, given, ap (λ (n : ℕ). returned_area n inside.store.shelves inside.store.buckets) named, consistent.totals.space);
     }
+
+-- the end as an atlas keeps it
+abbrev pub end_in : Inside → Sides
+end_in inside = record { along = inside.current_column; across = inside.available_height }
+
+-- it is that of the shelves
+pub atlas-end : (inside : Inside) → IsConsistent inside → end_of inside.frame inside.store.shelves ≡ end_in inside
+atlas-end inside consistent =
+    let state = state_in inside in
+    ap (end_of inside.frame) consistent.witnessed.spells.shelves ∙ end-kept inside.frame state.shelves consistent.witnessed.valid.frame.column_width
+    ∙ ap (λ (n : ℕ). let sides : Sides = record { along = n; across = available_height inside.frame state.shelves } in sides) (sym consistent.totals.column)
+    ∙ ap (λ (n : ℕ). let sides : Sides = record { along = inside.current_column; across = n } in sides) (sym consistent.totals.height)
+
+-- a return that drops no shelf leaves it
+pub end-returned : (inside : Inside) (middle new : Stored) (number dropped : ℕ) → IsConsistent inside → middle ≡ item_returned number inside.store
+    → dropping_from new dropped ≡ end_dropped (length middle.shelves) (dropping_from middle 0) → length new.shelves ≡ length middle.shelves → end_of inside.frame new.shelves ≡ end_in inside
+end-returned inside middle new number dropped consistent returned drops same =
+    let left : new.shelves ≡ (end_dropped (length middle.shelves) (dropping_from middle 0)).stored.shelves = ap (λ (d : Dropping). d.stored.shelves) drops in
+    let all : new.shelves ≡ middle.shelves = left ∙ (leaves-dropped (length middle.shelves) (dropping_from middle 0)).same (sym (ap length left) ∙ same) in
+    ap (end_of inside.frame) (all ∙ ap (λ (s : Stored). s.shelves) returned)
+    ∙ end-changed inside.frame (shelf_of inside.store.buckets number) (returned_kept (nat_le (live_of inside.store.buckets number) 1)) inside.store.shelves (λ kept. refl)
+    ∙ atlas-end inside consistent
+
+-- an allocation in a bucket that is there leaves it
+pub end-allocated : (inside : Inside) (place : Placement) (ready new : Stored) (shelf bucket width : ℕ) → IsConsistent inside → ready ≡ stored_ready inside.frame place inside.store
+    → new ≡ stored_taken shelf bucket width ready → IsThere place → end_of inside.frame new.shelves ≡ end_in inside
+end-allocated inside place ready new shelf bucket width consistent is_ready taken there =
+    let same : ready ≡ inside.store = is_ready ∙ by_place place there in
+    ap (λ (s : Stored). end_of inside.frame s.shelves) taken
+    ∙ end-changed inside.frame shelf (given_from (widest_from most_buckets (stored_taken shelf bucket width ready).buckets (first_bucket_of ready.shelves shelf))) ready.shelves (λ kept. refl)
+    ∙ ap (λ (s : Stored). end_of inside.frame s.shelves) same ∙ atlas-end inside consistent
+  where
+    by_place : (p : Placement) → IsThere p → stored_ready inside.frame p inside.store ≡ inside.store
+    by_place (InBucket found) is = refl
+    by_place (InAdded news) is = absurd is
+    by_place (InMerged group) is = absurd is

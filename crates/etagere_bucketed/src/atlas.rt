@@ -49,7 +49,7 @@ use bucketed_store::store::Store;
 use bucketed_store::usage;
 use etagere_base::{
     AllocId, Allocation, AllocatorOptions, DEFAULT_OPTIONS, Frame, OptionsFault, Rectangle,
-    RestoreFault, Size, UnknownId, asked, grown_frame, options_fault,
+    RestoreFault, Sides, Size, UnknownId, asked, grown_frame, options_fault,
 };
 use pictures::{GatheredText, Pictured, send_document, send_into};
 use std::alloc::{AllocError, Global};
@@ -256,7 +256,11 @@ impl BucketedAtlasAllocator {
             .prepare(&self.frame, &place, self.buckets_in_use)?;
         let allocation = self.store.allocation(&self.frame, &found, sides.along);
         let area = self.store.take(&found, sides.along);
-        let end = self.store.end(&self.frame);
+        let kept = Sides {
+            along: left.column,
+            across: left.height,
+        };
+        let end = self.store.end_unless(&self.frame, place.is_there(), kept);
         self.current_column = end.along;
         self.available_height = end.across;
         self.buckets_in_use += place.needed_buckets();
@@ -283,8 +287,14 @@ impl BucketedAtlasAllocator {
             return Err(UnknownId);
         }
         let area = self.store.return_item(bucket_number(id));
+        let shelves = self.store.shelf_count();
         let dropped = self.store.drop_idle_end();
-        let end = self.store.end(&self.frame);
+        let is_kept = self.store.shelf_count() == shelves;
+        let kept = Sides {
+            along: self.current_column,
+            across: self.available_height,
+        };
+        let end = self.store.end_unless(&self.frame, is_kept, kept);
         self.current_column = end.along;
         self.available_height = end.across;
         self.buckets_in_use -= dropped;

@@ -2,7 +2,8 @@
 use Rattle.std.proofs.Common.{◌≡◌, ◌≢◌, ℕ, zero, suc, ◌+◌, ◌-◌, ◌<◌, ◌≤◌, Bool, true, false, cond, Option, None, Some, List, [], ◌∷◌, ◌++◌, length, take, refl, ap, arith, subst, sym, ◌∙◌, append_assoc, append-nil, length-append, ◌==◌}
 use Rattle.std.proofs.Math.Seq.{take-append_seam}
 use Rattle.std.proofs.lemmas.Bool.{and_parts, eqb-true}
-use Rattle.std.proofs.lemmas.List.{length-map}
+use Rattle.std.proofs.lemmas.List.{length-map, length-take-le}
+use Rattle.std.proofs.lemmas.Option.{slice_get_within}
 use Rattle.std.specs.List.{AllByRecursion, list_all}
 use Rattle.std.specs.Option.{option_map_or}
 use Rattle.std.specs.Prelude.{slice_get}
@@ -159,6 +160,35 @@ end-busy (suc steps) done kept last busy = rw last (by_test (kept.live_items == 
     by_test : (t : Bool) → (kept.live_items == 0) ≡ t → cond t (end_dropped steps (last_dropped kept done)) done ≡ done
     by_test true e = absurd (omega (arith, busy, eqb-true kept.live_items 0 e))
     by_test false e = refl
+
+-- no more are left than there were, and all where as many are left
+pub record Leaves (before after : List KeptShelf) : Type 0 where
+  pub few : length after ≤ length before
+  pub same : length after ≡ length before → after ≡ before
+
+-- what is left when shelves at the end were dropped
+pub leaves-dropped : (steps : ℕ) (done : Dropping) → Leaves done.stored.shelves (end_dropped steps done).stored.shelves
+leaves-dropped zero done = record { few = omega arith; same = λ _. refl }
+leaves-dropped (suc steps) done = by_last (λ next. leaves-dropped steps next) (last_kept done.stored.shelves) refl
+  where
+    shelves : List KeptShelf
+    shelves = done.stored.shelves
+
+    rest : Option KeptShelf → Dropping
+    rest last = option_map_or (λ (one : KeptShelf). cond (one.live_items == 0) (end_dropped steps (last_dropped one done)) done) last done
+
+    by_test : ((next : Dropping) → Leaves next.stored.shelves (end_dropped steps next).stored.shelves) → (one : KeptShelf) → last_kept shelves ≡ Some one → (t : Bool)
+        → Leaves shelves (cond t (end_dropped steps (last_dropped one done)) done).stored.shelves
+    by_test later one last true =
+        let next = later (last_dropped one done) in
+        let within = slice_get_within shelves (length shelves - 1) one last in
+        let taken = length-take-le (length shelves - 1) shelves (omega arith) in
+        record { few = omega (arith, next.few, taken); same = λ same. absurd (omega (arith, next.few, within, taken, same)) }
+    by_test later one last false = record { few = omega arith; same = λ _. refl }
+
+    by_last : ((next : Dropping) → Leaves next.stored.shelves (end_dropped steps next).stored.shelves) → (last : Option KeptShelf) → last_kept shelves ≡ last → Leaves shelves (rest last).stored.shelves
+    by_last later None last = record { few = omega arith; same = λ _. refl }
+    by_last later (Some one) last = by_test later one last (one.live_items == 0)
 
 -- a last shelf that holds nothing live is dropped before the others are looked at
 pub end-idle : (steps rest : ℕ) (done : Dropping) (kept : KeptShelf) → steps ≡ suc rest → last_kept done.stored.shelves ≡ Some kept → kept.live_items ≤ 0

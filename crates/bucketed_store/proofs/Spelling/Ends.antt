@@ -1,14 +1,18 @@
 -- The current column and the height that it leaves, by what is kept of the last shelf.
-use Rattle.std.proofs.Common.{◌≡◌, ℕ, ◌+◌, ◌-◌, ◌*◌, ◌/◌, ◌≤◌, Option, Some, List, [], ◌∷◌, ◌++◌, refl, ap, arith, sym, ◌∙◌, subst}
+use Rattle.std.proofs.Common.{◌≡◌, ℕ, zero, suc, ◌+◌, ◌-◌, ◌*◌, ◌/◌, ◌≤◌, Option, Some, List, [], ◌∷◌, ◌++◌, length, refl, ap, arith, sym, ◌∙◌, subst}
 use Rattle.std.proofs.lemmas.Nat.{div-mul-add}
 use Rattle.std.specs.Option.{option_map_or}
+use Rattle.std.specs.Prelude.{slice_get}
 use Rattle.etagere_base.specs.declared.frames.Frame.{Frame}
 use Rattle.etagere_base.specs.declared.sides.Sides.{Sides}
 use Rattle.etagere_base.specs.Frames.{across_side}
+use Rattle.etagere_links.specs.Edits.{changed_by}
+use Rattle.etagere_links.proofs.RecordChanges.{length-changed_by}
 use Rattle.bucketed_model.specs.State.{BucketShelf, available_height, column_height, current_column, last_column}
 use Rattle.bucketed_model.specs.Valid.{AreShelves}
 use Rattle.bucketed_model.proofs.Shelving.Shelves.{own-height}
 use Rattle.bucketed_records.specs.declared.records.KeptShelf.{KeptShelf}
+use Rattle.bucketed_records.specs.declared.records.LinkedBucketShelf.{LinkedBucketShelf}
 use Rattle.bucketed_records.specs.Private.Store.{kept_shelf, kept_shelves}
 use Rattle.bucketed_records.proofs.Spelling.KeptShelves.{Ends, ends-of, last, last-kept, nothing}
 use Rattle.bucketed_store.specs.Private.StoreEdits.{IsShort, end_of}
@@ -61,3 +65,17 @@ short-kept frame ss valid = by_end (ends-of ss)
       where
         some-same : {k l : KeptShelf} → Some k ≡ Some l → k ≡ l
         some-same {k} {l} h = cc
+
+-- a change of one shelf that leaves its place and its height leaves the end
+pub end-changed : (frame : Frame) (k : ℕ) (change : KeptShelf → KeptShelf) (shelves : List KeptShelf) → ((kept : KeptShelf) → (change kept).shelf ≡ kept.shelf)
+    → end_of frame (changed_by (Some k) change shelves) ≡ end_of frame shelves
+end-changed frame k change shelves keeps =
+    ap (λ (count : ℕ). end_by frame (slice_get (changed_by (Some k) change shelves) (count - 1))) (length-changed_by change shelves (Some k)) ∙ at shelves k (length shelves - 1)
+  where
+    at : (xs : List KeptShelf) (i j : ℕ) → end_by frame (slice_get (changed_by (Some i) change xs) j) ≡ end_by frame (slice_get xs j)
+    at [] i j = refl
+    at (x ∷ xs) zero zero =
+        ap (λ (one : LinkedBucketShelf). let sides : Sides = record { along = one.x / frame.column_width; across = across_side frame - (one.y + one.height) } in sides) (keeps x)
+    at (x ∷ xs) zero (suc j) = refl
+    at (x ∷ xs) (suc i) zero = refl
+    at (x ∷ xs) (suc i) (suc j) = at xs i j

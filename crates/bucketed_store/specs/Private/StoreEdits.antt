@@ -330,6 +330,12 @@ end_of frame shelves =
     })
     (slice_get shelves (length shelves - 1)) (record { along = 0; across = across_side frame })
 
+-- a place is in a bucket that is there
+abbrev pub IsThere : Placement → Type 0
+IsThere (InBucket found) = Unit {0}
+IsThere (InAdded news) = ⊥
+IsThere (InMerged group) = ⊥
+
 -- a place is in shelves that have to be added
 abbrev pub IsAdding : Placement → Type 0
 IsAdding (InBucket found) = ⊥

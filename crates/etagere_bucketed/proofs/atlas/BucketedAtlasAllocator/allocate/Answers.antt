@@ -31,6 +31,7 @@ use Rattle.bucketed_store.specs.Private.StoreEdits as store
 use Rattle.bucketed_store.proofs.Spelling.AllocatedRecords.{IsAllocation, Makes, allocation-is, makes, needed-few, needs-shelf, refused}
 use Rattle.etagere_bucketed.specs.declared.atlas.BucketedAtlasAllocator.TheInside.{Inside}
 use Rattle.etagere_bucketed.specs.Private.Consistent.{IsConsistent, state_in}
+use Rattle.etagere_bucketed.proofs.AtlasReturns.{end-allocated}
 use Rattle.etagere_bucketed.proofs.atlas.BucketedAtlasAllocator.allocate.Goals as goal
 
 -- the last of allocations that are apart is apart from each other
@@ -146,13 +147,18 @@ take-area-requires-clause-widest c =
     let a = allocation c.self.inside c.self.invariant c.args.size c.in-Some.sides (placement_seen c.in-Some-placement_of.place) c.prepare.new.self c.in_ok-found.found m ready c.in_ok-found.ensures.found in
     subst (store.IsWidest c.in_ok-found.found.shelf c.in_ok-found.found.bucket c.in-Some.sides.along) (sym ready) a.widest
 
-pub end-end-requires-clause-short : goal.end-end-requires-clause-short
-end-end-requires-clause-short c =
+pub end_unless-end-requires-clause-short : goal.end_unless-end-requires-clause-short
+end_unless-end-requires-clause-short c =
     let m = made c.self.inside c.self.invariant c.args.size c.in-Some.sides c.placement_of.result c.in-Some-placement_of.place (sym c.asked.ensures ∙ c.in-Some.is) c.placement_of.ensures c.in-Some-placement_of.is in
     let ready = c.in_ok-found.ensures.ok in
     let a = allocation c.self.inside c.self.invariant c.args.size c.in-Some.sides (placement_seen c.in-Some-placement_of.place) c.prepare.new.self c.in_ok-found.found m ready c.in_ok-found.ensures.found in
     let after = c.take-area.ensures.records ∙ ap (stored_taken c.in_ok-found.found.shelf c.in_ok-found.found.bucket c.in-Some.sides.along) ready in
     subst (λ (stored : Stored). IsShort c.self.inside.frame stored.shelves) (sym after) a.short
+
+pub end_unless-end-requires-clause-kept : goal.end_unless-end-requires-clause-kept
+end_unless-end-requires-clause-kept c = λ there.
+    end-allocated c.self.inside (placement_seen c.in-Some-placement_of.place) c.prepare.new.self c.take-area.new.self c.in_ok-found.found.shelf c.in_ok-found.found.bucket c.in-Some.sides.along
+    c.self.invariant c.in_ok-found.ensures.ok c.take-area.ensures.records (c.is_there.ensures there)
 
 pub needed_buckets-requires : goal.needed_buckets-requires
 needed_buckets-requires c =
@@ -185,8 +191,8 @@ invariant_of-self-2 c =
     let frame = c.self.inside.frame in
     let after = c.take-area.ensures.records ∙ ap (stored_taken c.in_ok-found.found.shelf c.in_ok-found.found.bucket c.in-Some.sides.along) ready in
     let area = c.take-area.ensures.area ∙ ap (λ (stored : Stored). c.in-Some.sides.along * height_of stored.shelves c.in_ok-found.found.shelf) ready in
-    let ends = c.end-end.ensures ∙ ap (λ (stored : Stored). end_of frame stored.shelves) after ∙ a.end in
-    let totals : HasTotals c.end-end.result.along c.end-end.result.across (c.self.inside.buckets_in_use + c.needed_buckets.result) (c.self.inside.allocated_space + c.take-area.result) a.new =
+    let ends = c.end_unless-end.ensures ∙ ap (λ (stored : Stored). end_of frame stored.shelves) after ∙ a.end in
+    let totals : HasTotals c.end_unless-end.result.along c.end_unless-end.result.across (c.self.inside.buckets_in_use + c.needed_buckets.result) (c.self.inside.allocated_space + c.take-area.result) a.new =
     record {
       column = ap (λ (sides : Sides). sides.along) ends;
       height = ap (λ (sides : Sides). sides.across) ends ∙ ap (λ (f : Frame). available_height f a.new.shelves) (sym a.frame);
@@ -196,7 +202,7 @@ invariant_of-self-2 c =
     record {
       unused = a.unused;
       witnessed = subst (λ (stored : Stored). Witnessed stored a.unused (stored_state frame stored)) (sym after) a.witnessed;
-      totals = subst (HasTotals c.end-end.result.along c.end-end.result.across (c.self.inside.buckets_in_use + c.needed_buckets.result) (c.self.inside.allocated_space + c.take-area.result))
+      totals = subst (HasTotals c.end_unless-end.result.along c.end_unless-end.result.across (c.self.inside.buckets_in_use + c.needed_buckets.result) (c.self.inside.allocated_space + c.take-area.result))
           (sym (ap (stored_state frame) after ∙ a.read)) totals;
     }
 

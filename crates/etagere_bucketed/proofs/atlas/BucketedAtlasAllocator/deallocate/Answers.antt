@@ -1,4 +1,5 @@
 use Rattle.std.proofs.Common.{◌≡◌, ◌-◌, true, false, refl, ap, sym, ◌∙◌, subst, arith}
+use Rattle.std.proofs.lemmas.Bool.{eqb-true}
 use Rattle.etagere_base.specs.declared.sides.Sides.{Sides}
 use Rattle.bucketed_model.specs.Atlas.{KeepsPromises}
 use Rattle.bucketed_model.specs.Ledgers.{SameOthers}
@@ -9,7 +10,7 @@ use Rattle.bucketed_model.proofs.Ledger.KnownBusy.{returned-known}
 use Rattle.bucketed_model.proofs.Ledger.TiedReturned.{tied-returned}
 use Rattle.bucketed_records.specs.Private.Witnessed.{HasTotals, Witnessed}
 use Rattle.etagere_bucketed.specs.Private.Consistent.{state_in}
-use Rattle.etagere_bucketed.proofs.AtlasReturns.{after-return, atlas-known, atlas-returned}
+use Rattle.etagere_bucketed.proofs.AtlasReturns.{after-return, atlas-known, atlas-returned, end-returned}
 use Rattle.etagere_bucketed.proofs.atlas.BucketedAtlasAllocator.deallocate.Goals as goal
 
 pub returns-then-not-is_known-clause-unknown : goal.returns-then-not-is_known-clause-unknown
@@ -42,11 +43,16 @@ drop_idle_end-dropped-requires-clause-buckets c =
     rw (c.return_item-area.ensures.records, c.bucket_number.ensures)
     (atlas-returned c.self.inside c.args.id c.self.invariant (sym c.is_known.ensures ∙ c.if-not-is_known.false)).few_buckets
 
-pub end-end-requires-clause-short : goal.end-end-requires-clause-short
-end-end-requires-clause-short c =
+pub end_unless-end-requires-clause-short : goal.end_unless-end-requires-clause-short
+end_unless-end-requires-clause-short c =
     (after-return c.self.inside c.args.id c.return_item-area.new.self c.drop_idle_end-dropped.new.self c.bucket_number.result c.drop_idle_end-dropped.result c.return_item-area.result
     c.self.invariant (sym c.is_known.ensures ∙ c.if-not-is_known.false) c.bucket_number.ensures c.return_item-area.ensures.records c.return_item-area.ensures.area
     c.drop_idle_end-dropped.ensures).tells.short
+
+pub end_unless-end-requires-clause-kept : goal.end_unless-end-requires-clause-kept
+end_unless-end-requires-clause-kept c = λ same.
+    end-returned c.self.inside c.return_item-area.new.self c.drop_idle_end-dropped.new.self c.bucket_number.result c.drop_idle_end-dropped.result c.self.invariant c.return_item-area.ensures.records
+    c.drop_idle_end-dropped.ensures (sym c.shelf_count.ensures ∙ eqb-true c.shelf_count.result c.shelf_count-shelves.result same ∙ c.shelf_count-shelves.ensures)
 
 pub overflow_sub-self : goal.overflow_sub-self
 overflow_sub-self c =
@@ -71,11 +77,11 @@ invariant_of-self c =
       unused = a.unused;
       witnessed = subst (Witnessed c.drop_idle_end-dropped.new.self a.unused) (sym a.tells.read) a.witnessed;
       totals = subst
-          (HasTotals c.end-end.result.along c.end-end.result.across (c.self.inside.buckets_in_use - c.drop_idle_end-dropped.result)
+          (HasTotals c.end_unless-end.result.along c.end_unless-end.result.across (c.self.inside.buckets_in_use - c.drop_idle_end-dropped.result)
           (c.self.inside.allocated_space - c.return_item-area.result)) (sym a.tells.read)
           (record {
-            column = ap (λ (s : Sides). s.along) c.end-end.ensures ∙ a.tells.column;
-            height = ap (λ (s : Sides). s.across) c.end-end.ensures ∙ a.tells.height;
+            column = ap (λ (s : Sides). s.along) c.end_unless-end.ensures ∙ a.tells.column;
+            height = ap (λ (s : Sides). s.across) c.end_unless-end.ensures ∙ a.tells.height;
             in_use = omega (arith, a.in_use);
             space = omega (arith, a.space);
           });
