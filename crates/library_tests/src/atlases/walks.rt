@@ -22,12 +22,18 @@ fn meets(
 
 #[test]
 fn a_walk_ends_at_no_record_or_before_one_that_it_met(rt: HostRuntime) -> Result<(), Fail> {
-    meets(&rt, 0, &[0, 1, 2], (65535, 3))?;
-    meets(&rt, 2, &[2], (65535, 1))?;
-    meets(&rt, 3, &[3, 4, 5], (4, 3))?;
-    meets(&rt, 5, &[5, 4], (5, 2))?;
-    meets(&rt, 6, &[6], (9, 1))?;
-    meets(&rt, 7, &[7], (7, 1))?;
-    meets(&rt, 8, &[], (8, 0))?;
-    meets(&rt, 65535, &[], (65535, 0))
+    let table: [(u16, &[u16], (u16, u32)); 8] = [
+        (0, &[0, 1, 2], (65535, 3)),
+        (2, &[2], (65535, 1)),
+        (3, &[3, 4, 5], (4, 3)),
+        (5, &[5, 4], (5, 2)),
+        (6, &[6], (9, 1)),
+        (7, &[7], (7, 1)),
+        (8, &[], (8, 0)),
+        (65535, &[], (65535, 0)),
+    ];
+    for (start, met, wanted) in table {
+        meets(&rt, start, met, wanted)?;
+    }
+    Ok(())
 }
