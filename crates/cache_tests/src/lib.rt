@@ -4,6 +4,8 @@
 #[cfg(test)]
 mod assertions;
 #[cfg(test)]
+mod glyphs;
+#[cfg(test)]
 mod maps;
 #[cfg(test)]
 mod pages;

@@ -1,9 +1,8 @@
 //! Atlases and their plain types: messages and statuses, the types and their JSON text, the end of an iterator, walks along
-//! links, and how many of these are read; long runs and inputs with ample memory; a long text through a cache of glyphs.
+//! links, and how many of these are read; long runs and inputs with ample memory.
 
 mod ample_memory;
 mod faults;
-mod glyphs;
 mod json;
 mod listing;
 mod plain_types;

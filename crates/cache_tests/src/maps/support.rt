@@ -1,5 +1,7 @@
 //! A map of pictures under names, by calls that promise nothing, so that a test is proved safe in little time.
 
+ghost use Rattle.cache_runs.specs.MapRuns.{NeedsNoClone};
+
 use crate::assertions::{equal, equal_at};
 use cache_runs::maps::{answer_on_map, retain_on_map};
 use cache_runs::{MapCall, MapReply};
@@ -52,7 +54,14 @@ pub fn place(
 ) -> Result<Told, AllocError> {
     let name = name_of(alloc, name)?;
     let call = MapCall::Place(name, Picture { advance, page: 3 }, size2(side, side));
-    Ok(told(answer_on_map(map, call)))
+    Ok(told(answered(map, call)))
+}
+
+/// What a map answers to a call.
+fn answered(map: &mut Pictures, call: MapCall<String, Picture>) -> MapReply<String, Picture>
+    requires { NeedsNoClone call }
+{
+    answer_on_map(map, call)
 }
 
 /// Names with the advances and the sides that they are placed with, and what becomes of each.
@@ -138,7 +147,7 @@ pub fn remove(map: &mut Pictures, name: &String) -> i32 {
 
 /// The advance of the first that goes where there may be one name.
 pub fn keep_one(map: &mut Pictures) -> i32 {
-    match answer_on_map(map, MapCall::SetCapacity(NonZeroUsize::MIN)) {
+    match answered(map, MapCall::SetCapacity(NonZeroUsize::MIN)) {
         MapReply::Evicted(evicted) => first_of(evicted.as_slice()),
         _ => -2,
     }
@@ -165,7 +174,7 @@ pub fn clear(map: &mut Pictures) {
 /// Whether the atlas is 64x128 now.
 pub fn grow(map: &mut Pictures) -> bool {
     matches!(
-        answer_on_map(map, MapCall::Grow(size2(64, 128))),
+        answered(map, MapCall::Grow(size2(64, 128))),
         MapReply::Grown
     )
 }

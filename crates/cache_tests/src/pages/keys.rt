@@ -1,6 +1,8 @@
 //! Keys with places of one atlas: they go as those of a cache of glyphs do.
 
-use etagere::{AtlasAllocator, DEFAULT_OPTIONS, Rectangle, Size, size2};
+use crate::assertions::equal;
+use crate::glyphs::{new_cache, placed};
+use etagere::{AtlasAllocator, Rectangle, Size, size2};
 use glyph_shelf::{GlyphCache, Placed};
 use paged_cache::{KeyedPlaces, PlacedKey};
 use std::alloc::Global;
@@ -14,11 +16,6 @@ fn new_keys(alloc: Global, capacity: NonZeroUsize) -> Option<KeyedPlaces<AtlasAl
     KeyedPlaces::new(alloc, capacity, atlas).ok()
 }
 
-/// A cache over such an atlas.
-fn new_cache(alloc: Global, capacity: NonZeroUsize) -> Option<GlyphCache> {
-    GlyphCache::new(alloc, size2(32, 32), &DEFAULT_OPTIONS, capacity).ok()
-}
-
 /// The rectangle of a key that is placed, and which keys went for it.
 fn in_atlas(
     keys: &mut KeyedPlaces<AtlasAllocator>,
@@ -30,7 +27,7 @@ fn in_atlas(
 }
 
 fn in_cache(cache: &mut GlyphCache, key: u64, size: Size) -> Option<(Rectangle, Vec<u64>)> {
-    let Placed { rectangle, evicted } = cache.place(key, size).ok()?;
+    let Placed { rectangle, evicted } = placed(cache, key, size).ok()?;
     Some((rectangle, evicted))
 }
 
@@ -48,8 +45,8 @@ fn compare(rt: &impl Abort, keys: &mut KeyedPlaces<AtlasAllocator>, cache: &mut 
     ] {
         let size = size2(32, height);
         let (found, wanted) = (in_atlas(keys, key, size), in_cache(cache, key, size));
-        assert_eq!(rt; found, wanted);
-        assert_eq!(rt; found.is_some(), height < 40);
+        equal(rt, &found, &wanted);
+        equal(rt, &found.is_some(), &(height < 40));
     }
 }
 
@@ -59,7 +56,7 @@ fn keys_of_one_atlas_go_as_those_of_a_cache(rt: HostRuntime) -> Result<(), Fail>
     let Some(mut keys) = new_keys(rt.alloc(), capacity) else {
         return Err("no keys".into());
     };
-    let Some(mut cache) = new_cache(rt.alloc(), capacity) else {
+    let Ok(mut cache) = new_cache(rt.alloc(), size2(32, 32), capacity.get()) else {
         return Err("no cache".into());
     };
     compare(&rt, &mut keys, &mut cache);

@@ -1,6 +1,6 @@
 //! A long text through a small cache, compared with a plain one, and the numbers and names of faults.
 
-use crate::streams::assertions::{equal, holds};
+use crate::assertions::{equal, holds};
 use etagere::{Allocation, AtlasAllocator, DEFAULT_OPTIONS, OptionsFault, Size, size2};
 use glyph_shelf::{GlyphCache, GlyphFault, Placed};
 use std::alloc::Global;
@@ -11,16 +11,20 @@ use test_support::atlases::Atlas;
 use test_support::calls::{new, return_all};
 use test_support::corners::corners;
 
-/// A cache of so many keys in an atlas of 96x96.
-fn new_cache(alloc: Global, capacity: usize) -> Result<GlyphCache, OptionsFault> {
+/// A cache of so many keys in an atlas of this size.
+pub fn new_cache(alloc: Global, size: Size, capacity: usize) -> Result<GlyphCache, OptionsFault> {
     let capacity = NonZeroUsize::new(capacity).unwrap_or(NonZeroUsize::MIN);
-    GlyphCache::new(alloc, size2(96, 96), &DEFAULT_OPTIONS, capacity)
+    GlyphCache::new(alloc, size, &DEFAULT_OPTIONS, capacity)
+}
+
+pub fn placed(cache: &mut GlyphCache, key: u64, size: Size) -> Result<Placed, GlyphFault> {
+    cache.place(key, size)
 }
 
 #[test]
 fn faults_have_numbers_and_names(rt: HostRuntime) -> Result<(), Fail> {
     let alloc = rt.alloc();
-    let refused = GlyphCache::new(alloc, size2(0, 5), &DEFAULT_OPTIONS, NonZeroUsize::MIN);
+    let refused = new_cache(alloc, size2(0, 5), 1);
     equal(
         &rt,
         &refused.err().map(|fault| fault.number()),
@@ -110,10 +114,6 @@ impl PlainCache {
     }
 }
 
-fn placed(cache: &mut GlyphCache, key: u64, size: Size) -> Result<Placed, GlyphFault> {
-    cache.place(key, size)
-}
-
 /// Both caches answer the same to a letter in a size of type: whether it was there. What is evicted goes to the list.
 fn place_in_both(
     rt: &impl Abort,
@@ -133,12 +133,25 @@ fn place_in_both(
 
 #[test]
 fn a_long_text_is_placed_as_a_plain_cache_places_it(rt: HostRuntime) -> Result<(), Fail> {
-    let mut cache = new_cache(rt.alloc(), 60)?;
+    let mut cache = new_cache(rt.alloc(), size2(96, 96), 60)?;
     let mut plain = PlainCache {
         entries: Vec::new(rt.alloc()),
         atlas: new(rt.alloc(), (96, 96))?,
         capacity: 60,
     };
+    let (hits, evictions) = place_text(&rt, &mut cache, &mut plain)?;
+    equal(&rt, &cache.len(), &plain.entries.len());
+    // So many letters that no rectangle is ever found, or none ever evicted, would show nothing.
+    holds(&rt, hits > PLACEMENTS / 4 && evictions > PLACEMENTS / 10);
+    Ok(())
+}
+
+/// Places letters of the text in both caches, and tells how often one was there, and how many were evicted.
+fn place_text(
+    rt: &(impl AllocGlobal + Abort),
+    cache: &mut GlyphCache,
+    plain: &mut PlainCache,
+) -> Result<(usize, usize), Fail> {
     let mut evicted = Vec::new(rt.alloc());
     let mut random: u32 = 2024;
     let (mut hits, mut evictions) = (0_usize, 0_usize);
@@ -147,13 +160,9 @@ fn a_long_text_is_placed_as_a_plain_cache_places_it(rt: HostRuntime) -> Result<(
         let letter = TEXT[(random / 256) as usize % TEXT.len()];
         let type_size = (random / 65536 % 4) as u8;
         evicted.clear();
-        let glyph = (letter, type_size);
-        let is_hit = place_in_both(&rt, &mut cache, &mut plain, glyph, &mut evicted)?;
+        let is_hit = place_in_both(rt, cache, plain, (letter, type_size), &mut evicted)?;
         evictions = evictions.saturating_add(evicted.len());
         hits = hits.saturating_add(usize::from(is_hit));
     }
-    equal(&rt, &cache.len(), &plain.entries.len());
-    // So many letters that no rectangle is ever found, or none ever evicted, would show nothing.
-    holds(&rt, hits > PLACEMENTS / 4 && evictions > PLACEMENTS / 10);
-    Ok(())
+    Ok((hits, evictions))
 }
