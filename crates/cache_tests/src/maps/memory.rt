@@ -9,7 +9,6 @@ use etagere::size2;
 use glyph_map::{MapFault, Refused};
 use std::alloc::{AllocError, Global};
 use std::process::Abort;
-use std::test::Fail;
 
 /// How many came back when a name wasn't placed.
 fn came_back(refused: Refused<String, Picture>) -> usize {
@@ -36,10 +35,10 @@ fn place_one(map: &mut Pictures, alloc: Global, number: i32) -> (usize, usize) {
 }
 
 #[test]
-fn nothing_is_lost(rt: HostRuntime) -> Result<(), Fail> {
+fn nothing_is_lost(rt: HostRuntime) {
     let alloc = rt.alloc();
     let Ok(mut map) = pictures(alloc, 20) else {
-        return Ok(());
+        return;
     };
     let (mut given, mut back) = (0usize, 0usize);
     for number in 0..300 {
@@ -49,20 +48,18 @@ fn nothing_is_lost(rt: HostRuntime) -> Result<(), Fail> {
     }
     let (len, _, _) = counts(&map);
     equal(&rt, &given, &back.saturating_add(len));
-    Ok(())
 }
 
 #[test]
-fn a_refused_retain_changes_nothing(rt: HostRuntime) -> Result<(), Fail> {
+fn a_refused_retain_changes_nothing(rt: HostRuntime) {
     let alloc = rt.alloc();
     let Ok(mut map) = pictures(alloc, 20) else {
-        return Ok(());
+        return;
     };
     place_twenty(&mut map, alloc);
     let (len, even) = (counts(&map).0, even_in(&map));
     let left = if keep_even(&mut map) { even } else { len };
     equal(&rt, &counts(&map).0, &left);
-    Ok(())
 }
 
 fn place_twenty(map: &mut Pictures, alloc: Global) {
@@ -91,14 +88,13 @@ fn names(alloc: Global, count: i32) -> Result<Vec<(String, Picture)>, AllocError
 }
 
 #[test]
-fn what_is_not_restored_comes_back(rt: HostRuntime) -> Result<(), Fail> {
+fn what_is_not_restored_comes_back(rt: HostRuntime) {
     let alloc = rt.alloc();
     let Ok(mut map) = pictures(alloc, 20) else {
-        return Ok(());
+        return;
     };
     place_twenty(&mut map, alloc);
     is_restored_or_comes_back(&rt, alloc, &map);
-    Ok(())
 }
 
 fn is_restored_or_comes_back(rt: &impl Abort, alloc: Global, map: &Pictures) {
