@@ -93,7 +93,7 @@ ROWS = {
 
 IN_THE_END = {
     "4095 shelves of a bucket each restored, for each shelf": (
-        Row(lambda _: (full_shelves(), [])), BUCKETS, "restored", "saved", 250
+        Row(lambda _: (full_shelves(), [])), BUCKETS, "restored", "saved", 370
     ),
     "a shelf of 4095 buckets restored, for each bucket": (Row(lambda _: filled_by(16)), BUCKETS, "restored", "saved", 120),
     "4095 shelves of a bucket each drawn, for each bucket": (
