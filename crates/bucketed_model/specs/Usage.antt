@@ -1,11 +1,11 @@
 -- How full a bucketed atlas is: what its shelves and buckets hold, and the widest item that one gives.
-use Rattle.std.specs.Prelude.{ℕ, ◌&&◌, pos, List, length, map, nat_lt, ◌==◌, if◌then◌else◌}
+use Rattle.std.specs.Prelude.{ℕ, ◌&&◌, List, length, map, nat_lt, ◌==◌, if◌then◌else◌}
 use Rattle.std.specs.List.{count_by}
 use Rattle.etagere_base.specs.declared.frames.Frame.{Frame}
 use Rattle.etagere_base.specs.declared.geometry.Size.{Size}
 use Rattle.etagere_base.specs.declared.sides.Sides.{Sides}
 use Rattle.etagere_base.specs.Lists.{total}
-use Rattle.etagere_base.specs.Sides.{swapped_axes}
+use Rattle.etagere_base.specs.Places.{size_at}
 use Rattle.bucketed_model.specs.declared.usage.BucketedUsage.{BucketedUsage}
 use Rattle.bucketed_model.specs.Refusal.{greatest, rooms_in, widest}
 use Rattle.bucketed_model.specs.State.{Bucket, BucketShelf, BucketedState, buckets_in_use, buckets_left, is_idle, is_idle_bucket}
@@ -35,9 +35,7 @@ largest_sides shelves =
 
 -- sides along and across the shelves as a size
 abbrev pub size_of : Frame → Sides → Size
-size_of frame sides =
-    let swapped = swapped_axes frame.vertical sides in
-    record { width = pos swapped.along; height = pos swapped.across }
+size_of frame sides = size_at frame sides.along sides.across
 
 -- the widest item that a shelf can give, with the height of that shelf
 abbrev pub largest_free : BucketedState → Size

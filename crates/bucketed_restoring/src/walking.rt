@@ -21,7 +21,7 @@ ghost use Rattle.bucketed_restoring.specs.RestoringSteps.{IsRead};
 use crate::judging::{Judged, are_unused, judged_row};
 use bucketed_records::records::{KeptShelf, LinkedBucket, LinkedBucketShelf};
 use etagere_base::{Frame, RestoreFault};
-use etagere_links::{Link, WalkFault, WalkRoom, all_marked, mark_onto, unmarked};
+use etagere_links::{Link, WalkRoom, all_marked, mark_onto, restore_fault, unmarked};
 use std::alloc::{AllocError, Global};
 
 /// The links of bucket records, in order of their numbers.
@@ -34,18 +34,6 @@ pub(crate) fn links_of(alloc: Global, buckets: &[LinkedBucket]) -> Result<Vec<u1
         links.push(bucket.next.bits())?;
     }
     Ok(links)
-}
-
-/// What is wrong with a snapshot where a walk along one of its lists is refused.
-fn list_fault(fault: WalkFault) -> RestoreFault
-    ensures { result ≡ spec.list_fault fault }
-{
-    match fault {
-        WalkFault::OutOfRange => RestoreFault::Link,
-        WalkFault::Marked => RestoreFault::Sharing,
-        WalkFault::Circular => RestoreFault::Sharing,
-        WalkFault::Memory => RestoreFault::Memory,
-    }
 }
 
 /// Follows the list from a link on, counts the steps and marks what it met, which alone then stands in `met`.
@@ -76,7 +64,7 @@ fn walk_list(
     met.clear();
     match mark_onto(room, marks, met, links, first, steps) {
         Ok(()) => Ok(()),
-        Err(fault) => Err(list_fault(fault)),
+        Err(fault) => Err(restore_fault(fault)),
     }
 }
 

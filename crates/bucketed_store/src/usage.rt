@@ -11,7 +11,7 @@ use crate::refusing::widest_in;
 use crate::store::Store;
 use bucketed_model::usage::BucketedUsage;
 use bucketed_records::records::{KeptShelf, LinkedBucket, MOST_BUCKETS, wider};
-use etagere_base::{Frame, Sides, Size, swapped_axes};
+use etagere_base::{Frame, Sides, Size, size_at};
 use etagere_links::Link;
 
 /// The greatest height of the shelves that can give just this width to one item.
@@ -45,24 +45,12 @@ fn largest_sides(shelves: &[KeptShelf]) -> Sides
     }
 }
 
-/// Sides along and across the shelves as a size.
-fn size_of_sides(frame: &Frame, sides: Sides) -> Size
-    requires along { sides.along < 2 ^ 16 }
-    requires across { sides.across < 2 ^ 16 }
-    ensures { result ≡ size_of frame.now sides }
-{
-    let swapped = swapped_axes(frame.vertical, sides);
-    Size {
-        width: swapped.along as i32,
-        height: swapped.across as i32,
-    }
-}
-
 /// The widest item that a shelf can give, with the height of that shelf.
 pub fn largest_free(frame: &Frame, store: &Store) -> Size
     ensures { result ≡ size_of frame.now (spec.kept_largest store.now.shelves) }
 {
-    size_of_sides(frame, largest_sides(&store.shelves))
+    let sides = largest_sides(&store.shelves);
+    size_at(frame, sides.along, sides.across)
 }
 
 /// Counts a bucket where it holds nothing live.

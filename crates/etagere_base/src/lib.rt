@@ -27,5 +27,5 @@ pub use geometry::{Point, Rectangle, Size, point2, size2};
 pub use growing::{grown_frame, resize_fault};
 pub use ids::{AllocId, Allocation, INDEX_MODULUS};
 pub use options::{AllocatorOptions, DEFAULT_OPTIONS};
-pub use places::rectangle_at;
+pub use places::{rectangle_at, size_at};
 pub use sides::{Sides, side, step, swapped_axes, up};

@@ -1,6 +1,8 @@
 -- Why what a walk meets is no list of records of its own.
 use Rattle.std.specs.Prelude.{◌≡◌, ◌≢◌, ℕ, ◌≤◌, Bool, false, ◌&&◌, Option, None, Some, List, ◌++◌, length, nat_le, not, slice_index_or, ◌==◌, if◌then◌else◌}
 use Rattle.std.specs.List.{list_any}
+use Rattle.etagere_base.specs.declared.faults.RestoreFault.{RestoreFault}
+use Rattle.etagere_base.specs.declared.faults.RestoreFault.TheVariants as faults
 use Rattle.etagere_links.specs.declared.marking.WalkFault.{WalkFault}
 use Rattle.etagere_links.specs.declared.marking.WalkFault.TheVariants.{OutOfRange, Marked, Circular, Memory}
 use Rattle.etagere_links.specs.Links.{no_link}
@@ -32,3 +34,10 @@ BreaksOff marks count walked Memory = Unit {0}
 abbrev pub links_by : Walked → WalkFault → ℕ
 links_by walked Memory = 0
 links_by walked fault = length walked.met
+
+-- what is wrong with a snapshot where a walk along one of its lists is refused
+abbrev pub restore_fault : WalkFault → RestoreFault
+restore_fault OutOfRange = faults.Link
+restore_fault Marked = faults.Sharing
+restore_fault Circular = faults.Sharing
+restore_fault Memory = faults.Memory

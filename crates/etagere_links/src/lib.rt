@@ -15,6 +15,6 @@ mod walking;
 pub use chained::{Chain, FreeList, Linked};
 pub use links::Link;
 pub use lists::{insert_after, insert_front, next_bits, next_of, previous_of, take};
-pub use marking::{WalkFault, all_marked, mark_onto, unmarked, walk_marking};
+pub use marking::{WalkFault, all_marked, mark_onto, restore_fault, unmarked, walk_marking};
 pub use walking::walks::Walk;
 pub use walking::{WalkRoom, walk};

@@ -7,10 +7,12 @@ ghost use Rattle.etagere_links.specs.Links.{no_link};
 ghost use Rattle.etagere_links.specs.Marks.{IsMarkedBy};
 ghost use Rattle.etagere_links.specs.Lists.{HasEachOnce};
 ghost use Rattle.etagere_links.specs.Private.Marking.{IsMarkedAlong};
+ghost use Rattle.etagere_links.specs.WalkFaults as faults;
 ghost use Rattle.etagere_links.specs.WalkFaults.{BreaksOff, IsFirst, first_fault, links_by};
 ghost use Rattle.etagere_links.specs.Walks as spec;
 
 use crate::walking::WalkRoom;
+use etagere_base::RestoreFault;
 use std::alloc::{AllocError, Global};
 
 /// Why what a walk meets is no list of records of its own.
@@ -24,6 +26,18 @@ pub enum WalkFault {
     Circular,
     /// There was no memory.
     Memory,
+}
+
+/// What is wrong with a snapshot where a walk along one of its lists is refused.
+pub fn restore_fault(fault: WalkFault) -> RestoreFault
+    ensures { result ≡ faults.restore_fault fault }
+{
+    match fault {
+        WalkFault::OutOfRange => RestoreFault::Link,
+        WalkFault::Marked => RestoreFault::Sharing,
+        WalkFault::Circular => RestoreFault::Sharing,
+        WalkFault::Memory => RestoreFault::Memory,
+    }
 }
 
 /// Follows links from `start` on and marks what it meets, as `mark_onto` does, and returns the records that were met.

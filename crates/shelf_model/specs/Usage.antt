@@ -1,8 +1,7 @@
 -- How full an atlas is: counts, and the widest of what is free.
-use Rattle.std.specs.Prelude.{ℕ, ◌-◌, Bool, ◌&&◌, filter, length, nat_lt, pos, List, ◌==◌}
+use Rattle.std.specs.Prelude.{ℕ, ◌-◌, Bool, ◌&&◌, filter, length, nat_lt, List, ◌==◌}
 use Rattle.etagere_base.specs.Lists.{total}
-use Rattle.etagere_base.specs.Sides.{swapped_axes}
-use Rattle.etagere_base.specs.declared.frames.Frame.{Frame}
+use Rattle.etagere_base.specs.Places.{size_at}
 use Rattle.etagere_base.specs.declared.geometry.Size.{Size}
 use Rattle.shelf_model.specs.declared.usage.Usage.{Usage}
 use Rattle.shelf_model.specs.Choice.{most_items}
@@ -21,12 +20,6 @@ is_as_wide width shelf = nat_lt 0 width && widest_in shelf == width
 -- the height of the tallest of the shelves whose widest free item has this width; 0 where there is none
 abbrev pub tallest_with : ℕ → List Shelf → ℕ
 tallest_with width shelves = greatest (λ (shelf : Shelf). shelf.height) (filter (is_as_wide width) shelves)
-
--- a size in the axes of the atlas, so long along the shelves and so tall across them
-abbrev pub size_at : Frame → ℕ → ℕ → Size
-size_at frame along across =
-    let sides = swapped_axes frame.vertical (record { along = along; across = across }) in
-    record { width = pos sides.along; height = pos sides.across }
 
 -- of all free items the widest along the shelves, and of equally wide ones the tallest; no size where none is free
 abbrev pub largest_free : AtlasState → Size

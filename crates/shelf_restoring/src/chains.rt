@@ -15,10 +15,11 @@ ghost use Rattle.shelf_restoring.specs.RestoringSteps.{StopsAfter, item_walks};
 ghost use Rattle.shelf_records.specs.Snapshots.{IsBroken};
 
 use crate::loaded_atlas::LoadedAtlas;
-use crate::shelf_lists::chain_fault;
 use crate::walked_lists::WalkedLists;
 use etagere_base::RestoreFault;
-use etagere_links::{Chain, WalkRoom, all_marked, mark_onto, next_bits, unmarked, walk_marking};
+use etagere_links::{
+    Chain, WalkRoom, all_marked, mark_onto, next_bits, restore_fault, unmarked, walk_marking,
+};
 use shelf_links::LinkedItem;
 use shelf_records::fields::first_item_link;
 use std::alloc::Global;
@@ -102,7 +103,7 @@ fn follow_items(
     let first = atlas.records.unused_items().bits();
     let unused = match walk_marking(alloc, room, marks, links, first, steps) {
         Ok(unused) => unused,
-        Err(fault) => return Err(chain_fault(fault)),
+        Err(fault) => return Err(restore_fault(fault)),
     };
     let lists = walk_chains(alloc, atlas, room, marks, links, numbers, steps)?;
     if !all_marked(marks) {
@@ -157,7 +158,7 @@ fn walk_chains(
         let first = first_item_link(atlas.records.shelves(), usize::from(*number)).bits();
         let before = *steps;
         if let Err(fault) = mark_onto(room, marks, &mut met, links, first, steps) {
-            return Err(chain_fault(fault));
+            return Err(restore_fault(fault));
         }
         counts.push_reserved((*steps - before) as u16);
     }

@@ -8,14 +8,15 @@ ghost use Rattle.etagere_links.specs.Links.{bits_of, no_link};
 ghost use Rattle.etagere_links.specs.LinksRead.{links_in, links_until};
 ghost use Rattle.etagere_links.specs.Marks.{IsMarkedBy};
 ghost use Rattle.shelf_links.specs.Records.{shelf_chain};
-ghost use Rattle.shelf_records.specs.Private.Restoring as spec;
 ghost use Rattle.shelf_records.specs.Private.Restoring.{HasShelfLists};
 ghost use Rattle.shelf_restoring.specs.RestoringSteps.{StopsAfter, shelf_walks};
 ghost use Rattle.shelf_records.specs.Snapshots.{IsBroken};
 
 use crate::loaded_atlas::LoadedAtlas;
 use etagere_base::RestoreFault;
-use etagere_links::{Chain, WalkFault, WalkRoom, all_marked, next_bits, unmarked, walk_marking};
+use etagere_links::{
+    Chain, WalkRoom, all_marked, next_bits, restore_fault, unmarked, walk_marking,
+};
 use shelf_links::LinkedShelf;
 use std::alloc::Global;
 
@@ -75,26 +76,14 @@ fn follow_shelves(
     let first = atlas.records.first_shelf().bits();
     let numbers = match walk_marking(alloc, room, marks, links, first, steps) {
         Ok(numbers) => numbers,
-        Err(fault) => return Err(chain_fault(fault)),
+        Err(fault) => return Err(restore_fault(fault)),
     };
     let unused = atlas.records.unused_shelves().bits();
     if let Err(fault) = walk_marking(alloc, room, marks, links, unused, steps) {
-        return Err(chain_fault(fault));
+        return Err(restore_fault(fault));
     }
     if !all_marked(marks) {
         return Err(RestoreFault::Sharing);
     }
     Ok(numbers)
-}
-
-/// What is wrong with a snapshot where a walk along a chain, or along what is unused, is refused.
-pub fn chain_fault(fault: WalkFault) -> RestoreFault
-    ensures { result ≡ spec.chain_fault fault }
-{
-    match fault {
-        WalkFault::OutOfRange => RestoreFault::Link,
-        WalkFault::Marked => RestoreFault::Sharing,
-        WalkFault::Circular => RestoreFault::Sharing,
-        WalkFault::Memory => RestoreFault::Memory,
-    }
 }

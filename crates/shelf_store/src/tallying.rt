@@ -4,6 +4,7 @@
 
 ghost use Rattle.std.specs.Prelude.{◌≡◌, ◌+◌, ◌≤◌, ◌<◌, length};
 ghost use Rattle.etagere_base.specs.Lists.{times};
+ghost use Rattle.etagere_base.specs.Places.{size_at};
 ghost use Rattle.etagere_links.specs.Links.{no_link};
 ghost use Rattle.shelf_links.specs.RecordLists.{IsLinked, shelf_walk, walked_lists};
 ghost use Rattle.shelf_model.specs.State as state;
@@ -14,7 +15,7 @@ ghost use Rattle.shelf_store.specs.Private.Asking.{free_of, tally_of, tally_with
 
 use crate::choosing::MOST_ITEMS;
 use crate::free_items::free_items_of;
-use etagere_base::{Frame, Sides, Size, swapped_axes};
+use etagere_base::{Frame, Size, size_at};
 use etagere_links::{Chain, next_of};
 use shelf_links::{LinkedShelf, Records};
 use shelf_model::usage::Usage;
@@ -31,6 +32,15 @@ pub struct Tally {
     height: u16,
 }
 
+impl Tally {
+    /// The widest free item along the shelves, and of equally wide ones the tallest.
+    fn largest_free(self, frame: &Frame) -> Size
+        ensures { result ≡ size_at frame.now self.width self.height }
+    {
+        size_at(frame, u32::from(self.width), u32::from(self.height))
+    }
+}
+
 /// How full an atlas is, of which so many items are in use.
 pub fn usage(frame: &Frame, records: &Records, items_in_use: u32) -> Usage
     requires kept { AreKept frame.now records.now }
@@ -45,7 +55,7 @@ pub fn usage(frame: &Frame, records: &Records, items_in_use: u32) -> Usage
         items: items_in_use - tally.free_items,
         free_items: tally.free_items,
         unused_records: MOST_ITEMS - items_in_use,
-        largest_free: size_at(frame, tally.width, tally.height),
+        largest_free: tally.largest_free(frame),
     }
 }
 
@@ -55,22 +65,7 @@ pub fn largest_free(frame: &Frame, records: &Records) -> Size
     ensures { result ≡ spec.largest_free (state_of frame.now records.now) }
 {
     let tally = tallied(records);
-    size_at(frame, tally.width, tally.height)
-}
-
-/// A size in the axes of the atlas, so long along the shelves and so tall across them.
-fn size_at(frame: &Frame, along: u16, across: u16) -> Size
-    ensures { result ≡ spec.size_at frame.now along across }
-{
-    let sides = Sides {
-        along: u32::from(along),
-        across: u32::from(across),
-    };
-    let swapped = swapped_axes(frame.vertical, sides);
-    Size {
-        width: swapped.along as i32,
-        height: swapped.across as i32,
-    }
+    tally.largest_free(frame)
 }
 
 /// What is counted of all shelves.

@@ -4,8 +4,6 @@ use Rattle.std.specs.List.{AllByRecursion}
 use Rattle.etagere_base.specs.declared.faults.RestoreFault.{RestoreFault}
 use Rattle.etagere_base.specs.declared.faults.RestoreFault.TheVariants.{Link, Runs, Sharing, Unused, Memory}
 use Rattle.etagere_base.specs.declared.frames.Frame.{Frame}
-use Rattle.etagere_links.specs.declared.marking.WalkFault.{WalkFault}
-use Rattle.etagere_links.specs.declared.marking.WalkFault.TheVariants.{OutOfRange, Marked, Circular, Memory as NoMemory}
 use Rattle.etagere_links.specs.Links.{bits_of, no_link}
 use Rattle.etagere_links.specs.Marks.{HasTwice, IsMarkedBy}
 use Rattle.etagere_links.specs.Lists.{HasEachOnce}
@@ -32,13 +30,6 @@ BreaksWalk links marks walked Sharing =
     walked.end ≡ no_link → (numbers : List ℕ) → IsMarkedBy marks numbers → HasTwice (numbers ++ walked.met)
 BreaksWalk links marks walked Memory = Unit {0}
 BreaksWalk links marks walked fault = ⊥
-
--- what is wrong with a snapshot where a walk along one of its lists is refused
-abbrev pub list_fault : WalkFault → RestoreFault
-list_fault OutOfRange = Link
-list_fault Marked = Sharing
-list_fault Circular = Sharing
-list_fault NoMemory = Memory
 
 -- so many links were read before a refusal for this, of so many: fewer only for want of memory
 abbrev pub StopsAfter : ℕ → ℕ → RestoreFault → Type 0

@@ -13,13 +13,6 @@ use Rattle.etagere_links.specs.Lists.{HasEachOnce}
 use Rattle.shelf_links.specs.Records.{item_chain, free_list, shelf_chain}
 use Rattle.shelf_records.specs.AtlasRecords.{AtlasRecords, walked_entries}
 
--- the fault of a snapshot where a walk along a chain, or along what is unused, is refused
-abbrev pub chain_fault : WalkFault → RestoreFault
-chain_fault OutOfRange = faults.Link
-chain_fault Marked = faults.Sharing
-chain_fault Circular = faults.Sharing
-chain_fault Memory = faults.Memory
-
 -- the fault of a snapshot where a walk along a free list is refused
 abbrev pub free_fault : WalkFault → RestoreFault
 free_fault OutOfRange = faults.Link

@@ -15,11 +15,11 @@ use Rattle.shelf_links.specs.RecordLists.{Records, first_free_of, first_item_of,
 use Rattle.etagere_links.specs.Lists.{HasEachOnce}
 use Rattle.etagere_links.specs.Walks.{walk_by, Walked}
 use Rattle.shelf_links.specs.Records.{free_list, item_chain, shelf_chain}
-use Rattle.etagere_links.specs.WalkFaults.{BreaksOff, links_by}
+use Rattle.etagere_links.specs.WalkFaults.{BreaksOff, links_by, restore_fault}
 use Rattle.etagere_links.proofs.ReadLinks.{met_by, met_by-length, marked-once, not-told, once-told, own-once, until-all, until-fault, until-own, until-some}
 use Rattle.etagere_links.proofs.WalkChains.{walk-leads}
 use Rattle.shelf_records.specs.AtlasRecords.{AtlasRecords}
-use Rattle.shelf_records.specs.Private.Restoring.{HasChain, HasFree, HasItemLists, HasShelfLists, chain_entry, chain_fault, free_fault, free_numbers}
+use Rattle.shelf_records.specs.Private.Restoring.{HasChain, HasFree, HasItemLists, HasShelfLists, chain_entry, free_fault, free_numbers}
 use Rattle.shelf_restoring.specs.RestoringSteps.{StopsAfter, free_walks, item_walks, links_followed, links_of_all, shelf_walks}
 
 -- so many links were followed before a walk is refused for this: fewer than all only for want of memory
@@ -28,7 +28,7 @@ pub record IsStopped (all steps : ℕ) (fault : WalkFault) : Type 0 where
   pub bound : fault ≡ Memory → steps ≤ all
 
 -- a walk along a chain is refused
-pub chain-stops : (all steps : ℕ) (fault : WalkFault) → IsStopped all steps fault → StopsAfter all steps (chain_fault fault)
+pub chain-stops : (all steps : ℕ) (fault : WalkFault) → IsStopped all steps fault → StopsAfter all steps (restore_fault fault)
 chain-stops all steps OutOfRange stopped = stopped.exact (λ e. cc)
 chain-stops all steps Marked stopped = stopped.exact (λ e. cc)
 chain-stops all steps Circular stopped = stopped.exact (λ e. cc)
@@ -116,7 +116,7 @@ module _ (records : Records) where
       → AllByRecursion (HasChain records) (take i numbers) → IsMarkedBy marks (unused ++ item_numbers (map (chain_entry records) (take i numbers)))
       → BreaksOff marks (length records.items) (item_walk records (get_or numbers i 0)) fault
       → here ≡ from + length (item_numbers (map (chain_entry records) (take i numbers))) → steps ≡ here + links_by (item_walk records (get_or numbers i 0)) fault
-      → StopsAfter (from + links_until (length records.items) more unused (map (item_walk records) numbers)) steps (chain_fault fault)
+      → StopsAfter (from + links_until (length records.items) more unused (map (item_walk records) numbers)) steps (restore_fault fault)
   chain-refused numbers unused i more from here steps marks fault within few chains marked breaks so_far counted =
       chain-stops (from + links_until (length records.items) more unused (map (item_walk records) numbers)) steps fault
       (next-refused (item_walk records) numbers i (length records.items) more from here steps unused marks (length records.items) fault within (chains-end (take i numbers) chains)
@@ -159,7 +159,7 @@ module _ (records : Records) where
 
   -- the first of the walks is refused
   pub first-refused : (count more from steps : ℕ) (walked : Walked) (back : List Walked) (marks : List Bool) (fault : WalkFault) → IsMarkedBy marks [] → BreaksOff marks count walked fault
-      → ((k : ℕ) → times k walked.met ≤ 1) → steps ≡ from + links_by walked fault → StopsAfter (from + links_until count more [] (walked ∷ back)) steps (chain_fault fault)
+      → ((k : ℕ) → times k walked.met ≤ 1) → steps ≡ from + links_by walked fault → StopsAfter (from + links_until count more [] (walked ∷ back)) steps (restore_fault fault)
   first-refused count more from steps walked back marks fault unmarked breaks once counted =
       chain-stops (from + links_until count more [] (walked ∷ back)) steps fault
       (refused-after count more from steps [] [] back walked marks count fault tt unmarked breaks once (omega (arith, counted)))
@@ -167,18 +167,18 @@ module _ (records : Records) where
   -- the walk along the shelves in use is refused
   pub shelves-refused : (more steps : ℕ) (marks : List Bool) (fault : WalkFault) → length records.shelves ≤ no_link → IsMarkedBy marks []
       → BreaksOff marks (length records.shelves) (shelf_walk records) fault → steps ≡ links_by (shelf_walk records) fault
-      → StopsAfter (links_until (length records.shelves) more [] (shelf_walks records)) steps (chain_fault fault)
+      → StopsAfter (links_until (length records.shelves) more [] (shelf_walks records)) steps (restore_fault fault)
   shelves-refused more steps marks fault few unmarked breaks counted =
-      subst (λ (n : ℕ). StopsAfter n steps (chain_fault fault)) (zero-add (links_until (length records.shelves) more [] (shelf_walks records)))
+      subst (λ (n : ℕ). StopsAfter n steps (restore_fault fault)) (zero-add (links_until (length records.shelves) more [] (shelf_walks records)))
       (first-refused (length records.shelves) more 0 steps (shelf_walk records) (unused_shelf_walk records ∷ []) marks fault unmarked breaks
       (walk-once shelf_chain.next records.shelves records.first_shelf few) (omega (arith, counted)))
 
   -- the walk along the unused shelves is refused
   pub unused-refused : (more steps : ℕ) (marks : List Bool) (fault : WalkFault) → length records.shelves ≤ no_link → (shelf_walk records).end ≡ no_link → IsMarkedBy marks (shelf_walk records).met
       → BreaksOff marks (length records.shelves) (unused_shelf_walk records) fault → steps ≡ length (shelf_walk records).met + links_by (unused_shelf_walk records) fault
-      → StopsAfter (links_until (length records.shelves) more [] (shelf_walks records)) steps (chain_fault fault)
+      → StopsAfter (links_until (length records.shelves) more [] (shelf_walks records)) steps (restore_fault fault)
   unused-refused more steps marks fault few end marked breaks counted =
-      subst (λ (n : ℕ). StopsAfter n steps (chain_fault fault)) (zero-add (links_until (length records.shelves) more [] (shelf_walks records)))
+      subst (λ (n : ℕ). StopsAfter n steps (restore_fault fault)) (zero-add (links_until (length records.shelves) more [] (shelf_walks records)))
       (chain-stops (0 + links_until (length records.shelves) more [] (shelf_walks records)) steps fault
       (refused-after (length records.shelves) more 0 steps [] (shelf_walk records ∷ []) [] (unused_shelf_walk records) marks (length records.shelves) fault (end, tt)
       (subst (IsMarkedBy marks) (sym (append-nil (shelf_walk records).met)) marked) breaks

@@ -10,11 +10,11 @@ use Rattle.etagere_links.specs.Links.{no_link}
 use Rattle.etagere_links.specs.Marks.{HasTwice, IsMarkedBy}
 use Rattle.shelf_links.specs.RecordLists.{Records, Entry, free_walk, item_numbers, item_walk, shelf_walk, unused_item_walk, unused_shelf_walk, walked_entry}
 use Rattle.etagere_links.specs.Lists.{HasEachOnce}
-use Rattle.etagere_links.specs.WalkFaults.{BreaksOff}
+use Rattle.etagere_links.specs.WalkFaults.{BreaksOff, restore_fault}
 use Rattle.etagere_links.specs.Walks.{Walked}
 use Rattle.etagere_links.proofs.WalkedLists.{once-part}
 use Rattle.shelf_records.specs.AtlasRecords.{AtlasRecords, is_allocated_at, walked_entries}
-use Rattle.shelf_records.specs.Private.Restoring.{chain_entry, chain_fault, free_fault, free_numbers}
+use Rattle.shelf_records.specs.Private.Restoring.{chain_entry, free_fault, free_numbers}
 use Rattle.shelf_records.specs.Snapshots.{IsBroken}
 use Rattle.shelf_records.specs.StandsFor.{HasFreeList, HasItemLinks, HasLinks, IsShared, StopsInRange}
 use Rattle.shelf_records.proofs.Spelled.StandsLinked.{filter-times}
@@ -29,7 +29,7 @@ not-twice count xs all twice part once = omega (arith, twice.1, (once-part count
 
 -- the walk along the shelves in use is refused
 pub shelves-broken : (atlas : AtlasRecords) (marks : List Bool) (fault : WalkFault)
-    → BreaksOff marks (length atlas.records.shelves) (shelf_walk atlas.records) fault → IsMarkedBy marks [] → IsBroken atlas (chain_fault fault)
+    → BreaksOff marks (length atlas.records.shelves) (shelf_walk atlas.records) fault → IsMarkedBy marks [] → IsBroken atlas (restore_fault fault)
 shelves-broken atlas marks OutOfRange breaks marked = λ (links : HasLinks atlas).
     not-in-range (length atlas.records.shelves) (shelf_walk atlas.records) breaks.0 breaks.1 links.shelves
 shelves-broken atlas marks Marked breaks marked = λ (shared : IsShared atlas).
@@ -41,7 +41,7 @@ shelves-broken atlas marks Memory breaks marked = tt
 -- the walk along the unused shelves is refused
 pub unused_shelves-broken : (atlas : AtlasRecords) (marks : List Bool) (fault : WalkFault)
     → BreaksOff marks (length atlas.records.shelves) (unused_shelf_walk atlas.records) fault → IsMarkedBy marks (shelf_walk atlas.records).met
-    → IsBroken atlas (chain_fault fault)
+    → IsBroken atlas (restore_fault fault)
 unused_shelves-broken atlas marks OutOfRange breaks marked = λ (links : HasLinks atlas).
     not-in-range (length atlas.records.shelves) (unused_shelf_walk atlas.records) breaks.0 breaks.1 links.unused_shelves
 unused_shelves-broken atlas marks Marked breaks marked = λ (shared : IsShared atlas).
@@ -52,7 +52,7 @@ unused_shelves-broken atlas marks Memory breaks marked = tt
 
 -- the walk along the unused items is refused
 pub unused_items-broken : (atlas : AtlasRecords) (marks : List Bool) (fault : WalkFault)
-    → BreaksOff marks (length atlas.records.items) (unused_item_walk atlas.records) fault → IsMarkedBy marks [] → IsBroken atlas (chain_fault fault)
+    → BreaksOff marks (length atlas.records.items) (unused_item_walk atlas.records) fault → IsMarkedBy marks [] → IsBroken atlas (restore_fault fault)
 unused_items-broken atlas marks OutOfRange breaks marked = λ (links : HasLinks atlas).
     not-in-range (length atlas.records.items) (unused_item_walk atlas.records) breaks.0 breaks.1 links.unused_items
 unused_items-broken atlas marks Marked breaks marked = λ (shared : IsShared atlas).
@@ -94,7 +94,7 @@ pub chain-broken : (atlas : AtlasRecords) (marks : List Bool) (numbers : List �
     → i < length numbers → n ≡ get_or numbers i 0
     → BreaksOff marks (length atlas.records.items) (item_walk atlas.records n) fault
     → IsMarkedBy marks ((unused_item_walk atlas.records).met ++ item_numbers (map (chain_entry atlas.records) (take i numbers)))
-    → IsBroken atlas (chain_fault fault)
+    → IsBroken atlas (restore_fault fault)
 chain-broken atlas marks numbers i n OutOfRange met within is breaks marked = λ (links : HasLinks atlas).
     let each : AllByRecursion (HasItemLinks atlas) (map (walked_entry atlas.records) numbers) = subst (λ (ns : List ℕ). AllByRecursion (HasItemLinks atlas) (map (walked_entry atlas.records) ns)) (sym met) links.each_shelf in
     not-in-range (length atlas.records.items) (item_walk atlas.records n) breaks.0 breaks.1 (Each-image (HasItemLinks atlas) (walked_entry atlas.records) numbers i n within is each).items

@@ -15,7 +15,8 @@ use Rattle.shelf_links.specs.RecordLists.{Entry, Records, shelf_walk, walked_ent
 use Rattle.shelf_model.specs.Choice.{Placement, chosen, splits}
 use Rattle.shelf_model.specs.Refusal.{lacks_records}
 use Rattle.shelf_model.specs.State.{Item, Shelf, is_empty, is_free, items_in_use}
-use Rattle.shelf_model.specs.Usage.{free_items, is_as_wide, largest_free, size_at, tallest_with, usage}
+use Rattle.etagere_base.specs.Places.{size_at}
+use Rattle.shelf_model.specs.Usage.{free_items, is_as_wide, largest_free, tallest_with, usage}
 use Rattle.shelf_model.specs.declared.usage.Usage.{Usage}
 use Rattle.shelf_model.specs.Widest.{free_width, greatest, widest_free, widest_in}
 use Rattle.shelf_model.proofs.Counted.{items-counted}

@@ -26,7 +26,7 @@ returns-in-Err-clause-fault c =
     let atlas = c.args.atlas.now in
     let start : c.bits-first.result ≡ bits_of atlas.records.unused_items =
     c.bits-first.ensures.value ∙ ap bits_of (c.unused_items.ensures ∙ ap (λ (a : AtlasRecords). a.records.unused_items) c.atlas.view_is) in
-    subst (IsBroken atlas) (sym c.chain_fault.ensures)
+    subst (IsBroken atlas) (sym c.restore_fault.ensures)
     (unused_items-broken atlas c.args.marks.now c.in-Err.fault
     (breaks-by item_chain.next atlas.records.items atlas.records.unused_items c.args.links.now c.bits-first.result c.args.marks.now c.in-Err.fault c.requires.links start c.in-Err.ensures.fault)
     c.requires.marked)
@@ -87,7 +87,7 @@ returns-in-Err-clause-until c =
     c.bits-first.ensures.value ∙ ap bits_of (c.unused_items.ensures ∙ ap (λ (a : AtlasRecords). a.records.unused_items) c.atlas.view_is) in
     let walks = walks-by item_chain.next atlas.records.items atlas.records.unused_items c.args.links.now c.bits-first.result c.requires.links start in
     let steps = c.walk_marking.new.steps in
-    λ more. subst (StopsAfter (c.args.steps.now + links_until (length atlas.records.items) more [] (item_walks atlas.records)) steps) (sym c.chain_fault.ensures)
+    λ more. subst (StopsAfter (c.args.steps.now + links_until (length atlas.records.items) more [] (item_walks atlas.records)) steps) (sym c.restore_fault.ensures)
     (first-refused atlas.records (length atlas.records.items) more c.args.steps.now steps (unused_item_walk atlas.records) (map (item_walk atlas.records) (shelf_walk atlas.records).met) c.args.marks.now c.in-Err.fault c.requires.marked
     (breaks-by item_chain.next atlas.records.items atlas.records.unused_items c.args.links.now c.bits-first.result c.args.marks.now c.in-Err.fault c.requires.links start c.in-Err.ensures.fault)
     (walk-once item_chain.next atlas.records.items atlas.records.unused_items c.requires.few)

@@ -39,7 +39,7 @@ returns-in-Err-clause-fault c =
     let number : ℕ = get_or c.args.numbers.now c.loop-number.number-index 0 in
     let start : c.bits-first.result ≡ bits_of (first_item_of atlas.records.shelves number) =
     c.bits-first.ensures.value ∙ ap bits_of (c.first_item_link.ensures ∙ ap (λ ss. first_item_of ss c.from.result) (c.shelves.ensures ∙ ap (λ (a : AtlasRecords). a.records.shelves) c.atlas.view_is) ∙ ap (first_item_of atlas.records.shelves) c.from.ensures) in
-    subst (IsBroken atlas) (sym c.chain_fault.ensures)
+    subst (IsBroken atlas) (sym c.restore_fault.ensures)
     (chain-broken atlas c.loop-number.marks c.args.numbers.now c.loop-number.number-index number c.in-Err.fault c.requires.numbers c.loop-number-test.true refl
     (breaks-by item_chain.next atlas.records.items (first_item_of atlas.records.shelves number) c.args.links.now c.bits-first.result c.loop-number.marks c.in-Err.fault c.requires.links start c.in-Err.ensures.fault)
     c.loop-number.invariant.marked)
@@ -108,7 +108,7 @@ returns-in-Err-clause-until c =
     let steps = c.mark_onto.new.steps in
     let counted : steps ≡ c.loop-number.steps + links_by (item_walk atlas.records number) c.in-Err.fault =
     subst (λ (w : Walked). steps ≡ c.loop-number.steps + links_by w c.in-Err.fault) walks c.in-Err.ensures.read in
-    λ more. subst (StopsAfter (c.args.steps.now + links_until (length atlas.records.items) more (unused_item_walk atlas.records).met (map (item_walk atlas.records) c.args.numbers.now)) steps) (sym c.chain_fault.ensures)
+    λ more. subst (StopsAfter (c.args.steps.now + links_until (length atlas.records.items) more (unused_item_walk atlas.records).met (map (item_walk atlas.records) c.args.numbers.now)) steps) (sym c.restore_fault.ensures)
     (chain-refused atlas.records c.args.numbers.now (unused_item_walk atlas.records).met c.loop-number.number-index more c.args.steps.now c.loop-number.steps steps c.loop-number.marks c.in-Err.fault c.loop-number-test.true c.requires.few kept.chains kept.marked
     (breaks-by item_chain.next atlas.records.items (first_item_of atlas.records.shelves number) c.args.links.now c.bits-first.result c.loop-number.marks c.in-Err.fault c.requires.links start c.in-Err.ensures.fault)
     kept.steps counted)

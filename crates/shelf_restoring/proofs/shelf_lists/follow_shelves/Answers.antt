@@ -22,7 +22,7 @@ returns-in-Err-clause-fault c =
     let atlas = c.args.atlas.now in
     let start : c.bits-first.result ≡ bits_of atlas.records.first_shelf =
     c.bits-first.ensures.value ∙ ap bits_of (c.first_shelf.ensures ∙ ap (λ (a : AtlasRecords). a.records.first_shelf) c.atlas.view_is) in
-    subst (IsBroken atlas) (sym c.chain_fault.ensures)
+    subst (IsBroken atlas) (sym c.restore_fault.ensures)
     (shelves-broken atlas c.args.marks.now c.in-Err.fault
     (breaks-by shelf_chain.next atlas.records.shelves atlas.records.first_shelf c.args.links.now c.bits-first.result c.args.marks.now c.in-Err.fault c.requires.links start c.in-Err.ensures.fault)
     c.requires.marked)
@@ -37,7 +37,7 @@ returns-in-Err-walk_marking-clause-fault c =
     let marked : IsMarkedBy c.walk_marking.new.marks (shelf_walk atlas.records).met =
     subst (λ (w : Walked). IsMarkedBy c.walk_marking.new.marks w.met) (walks-by shelf_chain.next atlas.records.shelves atlas.records.first_shelf c.args.links.now c.bits-first.result c.requires.links first)
     (c.in-Ok.ensures.marked [] c.requires.marked) in
-    subst (IsBroken atlas) (sym c.chain_fault-in-Err-walk_marking.ensures)
+    subst (IsBroken atlas) (sym c.restore_fault-in-Err-walk_marking.ensures)
     (unused_shelves-broken atlas c.walk_marking.new.marks c.in-Err-walk_marking.fault
     (breaks-by shelf_chain.next atlas.records.shelves atlas.records.unused_shelves c.args.links.now c.bits-unused.result c.walk_marking.new.marks c.in-Err-walk_marking.fault c.requires.links start c.in-Err-walk_marking.ensures.fault)
     marked)
@@ -92,7 +92,7 @@ returns-in-Err-clause-until c =
     let steps = c.walk_marking.new.steps in
     let counted : steps ≡ c.args.steps.now + links_by (shelf_walk atlas.records) c.in-Err.fault =
     subst (λ (w : Walked). steps ≡ c.args.steps.now + links_by w c.in-Err.fault) walks c.in-Err.ensures.read in
-    λ more. subst (StopsAfter (links_until (length atlas.records.shelves) more [] (shelf_walks atlas.records)) steps) (sym c.chain_fault.ensures)
+    λ more. subst (StopsAfter (links_until (length atlas.records.shelves) more [] (shelf_walks atlas.records)) steps) (sym c.restore_fault.ensures)
     (shelves-refused atlas.records more steps c.args.marks.now c.in-Err.fault c.requires.few c.requires.marked
     (breaks-by shelf_chain.next atlas.records.shelves atlas.records.first_shelf c.args.links.now c.bits-first.result c.args.marks.now c.in-Err.fault c.requires.links start c.in-Err.ensures.fault)
     (omega (arith, counted, c.requires.steps)))
@@ -112,7 +112,7 @@ returns-in-Err-walk_marking-clause-until c =
     subst (λ (w : Walked). IsMarkedBy c.walk_marking.new.marks w.met) walks (c.in-Ok.ensures.marked [] c.requires.marked) in
     let counted : steps ≡ c.walk_marking.new.steps + links_by (unused_shelf_walk atlas.records) fault =
     subst (λ (w : Walked). steps ≡ c.walk_marking.new.steps + links_by w fault) unused_walks c.in-Err-walk_marking.ensures.read in
-    λ more. subst (StopsAfter (links_until (length atlas.records.shelves) more [] (shelf_walks atlas.records)) steps) (sym c.chain_fault-in-Err-walk_marking.ensures)
+    λ more. subst (StopsAfter (links_until (length atlas.records.shelves) more [] (shelf_walks atlas.records)) steps) (sym c.restore_fault-in-Err-walk_marking.ensures)
     (unused-refused atlas.records more steps c.walk_marking.new.marks fault c.requires.few (sym (ap (λ (w : Walked). w.end) walks) ∙ c.in-Ok.ensures.end) marked
     (breaks-by shelf_chain.next atlas.records.shelves atlas.records.unused_shelves c.args.links.now c.bits-unused.result c.walk_marking.new.marks fault c.requires.links start c.in-Err-walk_marking.ensures.fault)
     (omega (arith, counted, c.in-Ok.ensures.steps, ap (λ (w : Walked). length w.met) walks, c.requires.steps)))

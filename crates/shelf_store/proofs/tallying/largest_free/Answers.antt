@@ -7,7 +7,7 @@ pub tallied-tally-requires-clause-free : goal.tallied-tally-requires-clause-free
 tallied-tally-requires-clause-free c = kept-free c.args.frame.now c.args.records.now c.requires
 
 pub returns : goal.returns
-returns c = c.size_at.ensures ∙ largest-is c.args.frame.now c.args.records.now c.tallied-tally.result c.requires c.tallied-tally.ensures
+returns c = c.largest_free.ensures ∙ largest-is c.args.frame.now c.args.records.now c.tallied-tally.result c.requires c.tallied-tally.ensures
 
 pub tallied-tally-requires-clause-linked : goal.tallied-tally-requires-clause-linked
 tallied-tally-requires-clause-linked c = (witnesses c.requires).linked

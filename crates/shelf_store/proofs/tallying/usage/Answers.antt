@@ -15,7 +15,7 @@ overflow_sub-result c =
     omega (arith, ap (λ (t : Tally). t.free_items) c.tallied-tally.ensures, counted.free_items, items-counted (state_of c.args.frame.now c.args.records.now), c.requires.counted)
 
 pub returns : goal.returns
-returns c = usage-is c.args.frame.now c.args.records.now c.args.items_in_use c.tallied-tally.result c.size_at.result c.requires.kept c.requires.counted c.tallied-tally.ensures c.size_at.ensures
+returns c = usage-is c.args.frame.now c.args.records.now c.args.items_in_use c.tallied-tally.result c.largest_free.result c.requires.kept c.requires.counted c.tallied-tally.ensures c.largest_free.ensures
 
 pub tallied-tally-requires-clause-linked : goal.tallied-tally-requires-clause-linked
 tallied-tally-requires-clause-linked c = (witnesses c.requires.kept).linked
