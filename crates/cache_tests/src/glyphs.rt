@@ -1,15 +1,14 @@
 //! A long text through a small cache, compared with a plain one, and the numbers and names of faults.
 
 use crate::assertions::{equal, holds};
-use etagere::{Allocation, AtlasAllocator, DEFAULT_OPTIONS, OptionsFault, Size, size2};
+use etagere::{Allocation, AtlasAllocator, DEFAULT_OPTIONS, OptionsFault, Rectangle, Size, size2};
 use glyph_shelf::{GlyphCache, GlyphFault, Placed};
+use row_calls::calls::{new, return_all};
+use row_calls::kinds::Atlas;
 use std::alloc::Global;
 use std::num::NonZeroUsize;
 use std::process::Abort;
 use std::test::Fail;
-use test_support::atlases::Atlas;
-use test_support::calls::{new, return_all};
-use test_support::corners::corners;
 
 /// A cache of so many keys in an atlas of this size.
 pub fn new_cache(alloc: Global, size: Size, capacity: usize) -> Result<GlyphCache, OptionsFault> {
@@ -19,6 +18,16 @@ pub fn new_cache(alloc: Global, size: Size, capacity: usize) -> Result<GlyphCach
 
 pub fn placed(cache: &mut GlyphCache, key: u64, size: Size) -> Result<Placed, GlyphFault> {
     cache.place(key, size)
+}
+
+/// The first corner of a rectangle, and the one past its last.
+fn corners(rectangle: Rectangle) -> [i32; 4] {
+    [
+        rectangle.min.x,
+        rectangle.min.y,
+        rectangle.max.x,
+        rectangle.max.y,
+    ]
 }
 
 #[test]

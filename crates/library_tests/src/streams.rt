@@ -1,7 +1,6 @@
 //! Streams: readers and writers that fail, at each byte or by accepting none, through replays, streams, checks, drawings
 //! and pictures; and the texts of pictures.
 
-pub(crate) mod assertions;
 mod checks;
 mod drawings;
 mod dumps;

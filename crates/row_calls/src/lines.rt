@@ -3,6 +3,12 @@
 use etagere::{AllocId, Allocation, AllocatorOptions, Rectangle, Size, point2, size2};
 use std::alloc::AllocError;
 use std::io;
+use std::num::NonZeroUsize;
+
+/// The first word, and what comes behind it.
+pub fn parted(line: &str) -> (&str, &str) {
+    line.split_once(' ').unwrap_or((line, ""))
+}
 
 /// The numbers of some words, and 0 for each that is none.
 pub fn numbers(words: &str) -> [i32; 6] {
@@ -29,6 +35,17 @@ pub fn rectangle_of(words: &str) -> Rectangle {
 
 pub fn key_of(word: &str) -> u64 {
     word.parse().unwrap_or(0)
+}
+
+/// A key, whose number stands before its sides.
+pub fn key_and_size_of(words: &str) -> (u64, Size) {
+    let (key, sides) = parted(words);
+    (key_of(key), size_of(sides))
+}
+
+/// So many keys at most, which can't be none.
+pub fn capacity_of(number: i32) -> Option<NonZeroUsize> {
+    NonZeroUsize::new(usize::try_from(number).unwrap_or(0))
 }
 
 pub fn id_of(word: &str) -> AllocId {
@@ -80,8 +97,9 @@ pub fn say_size(rt: &impl Print, size: Size) -> io::Result<()> {
 /// Writes the corner of a rectangle and the one past its last, if there is one.
 pub fn say_rectangle(rt: &impl Print, rectangle: Option<Rectangle>) -> io::Result<()> {
     match rectangle {
-        Some(Rectangle { min, max }) => {
-            println!(rt; "({},{})-({},{})", min.x, min.y, max.x, max.y)
+        Some(rectangle) => {
+            say_bracketed(rt, &rectangle)?;
+            say(rt, "")
         }
         None => say(rt, "none"),
     }
@@ -113,12 +131,9 @@ pub fn say_placed(
 
 /// Writes the corners and the id of an allocation.
 pub fn say_given(rt: &impl Print, word: &str, given: &Allocation) -> io::Result<()> {
-    let Rectangle { min, max } = given.rectangle;
-    let id = given.id.serialize();
-    println!(rt;
-        "{word} ({},{})-({},{}) id {id}",
-        min.x, min.y, max.x, max.y
-    )
+    print!(rt; "{word} ")?;
+    say_bracketed(rt, &given.rectangle)?;
+    println!(rt; " id {}", given.id.serialize())
 }
 
 /// Ends a line with the keys that were evicted.

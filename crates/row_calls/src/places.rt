@@ -1,6 +1,6 @@
 //! The two places for what is called, and the calls that fill them.
 
-use crate::lines::{say, say_fault, say_number, say_text};
+use crate::lines::{parted, say, say_fault, say_number, say_text};
 use std::alloc::Global;
 use std::io;
 
@@ -88,11 +88,6 @@ pub fn answer<C: Called + Drop>(
         "save" => say_text(rt, &text_of(rt.alloc(), places.at(place))),
         _ => answer_of(rt, places.at(place), call, words),
     }
-}
-
-/// The first word, and what comes behind it.
-fn parted(line: &str) -> (&str, &str) {
-    line.split_once(' ').unwrap_or((line, ""))
 }
 
 /// Keeps what was made in its place. Where it can't be made, what was there stays.

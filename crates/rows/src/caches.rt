@@ -6,8 +6,8 @@ use glyph_shelf::laws::saved_and_restored;
 use glyph_shelf::{CacheRestoreFault, CacheSnapshot, GlyphCache, GlyphFault, Placed, SavedKey};
 use row_calls::atlases::of_options;
 use row_calls::lines::{
-    key_of, numbers, say, say_bracketed, say_evicted, say_fault, say_if, say_number, say_rectangle,
-    size_of,
+    key_and_size_of, key_of, numbers, parted, say, say_bracketed, say_evicted, say_fault, say_if,
+    say_number, say_rectangle,
 };
 use row_calls::places::{Called, NotMade};
 use saved_caches::{read_saved_cache, write_saved_cache};
@@ -22,7 +22,7 @@ pub struct CalledCache(GlyphCache);
 impl Called for CalledCache {
     /// The words are the capacity of the cache, the sides of its atlas, and how many columns that has.
     fn made(alloc: Global, words: &str) -> Result<CalledCache, NotMade> {
-        let (capacity, words) = words.split_once(' ').unwrap_or(("", words));
+        let (capacity, words) = parted(words);
         let capacity = NonZeroUsize::new(capacity.parse().unwrap_or(0)).ok_or(NotMade::Unread)?;
         let [width, height, num_columns, ..] = numbers(words);
         let options = AllocatorOptions {
@@ -94,8 +94,8 @@ fn say_state(
 
 /// Places a key, whose number stands before its sides.
 fn place(cache: &mut GlyphCache, rt: &impl Print, words: &str) -> io::Result<()> {
-    let (key, sides) = words.split_once(' ').unwrap_or((words, ""));
-    say_placed(rt, &placed(cache, key_of(key), size_of(sides)))
+    let (key, size) = key_and_size_of(words);
+    say_placed(rt, &placed(cache, key, size))
 }
 
 /// Writes what a key that is placed answers.

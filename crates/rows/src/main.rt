@@ -11,15 +11,18 @@
 mod caches;
 mod moved_caches;
 mod padded_caches;
+mod padded_pages;
+mod paged_caches;
+mod pages;
 mod runs;
 
 use crate::caches::CalledCache;
 use crate::padded_caches::CalledPaddedCache;
+use crate::padded_pages::CalledPaddedPages;
+use crate::paged_caches::CalledPagedCache;
+use crate::pages::CalledPages;
 use anyhow::{Context, Result, bail};
 use etagere::{AtlasAllocator, BucketedAtlasAllocator};
-use page_calls::padded::CalledPaddedPages;
-use page_calls::paged_caches::CalledPagedCache;
-use page_calls::pages::CalledPages;
 use row_calls::places::{Called, Places, answer};
 use std::env;
 use std::io::{BufRead, BufReader};

@@ -11,7 +11,8 @@ use padded_cache::PaddedCache;
 use padding::Padding;
 use row_calls::atlases::of_options;
 use row_calls::lines::{
-    key_of, numbers, say, say_evicted, say_fault, say_number, say_rectangle, size_of,
+    capacity_of, key_and_size_of, key_of, numbers, say, say_evicted, say_fault, say_number,
+    say_rectangle, size_of,
 };
 use row_calls::places::{Called, NotMade};
 use std::alloc::Global;
@@ -73,20 +74,15 @@ fn call_of(call: &str, words: &str) -> Option<PaddedCall> {
     }
 }
 
-/// A key, whose number stands before its sides.
 fn placement_of(words: &str) -> PaddedCall {
-    let (key, sides) = words.split_once(' ').unwrap_or((words, ""));
-    PaddedCall::Place(key_of(key), size_of(sides))
+    let (key, size) = key_and_size_of(words);
+    PaddedCall::Place(key, size)
 }
 
 /// So many keys at most.
 fn most_of(words: &str) -> NonZeroUsize {
     let [most, ..] = numbers(words);
     capacity_of(most).unwrap_or(NonZeroUsize::MIN)
-}
-
-fn capacity_of(number: i32) -> Option<NonZeroUsize> {
-    NonZeroUsize::new(usize::try_from(number).unwrap_or(0))
 }
 
 /// Writes what a call answers.

@@ -1,7 +1,7 @@
 //! Long runs, lines and inputs with ample memory: no call answers that it is out of memory, and each answer is the one of
 //! the rules.
 
-use crate::streams::assertions::{equal, holds};
+use crate::assertions::{equal, holds};
 use etagere::{DEFAULT_OPTIONS, size2};
 use etagere_run::{AtlasCommand, BucketedCommand, Outcome, Reply, replay, run_atlas, run_bucketed};
 use std::io::{self, Read};

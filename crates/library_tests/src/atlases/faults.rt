@@ -1,7 +1,7 @@
 //! Messages and numbers of the faults. A fault's message is the name of its variant; the numbers stand in
 //! the order in which faults are tested.
 
-use crate::streams::assertions::equal;
+use crate::assertions::equal;
 use etagere::{AtlasGrowFault, GrowFault, OptionsFault, RestoreFault, UnknownId};
 use etagere_run::{Checked, Outcome, ReplayFault, RunFault, StreamFault};
 use std::fmt::Display;

@@ -1,7 +1,7 @@
 //! The JSON text of each plain record, which is read again as the record. Its fields stand under their names, in the
 //! order of the record; an id is its number.
 
-use crate::streams::assertions::{equal, holds};
+use crate::assertions::{equal, holds};
 use etagere::{
     AllocId, Allocation, AllocatorOptions, DEFAULT_OPTIONS, Point, Rectangle, Size, point2, size2,
 };

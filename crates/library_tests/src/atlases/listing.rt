@@ -1,9 +1,9 @@
 //! What no row of calls says of the iterator over allocations.
 
-use crate::streams::assertions::equal;
+use crate::assertions::equal;
 use etagere::AtlasAllocator;
+use row_calls::calls::{new, placed};
 use std::test::Fail;
-use test_support::calls::{new, placed};
 
 #[test]
 fn nothing_follows_the_last_allocation(rt: HostRuntime) -> Result<(), Fail> {

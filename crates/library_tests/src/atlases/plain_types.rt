@@ -1,7 +1,7 @@
 //! The plain types: numbers of ids, sides and areas, when two allocations are equal, which values hash alike, and the
 //! default options, all by the names under which `etagere` gives them to its users.
 
-use crate::streams::assertions::{equal, equal_at, holds, holds_at};
+use crate::assertions::{equal, equal_at, holds, holds_at};
 use etagere::{
     AllocId, Allocation, AllocatorOptions, DEFAULT_OPTIONS, Point, Rectangle, Size, point2, size2,
 };

@@ -1,6 +1,6 @@
 //! Walks along links, by the function that restoring follows them by.
 
-use crate::streams::assertions::equal_at;
+use crate::assertions::equal_at;
 use etagere::laws;
 use std::process::Abort;
 use std::test::Fail;

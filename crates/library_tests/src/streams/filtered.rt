@@ -1,7 +1,7 @@
 //! How a filter goes over readers and writers that move few bytes at once, and fail. A call that failed isn't retried,
 //! also where it would work the second time.
 
-use crate::streams::assertions::{equal, equal_at, holds, holds_at};
+use crate::assertions::{equal, equal_at, holds, holds_at};
 use crate::streams::fake_streams::{End, FakeReader, FakeWriter, FewWrites, first_lines};
 use crate::streams::filters::{Filter, Stopped};
 use std::process::Abort;

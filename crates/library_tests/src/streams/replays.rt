@@ -1,6 +1,6 @@
 //! Replays, and single texts, over readers and writers that move few bytes at once, and fail.
 
-use crate::streams::assertions::equal;
+use crate::assertions::equal;
 use crate::streams::fake_streams::{End, FakeWriter};
 use crate::streams::filtered::{
     takes_few_bytes, writes_a_beginning, writes_each_line_at_once, writes_nothing_unread,

@@ -1,6 +1,6 @@
 //! Streams of runs over writers that take few bytes at once, and fail. The lines are those of the README's example.
 
-use crate::streams::assertions::equal;
+use crate::assertions::equal;
 use crate::streams::fake_streams::{End, FakeReader, FakeWriter};
 use crate::streams::filtered::{takes_few_bytes, writes_a_beginning, writes_each_line_at_once};
 use crate::streams::filters::{Filter, Stopped, StreamAtlas, StreamBuckets};

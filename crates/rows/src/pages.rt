@@ -7,7 +7,9 @@ use atlas_pages::{
 use etagere::{AllocId, AllocatorOptions, DEFAULT_OPTIONS, Rectangle, size2};
 use page_moves::{PageMove, RearrangedPages, rearranged_pages};
 use page_runs::{PageCommand, PageReply, answer_on_pages};
-use row_calls::lines::{numbers, say, say_given, say_if, say_number, say_rectangle, size_of};
+use row_calls::lines::{
+    id_of, numbers, parted, say, say_given, say_if, say_number, say_rectangle, size_of,
+};
 use row_calls::places::{Called, NotMade};
 use std::alloc::{AllocError, Global};
 use std::io;
@@ -106,11 +108,8 @@ pub fn options_of(words: &str) -> PageOptions {
 
 /// A page and an id.
 pub fn page_and_id_of(words: &str) -> (u32, AllocId) {
-    let (page, id) = words.split_once(' ').unwrap_or((words, ""));
-    (
-        page.parse().unwrap_or(0),
-        AllocId::deserialize(id.parse().unwrap_or(0)),
-    )
+    let (page, id) = parted(words);
+    (page.parse().unwrap_or(0), id_of(id))
 }
 
 /// Writes the page, the corners and the id of a place.

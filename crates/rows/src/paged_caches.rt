@@ -1,12 +1,14 @@
 //! Calls of a cache over several pages.
 
+use crate::caches::say_unentered;
 use crate::pages::options_of;
 use atlas_pages::{PageOptions, PagedAllocation};
 use cache_runs::paged::answer_on_cache;
 use cache_runs::{PagedCall, PagedReply};
 use paged_cache::{NewCacheFault, PagedCache, PlacedKey, PlacingFault};
 use row_calls::lines::{
-    key_of, numbers, say, say_bracketed, say_evicted, say_fault, say_number, size_of,
+    capacity_of, key_and_size_of, key_of, numbers, say, say_bracketed, say_evicted, say_fault,
+    say_number,
 };
 use row_calls::places::{Called, NotMade};
 use std::alloc::Global;
@@ -21,8 +23,7 @@ impl Called for CalledPagedCache {
     /// The words are those of pages, and the capacity.
     fn made(alloc: Global, words: &str) -> Result<CalledPagedCache, NotMade> {
         let [.., capacity] = numbers(words);
-        let capacity = NonZeroUsize::new(usize::try_from(capacity).unwrap_or(0));
-        let capacity = capacity.ok_or(NotMade::Unread)?;
+        let capacity = capacity_of(capacity).ok_or(NotMade::Unread)?;
         match new_cache(alloc, &options_of(words), capacity) {
             Ok(cache) => Ok(CalledPagedCache(cache)),
             Err(fault) => Err(of_new_cache(fault)),
@@ -68,10 +69,9 @@ fn call_of(call: &str, words: &str) -> Option<PagedCall> {
     }
 }
 
-/// A key, whose number stands before its sides.
 fn placement_of(words: &str) -> PagedCall {
-    let (key, sides) = words.split_once(' ').unwrap_or((words, ""));
-    PagedCall::Place(key_of(key), size_of(sides))
+    let (key, size) = key_and_size_of(words);
+    PagedCall::Place(key, size)
 }
 
 /// Writes what a call answers.
@@ -90,11 +90,6 @@ fn say_entered(rt: &impl Print, placed: &PlacedKey<PagedAllocation>) -> io::Resu
     print!(rt; "page {} placed ", placed.place.page)?;
     say_bracketed(rt, &placed.place.allocation.rectangle)?;
     say_evicted(rt, &placed.evicted)
-}
-
-fn say_unentered(rt: &impl Print, evicted: &[u64]) -> io::Result<()> {
-    rt.print("no memory")?;
-    say_evicted(rt, evicted)
 }
 
 /// Writes the page and the corners of a place, or that there is none.
