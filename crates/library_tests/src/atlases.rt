@@ -1,5 +1,5 @@
-//! Atlases and their plain types: messages and statuses, the types and their JSON text, the end of an iterator, walks along
-//! links, and how many of these are read; long runs and inputs with ample memory.
+//! Atlases and their plain types: messages and statuses, the types and their JSON text, the end of an iterator, and how
+//! many links are read; long runs and inputs with ample memory.
 
 mod ample_memory;
 mod faults;
@@ -7,4 +7,3 @@ mod json;
 mod listing;
 mod plain_types;
 mod steps;
-mod walks;

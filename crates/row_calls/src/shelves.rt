@@ -177,8 +177,8 @@ fn say_last_move(rt: &impl Print, done: &Rearranged) -> io::Result<()> {
     }
 }
 
-fn links_of(words: &str) -> [u16; 6] {
-    let mut links = [0; 6];
+fn links_of(words: &str) -> [u16; 9] {
+    let mut links = [0; 9];
     for (link, word) in links.iter_mut().zip(words.split(' ')) {
         *link = word.parse().unwrap_or(0);
     }
