@@ -2,7 +2,7 @@
 
 use crate::atlases;
 use crate::kinds::Atlas;
-use crate::lines::{say, say_size, size_of};
+use crate::lines::{say, say_each, say_size, size_of};
 use crate::places::{Called, NotMade};
 use etagere::{
     BucketedAtlasAllocator, BucketedRefusal, BucketedSnapshot, BucketedUsage, RestoreFault, Size,
@@ -92,11 +92,15 @@ fn say_refusal(rt: &impl Print, refusal: Option<BucketedRefusal>) -> io::Result<
 
 /// Writes each number of what an atlas tells of its shelves, buckets and items.
 fn say_usage(rt: &impl Print, usage: &BucketedUsage) -> io::Result<()> {
-    let (shelves, idle_shelves) = (usage.shelves, usage.idle_shelves);
-    let (buckets, idle_buckets) = (usage.buckets, usage.idle_buckets);
-    let (items, unused) = (usage.items, usage.unused_buckets);
-    let Size { width, height } = usage.largest_free;
-    println!(rt;
-        "shelves {shelves} {idle_shelves} buckets {buckets} {idle_buckets} items {items} unused {unused} largest {width} {height}"
-    )
+    let numbers = [
+        ("shelves ", usage.shelves),
+        ("", usage.idle_shelves),
+        ("buckets ", usage.buckets),
+        ("", usage.idle_buckets),
+        ("items ", usage.items),
+        ("unused ", usage.unused_buckets),
+    ];
+    say_each(rt, &numbers)?;
+    rt.print("largest ")?;
+    say_size(rt, usage.largest_free)
 }

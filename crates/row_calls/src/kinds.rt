@@ -10,7 +10,7 @@ use std::alloc::{AllocError, Global};
 use std::io::{self, Write};
 
 /// Why an atlas doesn't grow.
-#[derive(Clone, Copy, Debug, PartialEq, Eq)]
+#[derive(Clone, Copy)]
 pub enum NotGrown {
     Memory,
     /// The number of the fault.

@@ -90,6 +90,14 @@ pub fn say_text(rt: &impl Print, text: &Option<String>) -> io::Result<()> {
     }
 }
 
+/// Writes numbers within a line, each behind the words before it.
+pub fn say_each(rt: &impl Print, numbers: &[(&str, u32)]) -> io::Result<()> {
+    for (words, number) in numbers {
+        print!(rt; "{words}{number} ")?;
+    }
+    Ok(())
+}
+
 pub fn say_size(rt: &impl Print, size: Size) -> io::Result<()> {
     println!(rt; "{} {}", size.width, size.height)
 }

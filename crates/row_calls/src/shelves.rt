@@ -3,7 +3,7 @@
 use crate::atlases;
 use crate::kinds::Atlas;
 use crate::lines::{
-    id_of, say, say_fault, say_given, say_number, say_rectangle, say_size, size_of,
+    id_of, say, say_each, say_fault, say_given, say_number, say_rectangle, say_size, size_of,
 };
 use crate::places::{Called, NotMade};
 use etagere::laws::Walk;
@@ -122,12 +122,16 @@ fn say_refusal(rt: &impl Print, refusal: Option<Refusal>) -> io::Result<()> {
 
 /// Writes how full an atlas is.
 fn say_usage(rt: &impl Print, usage: &Usage) -> io::Result<()> {
-    let (shelves, empty_shelves) = (usage.shelves, usage.empty_shelves);
-    let (items, free_items, unused) = (usage.items, usage.free_items, usage.unused_records);
-    let Size { width, height } = usage.largest_free;
-    println!(rt;
-        "shelves {shelves} empty {empty_shelves} items {items} free {free_items} unused {unused} largest {width} {height}"
-    )
+    let numbers = [
+        ("shelves ", usage.shelves),
+        ("empty ", usage.empty_shelves),
+        ("items ", usage.items),
+        ("free ", usage.free_items),
+        ("unused ", usage.unused_records),
+    ];
+    say_each(rt, &numbers)?;
+    rt.print("largest ")?;
+    say_size(rt, usage.largest_free)
 }
 
 /// Writes what a walk met, its end and its steps.
@@ -158,14 +162,19 @@ fn say_moved(
 
 /// Writes a line for each rectangle that moves, with its old id, one for each that finds no place, and one that ends them.
 fn say_moves(rt: &impl Print, done: &Rearranged) -> io::Result<()> {
-    for Move { before, after } in &done.moves {
-        print!(rt; "{} ", before.id.serialize())?;
-        say_given(rt, "to", after)?;
+    for one in &done.moves {
+        say_move(rt, one)?;
     }
     for left in &done.unplaced {
         say_given(rt, "left", left)?;
     }
     say(rt, "end")
+}
+
+fn say_move(rt: &impl Print, one: &Move) -> io::Result<()> {
+    let Move { before, after } = one;
+    print!(rt; "{} ", before.id.serialize())?;
+    say_given(rt, "to", after)
 }
 
 /// Writes how many rectangles move, how many find no place, and what the last one that moves gets.
