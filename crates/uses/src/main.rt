@@ -1,16 +1,18 @@
-//! Small callers of `etagere` and `glyph_shelf`, one an idea, each with a contract that says what it wants. The program
-//! prints worked answers of each.
+//! Small callers of `etagere` and `glyph_shelf`, one an idea, most with a contract that says what they want. For each
+//! argument, in order, the program prints a picture of pages, or worked answers of those with contracts.
 #![tactic(auto)]
 
 mod apart;
+mod cached;
 mod frames;
+mod moved;
 mod pages;
 mod recording;
 mod saving;
 mod sheet;
 mod texture;
 
-use anyhow::{Context, Result};
+use anyhow::{Context, Result, bail};
 use apart::allocate_two;
 use etagere::{AllocId, Allocation, AtlasAllocator, DEFAULT_OPTIONS, Rectangle, Size, size2};
 use frames::draw_frames;
@@ -19,17 +21,34 @@ use pages::{PAGE, PagedAllocation, allocate_on_pages};
 use recording::Recorder;
 use saving::reopen;
 use sheet::place_sheet;
+use std::env;
 use std::num::NonZeroUsize;
 use texture::pixel_offset;
 
 fn main(rt: HostRuntime) -> Result<()> {
-    show_two(&rt)?;
-    show_offset(&rt)?;
-    show_sheet(&rt)?;
-    show_frames(&rt)?;
-    show_pages(&rt)?;
-    show_saved(&rt)?;
-    show_recorded(&rt)
+    for what in env::args(&rt)?.skip(1) {
+        show_asked(&rt, what.as_str())?;
+    }
+    Ok(())
+}
+
+fn show_asked(rt: &(impl Input + Print + AllocGlobal), what: &str) -> Result<()> {
+    match what {
+        "answers" => show_answers(rt),
+        "cached" => cached::draw_text(rt),
+        "moved" => moved::draw_both(rt),
+        _ => bail!("it shows `answers`, `cached` and `moved`"),
+    }
+}
+
+fn show_answers(rt: &(impl Print + AllocGlobal)) -> Result<()> {
+    show_two(rt)?;
+    show_offset(rt)?;
+    show_sheet(rt)?;
+    show_frames(rt)?;
+    show_pages(rt)?;
+    show_saved(rt)?;
+    show_recorded(rt)
 }
 
 fn show_two(rt: &(impl Print + AllocGlobal)) -> Result<()> {
