@@ -1,8 +1,10 @@
 # What the scripts at the root share: each runs the program of one crate, and builds it first where it has to.
 #
-# A program is kept under the name CRATE-SOURCES-TOOLCHAIN: a sum of crates.txt and of the files of the crate and of those
-# below it, and one of the toolchain's version. So what has the name is current, whatever the times of files say. With
-# `-proved` behind it it is the program that the gate or `rt run` proved; else an unproved build, which checks as it runs.
+# A program is kept under the name CRATE-SOURCES-TOOLCHAIN: a sum of the lines in crates.txt and of the files of the crate
+# and of those below it, and one of the toolchain's version. So what has the name is current, whatever the times of files
+# say. With `-proved` behind it it is the program that the gate or `rt run` proved; else an unproved build, which checks as
+# it runs. The archive of the library for C, which is always proved, is kept likewise.
+#
 # They are kept in out/, or in the user's cache where the checkout can't be written to. Where `rt` isn't in the path, a
 # program that was kept of these sources is run, whichever toolchain made it; else the one that was released in dist/.
 
@@ -50,14 +52,16 @@ with_those_below() {
 
 # Prints a sum of what the program of the crate $1 is made of.
 sources_sum() {
-    local name folder paths=(crates.txt)
-    for name in $(with_those_below "$1" | sort -u); do
+    local name folder names paths=()
+    names=$(with_those_below "$1" | LC_ALL=C sort -u)
+    for name in $names; do
         for folder in src specs proofs; do
             [[ ! -d $root/crates/$name/$folder ]] || paths+=("crates/$name/$folder")
         done
     done
     (
         cd -- "$root" || exit
+        awk -F '[: ]+' 'NR == FNR { names[$1]; next } $1 in names' <(echo "$names") crates.txt | LC_ALL=C sort
         find "${paths[@]}" -type f -print0 | LC_ALL=C sort -z | xargs -0 sha256sum
     ) | sha256sum | cut -c 1-32
 }
@@ -67,13 +71,13 @@ name_of() {
     echo "$1-$(sources_sum "$1")-$(toolchain_sum)"
 }
 
-# Prints the path of the kept program of this name, in which a pattern may stand, if there is one.
+# Prints the path of the kept program or archive of this name, in which a pattern may stand, if there is one.
 kept() {
     local file
     # The name is left to be expanded, for its pattern.
     # shellcheck disable=SC2231
     for file in "$root/out"/$1 "$cache"/$1; do
-        [[ ! -x $file ]] || { echo "$file" && return; }
+        [[ ! -f $file ]] || { echo "$file" && return; }
     done
 }
 
@@ -210,7 +214,8 @@ program_of() {
 }
 
 # Prints a folder with the library of these sources: the one that ETAGERE_LIB_DIR names, else that of dist/ where it is
-# of these sources, else $1, where it is then made. Without a toolchain it is dist/ in any case.
+# of these sources, else $1, where the one is put that was kept of these sources, or else a new one. Without a toolchain
+# it is dist/ in any case.
 library_folder() {
     if [[ -n ${ETAGERE_LIB_DIR-} ]]; then
         echo "$ETAGERE_LIB_DIR"
