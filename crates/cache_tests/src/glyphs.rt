@@ -3,12 +3,12 @@
 use crate::assertions::{equal, holds};
 use etagere::{Allocation, AtlasAllocator, DEFAULT_OPTIONS, OptionsFault, Rectangle, Size, size2};
 use glyph_shelf::{GlyphCache, GlyphFault, Placed};
-use row_calls::calls::{new, return_all};
-use row_calls::kinds::Atlas;
 use std::alloc::Global;
 use std::num::NonZeroUsize;
 use std::process::Abort;
 use std::test::Fail;
+use test_support::atlases::Atlas;
+use test_support::calls::{new, return_all};
 
 /// A cache of so many keys in an atlas of this size.
 pub fn new_cache(alloc: Global, size: Size, capacity: usize) -> Result<GlyphCache, OptionsFault> {

@@ -1,7 +1,6 @@
 //! Calls of a bucketed atlas.
 
 use crate::atlases;
-use crate::kinds::Atlas;
 use crate::lines::{say, say_each, say_size, size_of};
 use crate::places::{Called, NotMade};
 use etagere::{
@@ -10,6 +9,7 @@ use etagere::{
 };
 use std::alloc::Global;
 use std::io;
+use test_support::atlases::Atlas;
 
 impl Called for BucketedAtlasAllocator {
     fn made(alloc: Global, words: &str) -> Result<BucketedAtlasAllocator, NotMade> {

@@ -1,13 +1,11 @@
 //! What the rows of tests call, and how answers are written: the trait of what can be called by lines, the two places for
-//! such, words of lines as values, and the calls of both atlases. Tests too have atlases of either kind by its one trait.
+//! such, words of lines as values, and the calls of both atlases.
 //!
 //! It promises nothing, so that what calls it is proved once and fast.
 #![tactic(auto)]
 
 pub mod atlases;
 pub mod buckets;
-pub mod calls;
-pub mod kinds;
 pub mod lines;
 pub mod places;
 pub mod shelves;

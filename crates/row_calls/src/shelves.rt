@@ -1,7 +1,6 @@
 //! Calls of a shelf atlas.
 
 use crate::atlases;
-use crate::kinds::Atlas;
 use crate::lines::{
     id_of, say, say_each, say_fault, say_given, say_number, say_rectangle, say_size, size_of,
 };
@@ -14,6 +13,7 @@ use etagere::{
 use rearranging::{Move, Rearranged, rearranged};
 use std::alloc::{AllocError, Global};
 use std::io;
+use test_support::atlases::Atlas;
 
 impl Called for AtlasAllocator {
     fn made(alloc: Global, words: &str) -> Result<AtlasAllocator, NotMade> {

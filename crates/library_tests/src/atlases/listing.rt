@@ -2,8 +2,8 @@
 
 use crate::assertions::equal;
 use etagere::AtlasAllocator;
-use row_calls::calls::{new, placed};
 use std::test::Fail;
+use test_support::calls::{new, placed};
 
 #[test]
 fn nothing_follows_the_last_allocation(rt: HostRuntime) -> Result<(), Fail> {

@@ -5,9 +5,9 @@ use etagere::laws::restore_atlas;
 use etagere::{
     AllocatorOptions, AtlasAllocator, AtlasSnapshot, DEFAULT_OPTIONS, RestoreFault, size2,
 };
-use row_calls::calls::{ask_all, return_one, with_options};
 use std::alloc::Global;
 use std::test::Fail;
+use test_support::calls::{ask_all, return_one, with_options};
 
 /// An atlas of so many columns, in each of which nothing is used.
 fn columns(alloc: Global, count: i32) -> Result<AtlasAllocator, Fail> {

@@ -3,12 +3,12 @@
 use crate::assertions::{equal, equal_at};
 use crate::streams::fake_streams::{End, FakeWriter};
 use etagere::{AtlasAllocator, BucketedAtlasAllocator};
-use row_calls::calls::{new, placed};
-use row_calls::kinds::Atlas;
 use std::alloc::Global;
 use std::io::ErrorKind;
 use std::process::Abort;
 use std::test::Fail;
+use test_support::atlases::Atlas;
+use test_support::calls::{new, placed};
 
 fn small_atlas(rt: &impl AllocGlobal) -> Result<AtlasAllocator, Fail> {
     let mut atlas: AtlasAllocator = new(rt.alloc(), (20, 30))?;

@@ -1,6 +1,6 @@
 //! Calls of atlases of both kinds as tests make them.
 
-use crate::kinds::Atlas;
+use crate::atlases::Atlas;
 use etagere::{AllocId, Allocation, AllocatorOptions, size2};
 use std::alloc::Global;
 use std::test::Fail;
