@@ -1,7 +1,7 @@
 //! An atlas of either kind, and the call that a command makes.
 
 use etagere::{AllocId, AtlasAllocator, BucketedAtlasAllocator};
-use run_commands::commands::{AtlasCommand, BucketedCommand};
+use run_scripts::commands::{AtlasCommand, BucketedCommand};
 use std::alloc::{AllocError, Global};
 use std::io::{self, Write};
 

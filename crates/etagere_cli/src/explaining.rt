@@ -3,7 +3,7 @@
 use crate::input::snapshot_text;
 use broken_snapshots::{Breach, Record, breach_of, breach_of_buckets, bucket_rule, shelf_rule};
 use etagere::{AtlasAllocator, BucketedAtlasAllocator, RestoreFault};
-use run_commands::faults::{ReplayFault, RunFault};
+use run_scripts::faults::{ReplayFault, RunFault};
 use run_scripts::script::{Commands, Script};
 use saved_json::{ReadFault, Saved, read_saved};
 use std::alloc::{AllocError, Global};

@@ -25,7 +25,7 @@ use crate::saving::save;
 use atlas_pages::PageOptions;
 use clap::error::ErrorKind;
 use clap::{ArgMatches, Error};
-use run_commands::faults::ReplayFault;
+use run_scripts::faults::ReplayFault;
 use std::alloc::Global;
 use std::env;
 use std::io::IsTerminal;

@@ -1,6 +1,6 @@
 //! Where what was made goes: to standard output, or to a file, which then has all of it or is as it was.
 
-use run_commands::faults::ReplayFault;
+use run_scripts::faults::ReplayFault;
 use std::fs::{self, File};
 use std::io::{self, Write};
 use std::rt::Files;

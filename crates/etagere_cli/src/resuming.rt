@@ -2,7 +2,7 @@
 
 use crate::input::snapshot_text;
 use etagere::{Allocation, AtlasSnapshot};
-use run_commands::commands::Reply;
+use run_scripts::commands::Reply;
 use run_scripts::reply_text::{Line, line_of};
 use saved_json::{Saved, read_saved};
 use std::alloc::{AllocError, Global};

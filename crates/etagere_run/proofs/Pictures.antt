@@ -6,8 +6,8 @@ use Rattle.shelf_model.specs.Svg as shelves
 use Rattle.bucketed_model.specs.Frames.{bucketed_frame, longest_bucketed_side}
 use Rattle.bucketed_model.specs.State.{BucketedState}
 use Rattle.bucketed_model.specs.Svg as buckets
-use Rattle.run_commands.specs.declared.commands.AtlasCommand.{AtlasCommand}
-use Rattle.run_commands.specs.declared.commands.BucketedCommand.{BucketedCommand}
+use Rattle.run_scripts.specs.declared.commands.AtlasCommand.{AtlasCommand}
+use Rattle.run_scripts.specs.declared.commands.BucketedCommand.{BucketedCommand}
 use Rattle.run_answers.specs.AtlasRuns.{shelf_atlas}
 use Rattle.run_answers.specs.BucketedRuns.{bucketed_atlas}
 use Rattle.run_answers.specs.Leading.{LeadsTo}

@@ -6,11 +6,11 @@ use Rattle.etagere_base.specs.declared.faults.OptionsFault.{OptionsFault}
 use Rattle.etagere_base.specs.declared.geometry.Size.{Size}
 use Rattle.etagere_base.specs.declared.options.AllocatorOptions.{AllocatorOptions}
 use Rattle.etagere_base.specs.Frames.{IsAccepted}
-use Rattle.run_commands.specs.declared.faults.Outcome.{Outcome}
-use Rattle.run_commands.specs.declared.faults.Outcome.TheVariants.{Done}
-use Rattle.run_commands.specs.declared.faults.ReplayFault.{ReplayFault}
-use Rattle.run_commands.specs.declared.faults.ReplayFault.TheVariants.{Read, Write, Memory}
-use Rattle.run_commands.specs.declared.faults.StreamFault.TheVariants as stream_faults
+use Rattle.run_scripts.specs.declared.faults.Outcome.{Outcome}
+use Rattle.run_scripts.specs.declared.faults.Outcome.TheVariants.{Done}
+use Rattle.run_scripts.specs.declared.faults.ReplayFault.{ReplayFault}
+use Rattle.run_scripts.specs.declared.faults.ReplayFault.TheVariants.{Read, Write, Memory}
+use Rattle.run_scripts.specs.declared.faults.StreamFault.TheVariants as stream_faults
 use Rattle.etagere_run.specs.Replaying.{Replays, longest_asked}
 use Rattle.run_scripts.specs.Script.{Commands, OfBuckets, OfShelves, Request, script_of}
 use Rattle.etagere_run.specs.Private.ScriptStreaming.{StreamsScript}

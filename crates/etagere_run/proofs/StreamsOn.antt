@@ -7,7 +7,7 @@ use Rattle.std.proofs.lemmas.List.{append-nil, take-append-drop}
 use Rattle.etagere_base.specs.declared.frames.Frame.{Frame}
 use Rattle.pictures.specs.Sending.{AppendsBeginning, AppendsPart}
 use Rattle.pictures.proofs.GatheringLemmas.{appends-both, appends-nothing, begins-behind, begins-first}
-use Rattle.run_commands.specs.declared.commands.Reply.{Reply}
+use Rattle.run_scripts.specs.declared.commands.Reply.{Reply}
 use Rattle.run_answers.specs.Live.{Entry}
 use Rattle.run_scripts.specs.Lines.{line_feed}
 use Rattle.run_scripts.specs.ReplyText.{line_of, replies_text, text_of}

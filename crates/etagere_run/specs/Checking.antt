@@ -2,11 +2,11 @@
 use Rattle.std.specs.Prelude.{ℕ, List, [], ◌∷◌, ◌++◌, Option, Result, Ok, Err}
 use Rattle.std.specs.Io.KnownBytes.{Appends, Keeps}
 use Rattle.pictures.specs.Sending.{AppendsBeginning}
-use Rattle.run_commands.specs.declared.faults.Checked.{Checked}
-use Rattle.run_commands.specs.declared.faults.ReplayFault.{ReplayFault}
-use Rattle.run_commands.specs.declared.faults.ReplayFault.TheVariants.{Read, Write, Memory}
+use Rattle.run_scripts.specs.declared.faults.Checked.{Checked}
+use Rattle.run_scripts.specs.declared.faults.ReplayFault.{ReplayFault}
+use Rattle.run_scripts.specs.declared.faults.ReplayFault.TheVariants.{Read, Write, Memory}
 use Rattle.etagere_run.specs.Drawing.{OfInput}
-use Rattle.run_commands.specs.Faults.{checked_words}
+use Rattle.run_scripts.specs.Faults.{checked_words}
 use Rattle.run_scripts.specs.Lines.{line_feed}
 use Rattle.etagere_run.specs.Saved.{MayAnswer}
 

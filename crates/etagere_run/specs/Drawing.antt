@@ -9,14 +9,14 @@ use Rattle.pictures.specs.Sending.{AppendsBeginning}
 use Rattle.bucketed_model.specs.Frames.{bucketed_frame}
 use Rattle.bucketed_model.specs.Svg as buckets
 use Rattle.shelf_model.specs.Svg as shelves
-use Rattle.run_commands.specs.declared.faults.Checked.{Checked}
-use Rattle.run_commands.specs.declared.faults.Checked.TheVariants.{Fine}
-use Rattle.run_commands.specs.declared.faults.Drawing.{Drawing}
-use Rattle.run_commands.specs.declared.faults.Drawing.TheVariants.{OfScript, OfSnapshot}
-use Rattle.run_commands.specs.declared.faults.Outcome.{Outcome}
-use Rattle.run_commands.specs.declared.faults.Outcome.TheVariants.{Done, BadLine, Options}
-use Rattle.run_commands.specs.declared.faults.ReplayFault.{ReplayFault}
-use Rattle.run_commands.specs.declared.faults.ReplayFault.TheVariants.{Read, Write, Memory}
+use Rattle.run_scripts.specs.declared.faults.Checked.{Checked}
+use Rattle.run_scripts.specs.declared.faults.Checked.TheVariants.{Fine}
+use Rattle.run_scripts.specs.declared.faults.Drawing.{Drawing}
+use Rattle.run_scripts.specs.declared.faults.Drawing.TheVariants.{OfScript, OfSnapshot}
+use Rattle.run_scripts.specs.declared.faults.Outcome.{Outcome}
+use Rattle.run_scripts.specs.declared.faults.Outcome.TheVariants.{Done, BadLine, Options}
+use Rattle.run_scripts.specs.declared.faults.ReplayFault.{ReplayFault}
+use Rattle.run_scripts.specs.declared.faults.ReplayFault.TheVariants.{Read, Write, Memory}
 use Rattle.run_answers.specs.AtlasRuns.{shelf_atlas}
 use Rattle.run_answers.specs.BucketedRuns.{bucketed_atlas}
 use Rattle.etagere_run.specs.Replaying.{HasFault, longest_asked}

@@ -8,11 +8,11 @@ use Rattle.etagere_base.specs.Faults.{options_fault_number}
 use Rattle.etagere_base.specs.Frames.{IsAccepted, atlas_frame, options_fault, longest_side}
 use Rattle.bucketed_model.specs.Frames.{bucketed_frame, longest_bucketed_side}
 use Rattle.pictures.specs.Sending.{AppendsBeginning}
-use Rattle.run_commands.specs.declared.commands.Reply.{Reply}
-use Rattle.run_commands.specs.declared.faults.Outcome.{Outcome}
-use Rattle.run_commands.specs.declared.faults.Outcome.TheVariants.{Done, BadLine, Options}
-use Rattle.run_commands.specs.declared.faults.ReplayFault.{ReplayFault}
-use Rattle.run_commands.specs.declared.faults.ReplayFault.TheVariants.{Read, Write, Memory}
+use Rattle.run_scripts.specs.declared.commands.Reply.{Reply}
+use Rattle.run_scripts.specs.declared.faults.Outcome.{Outcome}
+use Rattle.run_scripts.specs.declared.faults.Outcome.TheVariants.{Done, BadLine, Options}
+use Rattle.run_scripts.specs.declared.faults.ReplayFault.{ReplayFault}
+use Rattle.run_scripts.specs.declared.faults.ReplayFault.TheVariants.{Read, Write, Memory}
 use Rattle.run_answers.specs.AtlasRuns.{shelf_atlas}
 use Rattle.run_answers.specs.BucketedRuns.{bucketed_atlas}
 use Rattle.run_scripts.specs.ReplyText.{bad_line_text, options_text, replies_text}

@@ -10,8 +10,8 @@ use Rattle.shelf_records.specs.Snapshots as shelves
 use Rattle.shelf_records.specs.StandsFor as shelf_rules
 use Rattle.shelf_model.specs.State.{AtlasState}
 use Rattle.shelf_model.specs.Svg as shelf_pictures
-use Rattle.run_commands.specs.declared.faults.Checked.{Checked}
-use Rattle.run_commands.specs.declared.faults.Checked.TheVariants.{Fine, Broken, Unreadable}
+use Rattle.run_scripts.specs.declared.faults.Checked.{Checked}
+use Rattle.run_scripts.specs.declared.faults.Checked.TheVariants.{Fine, Broken, Unreadable}
 use Rattle.saved_json.specs.declared.saved.Saved.{Saved}
 use Rattle.saved_json.specs.declared.saved.Saved.TheVariants.{Atlas, Bucketed}
 use Rattle.saved_json.specs.Snapshots.{Spells}

@@ -3,9 +3,9 @@ use Rattle.std.specs.Prelude.{◌≡◌, ℕ, ◌+◌, ◌<◌, Option, List, []
 use Rattle.std.specs.Io.KnownBytes.{Appends, Keeps}
 use Rattle.etagere_base.specs.declared.frames.Frame.{Frame}
 use Rattle.pictures.specs.Sending.{AppendsBeginning}
-use Rattle.run_commands.specs.declared.commands.Reply.{Reply}
-use Rattle.run_commands.specs.declared.faults.StreamFault.{StreamFault}
-use Rattle.run_commands.specs.declared.faults.StreamFault.TheVariants.{Options, Memory, Write}
+use Rattle.run_scripts.specs.declared.commands.Reply.{Reply}
+use Rattle.run_scripts.specs.declared.faults.StreamFault.{StreamFault}
+use Rattle.run_scripts.specs.declared.faults.StreamFault.TheVariants.{Options, Memory, Write}
 use Rattle.run_scripts.specs.ReplyText.{line_of, replies_text}
 use Rattle.run_answers.specs.Runs.{Kind, Runs, RunKeepsPromisesThroughout}
 

@@ -10,7 +10,7 @@ ghost use Rattle.etagere_run.specs.Saved.{IsRightOf, MayAnswer};
 use crate::saved::refusal;
 use etagere::{AtlasAllocator, BucketedAtlasAllocator};
 use pictures::send;
-use run_commands::faults::{Checked, ReplayFault};
+use run_scripts::faults::{Checked, ReplayFault};
 use run_scripts::reading::read_all;
 use saved_json::{ReadFault, Saved, read_saved};
 use std::alloc::Global;

@@ -13,7 +13,7 @@ use crate::saved::refusal;
 use etagere::{AtlasAllocator, OptionsFault};
 use etagere_bucketed::BucketedAtlasAllocator;
 use run_answers::leading::atlas_after;
-use run_commands::faults::{Checked, Drawing, Outcome, ReplayFault, RunFault};
+use run_scripts::faults::{Checked, Drawing, Outcome, ReplayFault, RunFault};
 use run_scripts::reading::read_all;
 use run_scripts::script::{Commands, Script, ScriptFault, read_script};
 use saved_json::{ReadFault, Saved, read_saved};

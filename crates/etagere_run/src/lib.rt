@@ -16,6 +16,6 @@ pub use replaying::replay;
 pub use run_answers::atlas_running::run_atlas;
 pub use run_answers::bucketed_running::run_bucketed;
 pub use run_answers::laws;
-pub use run_commands::commands::{AtlasCommand, BucketedCommand, Reply};
-pub use run_commands::faults::{Checked, Drawing, Outcome, ReplayFault, RunFault, StreamFault};
+pub use run_scripts::commands::{AtlasCommand, BucketedCommand, Reply};
+pub use run_scripts::faults::{Checked, Drawing, Outcome, ReplayFault, RunFault, StreamFault};
 pub use streaming::{stream_atlas, stream_bucketed};

@@ -9,13 +9,13 @@ ghost use Rattle.etagere_base.specs.Frames.{IsAccepted};
 ghost use Rattle.etagere_run.specs.Replaying.{Answers, HasFault, Replays, longest_asked};
 ghost use Rattle.run_scripts.specs.ReplyText.{bad_line_text, options_text};
 ghost use Rattle.run_scripts.specs.Script.{script_of};
-ghost use Rattle.run_commands.specs.Faults.{RefusesStream};
+ghost use Rattle.run_scripts.specs.Faults.{RefusesStream};
 ghost use Rattle.etagere_run.specs.Private.ScriptStreaming.{StreamsScript};
 
 use crate::streaming::{stream_atlas, stream_bucketed};
 use etagere::OptionsFault;
 use pictures::send;
-use run_commands::faults::{Outcome, ReplayFault, StreamFault};
+use run_scripts::faults::{Outcome, ReplayFault, StreamFault};
 use run_scripts::reading::read_all;
 use run_scripts::script::{Commands, Script, ScriptFault, read_script};
 use std::alloc::Global;

@@ -6,7 +6,7 @@ ghost use Rattle.std.specs.Prelude.{◌≡◌};
 ghost use Rattle.etagere_run.specs.Private.Judged.{refusal};
 
 use etagere::RestoreFault;
-use run_commands::faults::{Checked, ReplayFault};
+use run_scripts::faults::{Checked, ReplayFault};
 
 /// The answer where a snapshot isn't restored.
 pub fn refusal(fault: RestoreFault) -> Result<Checked, ReplayFault>

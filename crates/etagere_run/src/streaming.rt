@@ -12,7 +12,7 @@ ghost use Rattle.bucketed_model.specs.Frames.{bucketed_frame, longest_bucketed_s
 ghost use Rattle.run_answers.specs.AtlasRuns.{shelf_atlas};
 ghost use Rattle.run_answers.specs.BucketedRuns.{bucketed_atlas};
 ghost use Rattle.etagere_run.specs.Streaming.{IsTextOfRun, Stops, StopsAt, Streams, StreamsBeginning};
-ghost use Rattle.run_commands.specs.Faults.{RefusesStream};
+ghost use Rattle.run_scripts.specs.Faults.{RefusesStream};
 ghost use Rattle.run_answers.specs.Private.Rooms.{IsEmptyLedger};
 ghost use Rattle.run_answers.specs.Private.Tied.{IsNew, SuitsRuns};
 
@@ -20,8 +20,8 @@ use etagere::{AllocatorOptions, AtlasAllocator, Size};
 use etagere_bucketed::BucketedAtlasAllocator;
 use run_answers::ledger::Ledger;
 use run_answers::running::{Answering, Beginning, answer_next};
-use run_commands::commands::{AtlasCommand, BucketedCommand};
-use run_commands::faults::StreamFault;
+use run_scripts::commands::{AtlasCommand, BucketedCommand};
+use run_scripts::faults::StreamFault;
 use run_scripts::reply_text::{Line, line_of};
 use run_scripts::sending::send_line;
 use std::alloc::Global;

@@ -6,10 +6,10 @@ use Rattle.std.proofs.lemmas.List.{length-append, take_all}
 use Rattle.std.proofs.KnownBytes.{Keeps-trans}
 use Rattle.etagere_base.specs.Frames.{IsAccepted, atlas_frame, longest_side}
 use Rattle.pictures.specs.Sending.{AppendsBeginning}
-use Rattle.run_commands.specs.declared.faults.Outcome.{Outcome}
-use Rattle.run_commands.specs.declared.faults.Outcome.TheVariants.{Done}
-use Rattle.run_commands.specs.declared.faults.ReplayFault.{ReplayFault}
-use Rattle.run_commands.specs.declared.faults.ReplayFault.TheVariants.{Read, Write, Memory}
+use Rattle.run_scripts.specs.declared.faults.Outcome.{Outcome}
+use Rattle.run_scripts.specs.declared.faults.Outcome.TheVariants.{Done}
+use Rattle.run_scripts.specs.declared.faults.ReplayFault.{ReplayFault}
+use Rattle.run_scripts.specs.declared.faults.ReplayFault.TheVariants.{Read, Write, Memory}
 use Rattle.glyph_shelf.specs.Cache.{CacheState}
 use Rattle.glyph_run.specs.declared.commands.GlyphCommand.{GlyphCommand}
 use Rattle.glyph_run.specs.Replaying.{Replays}

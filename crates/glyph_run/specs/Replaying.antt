@@ -5,10 +5,10 @@ use Rattle.etagere_base.specs.declared.faults.OptionsFault.{OptionsFault}
 use Rattle.etagere_base.specs.Faults.{options_fault_number}
 use Rattle.etagere_base.specs.Frames.{IsAccepted, atlas_frame, options_fault, longest_side}
 use Rattle.pictures.specs.Sending.{AppendsBeginning}
-use Rattle.run_commands.specs.declared.faults.Outcome.{Outcome}
-use Rattle.run_commands.specs.declared.faults.Outcome.TheVariants.{Done, BadLine, Options}
-use Rattle.run_commands.specs.declared.faults.ReplayFault.{ReplayFault}
-use Rattle.run_commands.specs.declared.faults.ReplayFault.TheVariants.{Read, Write, Memory}
+use Rattle.run_scripts.specs.declared.faults.Outcome.{Outcome}
+use Rattle.run_scripts.specs.declared.faults.Outcome.TheVariants.{Done, BadLine, Options}
+use Rattle.run_scripts.specs.declared.faults.ReplayFault.{ReplayFault}
+use Rattle.run_scripts.specs.declared.faults.ReplayFault.TheVariants.{Read, Write, Memory}
 use Rattle.run_scripts.specs.ReplyText.{bad_line_text, options_text}
 use Rattle.glyph_run.specs.declared.commands.GlyphReply.{GlyphReply}
 use Rattle.glyph_run.specs.ReplyText.{replies_text}

@@ -2,8 +2,8 @@
 use Rattle.std.specs.Prelude.{◌≡◌, ℕ, ◌+◌, ◌<◌, Option, List, [], ◌∷◌, ◌++◌, Result, Ok, Err, length, take}
 use Rattle.std.specs.Io.KnownBytes.{Appends, Keeps}
 use Rattle.etagere_base.specs.declared.frames.Frame.{Frame}
-use Rattle.run_commands.specs.declared.faults.StreamFault.{StreamFault}
-use Rattle.run_commands.specs.declared.faults.StreamFault.TheVariants.{Options, Memory, Write}
+use Rattle.run_scripts.specs.declared.faults.StreamFault.{StreamFault}
+use Rattle.run_scripts.specs.declared.faults.StreamFault.TheVariants.{Options, Memory, Write}
 use Rattle.glyph_shelf.specs.Cache.{CacheState, empty_cache}
 use Rattle.glyph_run.specs.declared.commands.GlyphCommand.{GlyphCommand}
 use Rattle.glyph_run.specs.declared.commands.GlyphReply.{GlyphReply}

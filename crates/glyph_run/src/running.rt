@@ -14,7 +14,7 @@ use crate::answering::answer;
 use crate::commands::{GlyphCommand, GlyphReply};
 use etagere::{AllocatorOptions, Size};
 use glyph_shelf::GlyphCache;
-use run_commands::faults::RunFault;
+use run_scripts::faults::RunFault;
 use std::alloc::Global;
 use std::num::NonZeroUsize;
 

@@ -6,7 +6,7 @@
 ghost use Rattle.std.specs.Prelude.{◌≡◌, ◌≢◌, Err, IfErr, OnErr, OnOk};
 ghost use Rattle.std.specs.NonZero.{non_zero_usize_get};
 ghost use Rattle.etagere_base.specs.Frames.{IsAccepted, atlas_frame, longest_side};
-ghost use Rattle.run_commands.specs.Faults.{RefusesStream};
+ghost use Rattle.run_scripts.specs.Faults.{RefusesStream};
 ghost use Rattle.glyph_shelf.specs.Cache.{empty_cache};
 ghost use Rattle.glyph_shelf.specs.Promises.{KeepsCachePromises};
 ghost use Rattle.glyph_run.specs.Streaming.{StopsAt, Streams, StreamsRun};
@@ -16,7 +16,7 @@ use crate::commands::GlyphCommand;
 use crate::reply_text::send_line;
 use etagere::{AllocatorOptions, Size};
 use glyph_shelf::GlyphCache;
-use run_commands::faults::StreamFault;
+use run_scripts::faults::StreamFault;
 use run_scripts::reply_text::Line;
 use std::alloc::Global;
 use std::io::{self, Write};

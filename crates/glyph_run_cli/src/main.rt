@@ -3,7 +3,7 @@
 #![tactic(auto)]
 
 use glyph_run::replay_cache;
-use run_commands::faults::ReplayFault;
+use run_scripts::faults::ReplayFault;
 use std::io::{BufWriter, Write};
 use std::process::ExitCode;
 use std::rt::Env;

@@ -15,10 +15,10 @@ use Rattle.shelf_model.specs.Places.{allocations, is_allocated, rectangle_of}
 use Rattle.shelf_model.specs.Returning.{returned}
 use Rattle.shelf_model.specs.State.{AtlasState}
 use Rattle.shelf_model.proofs.Callers.{allocated-grown, allocates-adds, columns-grown, fresh-allocated, found-allocated, found-new, found-rectangle, not_allocated-any, promises, promises-cleared, promises-returned, returned-allocated, tied-added, tied-apart, tied-each, tied-empty, tied-ids, tied-none, tied-returned}
-use Rattle.run_commands.specs.declared.commands.AtlasCommand.{AtlasCommand}
-use Rattle.run_commands.specs.declared.commands.AtlasCommand.TheVariants.{Allocate, Return, Look, Grow, Clear}
-use Rattle.run_commands.specs.declared.commands.Reply.{Reply}
-use Rattle.run_commands.specs.declared.commands.Reply.TheVariants.{Placed, Refused, Returned, At, NotLive, Cleared, Grown, GrowRefused, NoMemory}
+use Rattle.run_scripts.specs.declared.commands.AtlasCommand.{AtlasCommand}
+use Rattle.run_scripts.specs.declared.commands.AtlasCommand.TheVariants.{Allocate, Return, Look, Grow, Clear}
+use Rattle.run_scripts.specs.declared.commands.Reply.{Reply}
+use Rattle.run_scripts.specs.declared.commands.Reply.TheVariants.{Placed, Refused, Returned, At, NotLive, Cleared, Grown, GrowRefused, NoMemory}
 use Rattle.run_answers.specs.AtlasRuns.{AtlasStep, LiveKeepsPromises, atlas_effect, shelf_atlas}
 use Rattle.run_answers.specs.Live as effects
 use Rattle.run_answers.specs.Live.{Entry, allocation_at, live_after, live_allocations, without}

@@ -15,10 +15,10 @@ use Rattle.bucketed_model.specs.Returning.{bucket_returned, is_known}
 use Rattle.bucketed_model.specs.State.{BucketedState, fresh}
 use Rattle.bucketed_model.specs.Tied.{AreTied}
 use Rattle.bucketed_model.proofs.Callers.{allocates-aligned, allocates-large, allocates-tied, grows-tied, tied-fresh, tied-returned, tied-safe}
-use Rattle.run_commands.specs.declared.commands.BucketedCommand.{BucketedCommand}
-use Rattle.run_commands.specs.declared.commands.BucketedCommand.TheVariants.{Allocate, Return, Grow, Clear}
-use Rattle.run_commands.specs.declared.commands.Reply.{Reply}
-use Rattle.run_commands.specs.declared.commands.Reply.TheVariants.{Placed, Refused, Returned, NotLive, Cleared, Grown, GrowRefused, NoMemory}
+use Rattle.run_scripts.specs.declared.commands.BucketedCommand.{BucketedCommand}
+use Rattle.run_scripts.specs.declared.commands.BucketedCommand.TheVariants.{Allocate, Return, Grow, Clear}
+use Rattle.run_scripts.specs.declared.commands.Reply.{Reply}
+use Rattle.run_scripts.specs.declared.commands.Reply.TheVariants.{Placed, Refused, Returned, NotLive, Cleared, Grown, GrowRefused, NoMemory}
 use Rattle.run_answers.specs.BucketedRuns.{BucketedLiveKeepsPromises, BucketedStep, bucketed_atlas, bucketed_effect}
 use Rattle.run_answers.specs.Live as effects
 use Rattle.run_answers.specs.Live.{Entry, allocation_at, live_after, live_allocations, without}

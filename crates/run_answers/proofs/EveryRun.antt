@@ -13,9 +13,9 @@ use Rattle.bucketed_model.proofs.Callers.{accepted-bucketed}
 use Rattle.shelf_model.specs.Fresh as atlas
 use Rattle.shelf_model.specs.State.{AtlasState}
 use Rattle.shelf_model.proofs.Callers.{fresh-allocated, promises-new}
-use Rattle.run_commands.specs.declared.commands.AtlasCommand.{AtlasCommand}
-use Rattle.run_commands.specs.declared.commands.BucketedCommand.{BucketedCommand}
-use Rattle.run_commands.specs.declared.commands.Reply.{Reply}
+use Rattle.run_scripts.specs.declared.commands.AtlasCommand.{AtlasCommand}
+use Rattle.run_scripts.specs.declared.commands.BucketedCommand.{BucketedCommand}
+use Rattle.run_scripts.specs.declared.commands.Reply.{Reply}
 use Rattle.run_answers.specs.AtlasRuns.{shelf_atlas}
 use Rattle.run_answers.specs.BucketedRuns.{bucketed_atlas}
 use Rattle.run_answers.specs.Live.{Entry, live_after}

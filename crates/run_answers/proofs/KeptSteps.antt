@@ -1,7 +1,7 @@
 -- A step of any kind of run that changes nothing is an answer.
 use Rattle.std.proofs.Common.{◌≡◌, ℕ, List, ap, subst, sym}
 use Rattle.etagere_base.specs.declared.frames.Frame.{Frame}
-use Rattle.run_commands.specs.declared.commands.Reply.{Reply}
+use Rattle.run_scripts.specs.declared.commands.Reply.{Reply}
 use Rattle.run_answers.specs.Live.{Effect, Entry, Keeps, live_after}
 use Rattle.run_answers.specs.Runs.{Kind}
 use Rattle.run_answers.specs.Private.Tied.{IsAnswerOf, SameAlignments}

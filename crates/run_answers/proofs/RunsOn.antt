@@ -10,8 +10,8 @@ use Rattle.etagere_base.specs.declared.ids.Allocation.{Allocation}
 use Rattle.etagere_base.specs.Rectangles.{IsLarge}
 use Rattle.etagere_base.proofs.EachLemmas.{Each-weaken}
 use Rattle.etagere_base.proofs.ReplacedLists.{slice_get-append}
-use Rattle.run_commands.specs.declared.commands.Reply.{Reply}
-use Rattle.run_commands.specs.declared.commands.Reply.TheVariants.{Placed}
+use Rattle.run_scripts.specs.declared.commands.Reply.{Reply}
+use Rattle.run_scripts.specs.declared.commands.Reply.TheVariants.{Placed}
 use Rattle.run_answers.specs.Live.{Effect, Entry, live_after, live_allocations, live_from, peak, peak_after}
 use Rattle.run_answers.specs.Runs.{IsGiven, KeepsPromisesIn, Kind, Runs, RunKeepsPromises, RunKeepsPromisesThroughout, Throughout, effects, live_in}
 use Rattle.run_answers.specs.Private.Tied.{IsAnswerOf, IsAsked, SameAlignments, SuitsRuns}

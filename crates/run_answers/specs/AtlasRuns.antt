@@ -17,10 +17,10 @@ use Rattle.shelf_model.specs.Places.{record_number, rectangle_of}
 use Rattle.shelf_model.specs.Returning.{returned}
 use Rattle.shelf_model.specs.State.{AtlasState}
 use Rattle.shelf_model.specs.Valid.{IsValid}
-use Rattle.run_commands.specs.declared.commands.AtlasCommand.{AtlasCommand}
-use Rattle.run_commands.specs.declared.commands.AtlasCommand.TheVariants.{Allocate, Return, Look, Grow, Clear}
-use Rattle.run_commands.specs.declared.commands.Reply.{Reply}
-use Rattle.run_commands.specs.declared.commands.Reply.TheVariants.{Placed, Refused, Returned, At, NotLive, Cleared, Grown, GrowRefused, NoMemory}
+use Rattle.run_scripts.specs.declared.commands.AtlasCommand.{AtlasCommand}
+use Rattle.run_scripts.specs.declared.commands.AtlasCommand.TheVariants.{Allocate, Return, Look, Grow, Clear}
+use Rattle.run_scripts.specs.declared.commands.Reply.{Reply}
+use Rattle.run_scripts.specs.declared.commands.Reply.TheVariants.{Placed, Refused, Returned, At, NotLive, Cleared, Grown, GrowRefused, NoMemory}
 use Rattle.run_answers.specs.Live.{Effect, Adds, TakesOut, Empties, Keeps, Entry, allocation_at}
 use Rattle.run_answers.specs.Runs.{AreLaidOut, GivesBack, Kind}
 

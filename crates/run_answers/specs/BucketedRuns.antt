@@ -14,10 +14,10 @@ use Rattle.bucketed_model.specs.Returning.{bucket_returned, is_known}
 use Rattle.bucketed_model.specs.State.{Bucket, BucketShelf, BucketedState, buckets_in_use, fresh, most_buckets}
 use Rattle.bucketed_model.specs.Tied.{AreTied, entries_of}
 use Rattle.bucketed_model.specs.Valid.{IsValid}
-use Rattle.run_commands.specs.declared.commands.BucketedCommand.{BucketedCommand}
-use Rattle.run_commands.specs.declared.commands.BucketedCommand.TheVariants.{Allocate, Return, Grow, Clear}
-use Rattle.run_commands.specs.declared.commands.Reply.{Reply}
-use Rattle.run_commands.specs.declared.commands.Reply.TheVariants.{Placed, Refused, Returned, NotLive, Cleared, Grown, GrowRefused, NoMemory}
+use Rattle.run_scripts.specs.declared.commands.BucketedCommand.{BucketedCommand}
+use Rattle.run_scripts.specs.declared.commands.BucketedCommand.TheVariants.{Allocate, Return, Grow, Clear}
+use Rattle.run_scripts.specs.declared.commands.Reply.{Reply}
+use Rattle.run_scripts.specs.declared.commands.Reply.TheVariants.{Placed, Refused, Returned, NotLive, Cleared, Grown, GrowRefused, NoMemory}
 use Rattle.run_answers.specs.Live.{Effect, Adds, TakesOut, Empties, Keeps, Entry, allocation_at}
 use Rattle.run_answers.specs.Runs.{AreLaidOut, GivesBack, Kind}
 

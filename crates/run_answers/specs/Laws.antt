@@ -2,8 +2,8 @@
 -- that calls made.
 use Rattle.std.specs.Prelude.{◌≡◌, ◌≢◌, ℕ, All, List, [], map}
 use Rattle.etagere_base.specs.declared.frames.Frame.{Frame}
-use Rattle.run_commands.specs.declared.commands.Reply.{Reply}
-use Rattle.run_commands.specs.declared.commands.Reply.TheVariants.{At, NoMemory, Placed}
+use Rattle.run_scripts.specs.declared.commands.Reply.{Reply}
+use Rattle.run_scripts.specs.declared.commands.Reply.TheVariants.{At, NoMemory, Placed}
 use Rattle.run_answers.specs.Runs.{KeepsPromisesIn, Kind, Runs, RunKeepsPromisesThroughout}
 
 -- every run of a new atlas of this frame keeps its promises in the state to which it leads,

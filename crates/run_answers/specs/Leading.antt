@@ -1,8 +1,8 @@
 -- States to which commands may lead, where memory was there for each.
 use Rattle.std.specs.Prelude.{◌≢◌, All, List, []}
 use Rattle.etagere_base.specs.declared.frames.Frame.{Frame}
-use Rattle.run_commands.specs.declared.commands.Reply.{Reply}
-use Rattle.run_commands.specs.declared.commands.Reply.TheVariants.{NoMemory}
+use Rattle.run_scripts.specs.declared.commands.Reply.{Reply}
+use Rattle.run_scripts.specs.declared.commands.Reply.TheVariants.{NoMemory}
 use Rattle.run_answers.specs.Runs.{Kind, Runs, RunKeepsPromisesThroughout}
 
 -- memory was there for the command that has this reply

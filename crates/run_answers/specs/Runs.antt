@@ -10,10 +10,10 @@ use Rattle.etagere_base.specs.declared.options.AllocatorOptions.{AllocatorOption
 use Rattle.etagere_base.specs.Frames.{options_fault}
 use Rattle.etagere_base.specs.Lists.{times}
 use Rattle.etagere_base.specs.Rectangles.{AreApart, IsInside, IsLarge}
-use Rattle.run_commands.specs.declared.commands.Reply.{Reply}
-use Rattle.run_commands.specs.declared.commands.Reply.TheVariants.{Placed}
-use Rattle.run_commands.specs.declared.faults.RunFault.{RunFault}
-use Rattle.run_commands.specs.declared.faults.RunFault.TheVariants as run_faults
+use Rattle.run_scripts.specs.declared.commands.Reply.{Reply}
+use Rattle.run_scripts.specs.declared.commands.Reply.TheVariants.{Placed}
+use Rattle.run_scripts.specs.declared.faults.RunFault.{RunFault}
+use Rattle.run_scripts.specs.declared.faults.RunFault.TheVariants as run_faults
 use Rattle.run_answers.specs.Live.{Effect, Entry, allocation_at, live, live_after, live_allocations, peak}
 
 -- what tells one kind of run from another

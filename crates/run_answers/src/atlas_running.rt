@@ -15,8 +15,8 @@ use crate::ledger::Ledger;
 use crate::running::{Answering, Beginning, run};
 use etagere::{AllocatorOptions, AtlasAllocator, AtlasGrowFault, OptionsFault, Size};
 use etagere_base::INDEX_MODULUS;
-use run_commands::commands::{AtlasCommand, Reply};
-use run_commands::faults::RunFault;
+use run_scripts::commands::{AtlasCommand, Reply};
+use run_scripts::faults::RunFault;
 use std::alloc::Global;
 
 /// Runs the commands in order on a new atlas of this size in pixels, and gives a reply to each.

@@ -16,8 +16,8 @@ use crate::ledger::Ledger;
 use crate::running::{Answering, Beginning, run};
 use etagere::{AllocatorOptions, OptionsFault, Size};
 use etagere_bucketed::{BucketedAtlasAllocator, GrowFault};
-use run_commands::commands::{BucketedCommand, Reply};
-use run_commands::faults::RunFault;
+use run_scripts::commands::{BucketedCommand, Reply};
+use run_scripts::faults::RunFault;
 use std::alloc::Global;
 
 /// Runs the commands in order on a new bucketed atlas of this size in pixels, and gives a reply to each.

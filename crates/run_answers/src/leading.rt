@@ -9,8 +9,8 @@ ghost use Rattle.run_answers.specs.Runs.{RefusesRun};
 
 use crate::running::{Beginning, run_new};
 use etagere::{AllocatorOptions, Size};
-use run_commands::commands::Reply;
-use run_commands::faults::RunFault;
+use run_scripts::commands::Reply;
+use run_scripts::faults::RunFault;
 use std::alloc::Global;
 
 /// A new atlas of this size in pixels that has answered the commands, one after another, if memory was there for each.

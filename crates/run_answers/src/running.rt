@@ -9,7 +9,7 @@ ghost use Rattle.etagere_base.specs.declared.frames.Frame.{Frame};
 ghost use Rattle.etagere_base.specs.Frames.{IsAccepted};
 ghost use Rattle.run_answers.specs.Live.{Entry};
 ghost use Rattle.run_answers.specs.Runs.{Kind, RefusesRun, Runs, RunKeepsPromisesThroughout, RunsTo};
-ghost use Rattle.run_commands.specs.declared.faults.RunFault.TheVariants.{Options};
+ghost use Rattle.run_scripts.specs.declared.faults.RunFault.TheVariants.{Options};
 ghost use Rattle.run_answers.specs.Private.Given as spec;
 ghost use Rattle.run_answers.specs.Private.Given.{with_given};
 ghost use Rattle.run_answers.specs.Private.Rooms.{IsEmptyRoom};
@@ -18,8 +18,8 @@ ghost use Rattle.run_answers.specs.Private.Tied.{IsAnswerOf, IsNew, SuitsRuns};
 
 use crate::ledger::Ledger;
 use etagere::{Allocation, AllocatorOptions, OptionsFault, Size};
-use run_commands::commands::Reply;
-use run_commands::faults::RunFault;
+use run_scripts::commands::Reply;
+use run_scripts::faults::RunFault;
 use std::alloc::{AllocError, Global};
 
 /// An atlas that answers the commands of its kind of run.

@@ -2,8 +2,8 @@
 use Rattle.std.proofs.Common.{◌≡◌, ◌≢◌, ℕ, ◌-◌, ◌^◌, ◌≤◌, List, [], ◌∷◌, length, cond, ◌&&◌, Bool, true, false, Option, Some, None, refl, arith}
 use Rattle.std.specs.Prelude.{bytes_eq, nat_le, option_map, ◌==◌}
 use Rattle.std.proofs.lemmas.Bool.Decides.{nat_tests}
-use Rattle.run_commands.specs.declared.commands.AtlasCommand.TheVariants as atlas
-use Rattle.run_commands.specs.declared.commands.BucketedCommand.TheVariants as bucketed
+use Rattle.run_scripts.specs.declared.commands.AtlasCommand.TheVariants as atlas
+use Rattle.run_scripts.specs.declared.commands.BucketedCommand.TheVariants as bucketed
 use Rattle.run_scripts.specs.Numbers.{are_digits, value_of}
 use Rattle.run_scripts.specs.Words.{atlas_command_named, bucketed_command_named, command_of, position_in, size_in}
 use Rattle.run_scripts.specs.Private.Arguments.{AreLettered, arguments_in}

@@ -2,6 +2,7 @@ pub mod CommandLines
 pub mod DecimalPairs
 pub mod Digits
 pub mod DigitsLack
+pub mod FirstFaults
 pub mod HeaderLine
 pub mod LastWord
 pub mod LetteredCommands

@@ -3,9 +3,9 @@ use Rattle.std.proofs.Common.{◌≡◌, ℕ, List, [], ◌∷◌, ◌++◌, Ok,
 use Rattle.std.specs.Prelude.{codes, Bool}
 use Rattle.std.specs.List.{flat_map}
 use Rattle.etagere_base.specs.declared.geometry.Size.{Size}
-use Rattle.run_commands.specs.declared.commands.AtlasCommand.{AtlasCommand}
-use Rattle.run_commands.specs.declared.commands.AtlasCommand.TheVariants.{Allocate, Return, Look, Grow, Clear}
-use Rattle.run_commands.specs.declared.commands.BucketedCommand.TheVariants as bucketed
+use Rattle.run_scripts.specs.declared.commands.AtlasCommand.{AtlasCommand}
+use Rattle.run_scripts.specs.declared.commands.AtlasCommand.TheVariants.{Allocate, Return, Look, Grow, Clear}
+use Rattle.run_scripts.specs.declared.commands.BucketedCommand.TheVariants as bucketed
 use Rattle.run_scripts.specs.Script.{Commands, OfBuckets, OfShelves, Request, script_of}
 
 -- each line with its line feed

@@ -1,4 +1,5 @@
 pub mod DigitPairs
+pub mod Faults
 pub mod Lines
 pub mod Numbers
 pub mod Private

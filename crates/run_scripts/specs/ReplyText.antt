@@ -2,10 +2,10 @@
 use Rattle.std.specs.Prelude.{ℕ, ℤ, pos, ◌≤ℤ◌, ⊤, List, [], ◌∷◌, ◌++◌, codes, decimal, flat_map}
 use Rattle.std.specs.Fmt.{signed_decimal}
 use Rattle.etagere_base.specs.declared.geometry.Rectangle.{Rectangle}
-use Rattle.run_commands.specs.declared.commands.Reply.{Reply}
-use Rattle.run_commands.specs.declared.commands.Reply.TheVariants.{Placed, Refused, Returned, At, NotLive, Cleared, Grown, GrowRefused, NoMemory}
-use Rattle.run_commands.specs.declared.faults.Outcome.TheVariants.{BadLine, Options}
-use Rattle.run_commands.specs.Faults.{outcome_words}
+use Rattle.run_scripts.specs.declared.commands.Reply.{Reply}
+use Rattle.run_scripts.specs.declared.commands.Reply.TheVariants.{Placed, Refused, Returned, At, NotLive, Cleared, Grown, GrowRefused, NoMemory}
+use Rattle.run_scripts.specs.declared.faults.Outcome.TheVariants.{BadLine, Options}
+use Rattle.run_scripts.specs.Faults.{outcome_words}
 use Rattle.run_scripts.specs.Lines.{line_feed, space}
 
 -- the least and the greatest corner, a space between two numbers

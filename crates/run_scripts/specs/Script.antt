@@ -2,8 +2,8 @@
 use Rattle.std.specs.Prelude.{ℕ, ◌+◌, List, [], ◌∷◌, length, Option, Result, Ok, Err, ok_or}
 use Rattle.etagere_base.specs.declared.geometry.Size.{Size}
 use Rattle.etagere_base.specs.declared.options.AllocatorOptions.{AllocatorOptions}
-use Rattle.run_commands.specs.declared.commands.AtlasCommand.{AtlasCommand}
-use Rattle.run_commands.specs.declared.commands.BucketedCommand.{BucketedCommand}
+use Rattle.run_scripts.specs.declared.commands.AtlasCommand.{AtlasCommand}
+use Rattle.run_scripts.specs.declared.commands.BucketedCommand.{BucketedCommand}
 use Rattle.run_scripts.specs.declared.words.AtlasKind.{AtlasKind}
 use Rattle.run_scripts.specs.declared.words.AtlasKind.TheVariants.{Shelves, Buckets}
 use Rattle.run_scripts.specs.Lines.{lines_of, words_of, filled_from}

@@ -1,10 +1,10 @@
 -- What the words of a line stand for.
 use Rattle.std.specs.Prelude.{ℕ, Bool, true, false, List, [], ◌∷◌, Option, Some, None, bytes_eq, codes, if◌then◌else◌, option_map}
 use Rattle.etagere_base.specs.declared.geometry.Size.{Size}
-use Rattle.run_commands.specs.declared.commands.AtlasCommand.{AtlasCommand}
-use Rattle.run_commands.specs.declared.commands.AtlasCommand.TheVariants as atlas
-use Rattle.run_commands.specs.declared.commands.BucketedCommand.{BucketedCommand}
-use Rattle.run_commands.specs.declared.commands.BucketedCommand.TheVariants as bucketed
+use Rattle.run_scripts.specs.declared.commands.AtlasCommand.{AtlasCommand}
+use Rattle.run_scripts.specs.declared.commands.AtlasCommand.TheVariants as atlas
+use Rattle.run_scripts.specs.declared.commands.BucketedCommand.{BucketedCommand}
+use Rattle.run_scripts.specs.declared.commands.BucketedCommand.TheVariants as bucketed
 use Rattle.run_scripts.specs.declared.words.AtlasKind.{AtlasKind}
 use Rattle.run_scripts.specs.declared.words.AtlasKind.TheVariants.{Shelves, Buckets}
 pub use Rattle.run_scripts.specs.declared.words.Header.{Header}

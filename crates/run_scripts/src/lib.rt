@@ -1,8 +1,12 @@
-//! Scripts and replies as text: lines, their words, the numbers and commands that words spell, and the line of a reply.
+//! What runs are made of, and how it is told as text. `commands` has the commands and replies of both kinds, `faults` how
+//! runs, streams, replays, drawings and checks end; the other modules have lines, their words, the numbers and commands
+//! that words spell, and the line of a reply.
 //!
-//! Definitions: `Lines`, `Numbers`, `Words`, `Script`, `ScriptReading` and `ReplyText`. Nothing here runs a command.
+//! Definitions: `Faults`, `Lines`, `Numbers`, `Words`, `Script`, `ScriptReading` and `ReplyText`. Nothing here runs a command.
 #![tactic(auto)]
 
+pub mod commands;
+pub mod faults;
 pub mod lines;
 pub mod numbers;
 pub mod plain_lines;

@@ -5,7 +5,7 @@
 ghost use Rattle.std.specs.Prelude.{◌≡◌, ◌≢◌, IfErr, IfOk, IfSome, OnOk};
 ghost use Rattle.std.specs.Io.KnownBytes.{IsAtEnd};
 
-use run_commands::faults::ReplayFault;
+use crate::faults::ReplayFault;
 use std::alloc::Global;
 use std::io::Read;
 

@@ -10,7 +10,7 @@ ghost use Rattle.run_scripts.specs.ReplyText.{HasPlaces, IsPlace, TellsPlaces, c
 
 use crate::short_text::ShortText;
 use etagere_base::{Allocation, Rectangle};
-use run_commands::commands::Reply;
+use crate::commands::Reply;
 use std::marker::Model;
 
 /// How many bytes a line has at most: `placed`, an id of 10 digits, and four places of 11 characters.

@@ -16,7 +16,7 @@ use crate::lines::{blank_lines, first_line, line_feeds};
 use crate::plain_lines::plain_command;
 use crate::words::{AtlasKind, Spelled, command_of, header_of};
 use etagere_base::{AllocatorOptions, Size};
-use run_commands::commands::{AtlasCommand, BucketedCommand};
+use crate::commands::{AtlasCommand, BucketedCommand};
 use std::alloc::{AllocFailed, Global};
 use std::marker::Model;
 

@@ -11,7 +11,7 @@ ghost use Rattle.run_scripts.specs.Private.Arguments.{AreLettered, IsSpelled, No
 use crate::lines::split_word;
 use crate::numbers::{natural_of, number_of, position};
 use etagere_base::{AllocatorOptions, Size};
-use run_commands::commands::{AtlasCommand, BucketedCommand};
+use crate::commands::{AtlasCommand, BucketedCommand};
 
 /// What kind of atlas a script is for.
 #[derive(Clone, Copy, Debug, PartialEq, Eq)]
@@ -151,7 +151,7 @@ fn command_with<C: Spelled>(letter: u8, words: &[u8]) -> Option<C>
 }
 
 impl Spelled for AtlasCommand {
-    ghost use Rattle.run_commands.specs.declared.commands.AtlasCommand.TheVariants.{Clear};
+    ghost use Rattle.run_scripts.specs.declared.commands.AtlasCommand.TheVariants.{Clear};
 
     ghost cleared = { Clear };
 
@@ -189,7 +189,7 @@ impl Spelled for AtlasCommand {
 }
 
 impl Spelled for BucketedCommand {
-    ghost use Rattle.run_commands.specs.declared.commands.BucketedCommand.TheVariants.{Clear};
+    ghost use Rattle.run_scripts.specs.declared.commands.BucketedCommand.TheVariants.{Clear};
 
     ghost cleared = { Clear };
 

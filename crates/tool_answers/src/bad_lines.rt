@@ -2,8 +2,8 @@
 
 use crate::ending::Failure;
 use crate::places::{header_line, line_at};
-use run_commands::commands::AtlasCommand;
-use run_commands::faults::ReplayFault;
+use run_scripts::commands::AtlasCommand;
+use run_scripts::faults::ReplayFault;
 use run_scripts::lines::split_word;
 use run_scripts::numbers::{number_of, position_of};
 use run_scripts::script::{Script, ScriptFault, commands_of, read_script};

@@ -1,7 +1,7 @@
 //! How the program ends: with bytes for standard output or a file, or a line for standard error, and a status.
 
 use etagere_base::{OptionsFault, RestoreFault};
-use run_commands::faults::{Checked, Outcome, ReplayFault, RunFault};
+use run_scripts::faults::{Checked, Outcome, ReplayFault, RunFault};
 use saved_json::ReadFault;
 use std::alloc::{AllocError, AllocFailed};
 use std::fmt::{self, Display, Formatter};

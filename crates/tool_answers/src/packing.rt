@@ -9,7 +9,7 @@ use crate::reasons::push_unplaced;
 use atlas_pages::{PageChoice, PageOptions};
 use etagere::{AtlasAllocator, DEFAULT_OPTIONS, Refusal, Size, size2};
 use page_runs::{PageReply, PageRunFault, pack};
-use run_commands::faults::ReplayFault;
+use run_scripts::faults::ReplayFault;
 use run_scripts::numbers::{number_of, position_of};
 use run_scripts::script::ScriptFault;
 use std::alloc::{AllocError, Global};

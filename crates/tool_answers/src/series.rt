@@ -2,8 +2,8 @@
 
 use etagere::{Rectangle, Size};
 use etagere_run::{run_atlas, run_bucketed};
-use run_commands::commands::{AtlasCommand, BucketedCommand, Reply};
-use run_commands::faults::RunFault;
+use run_scripts::commands::{AtlasCommand, BucketedCommand, Reply};
+use run_scripts::faults::RunFault;
 use run_scripts::script::{Commands, Script};
 use std::alloc::{AllocError, Global};
 

@@ -7,7 +7,7 @@ use crate::bad_lines::bad_line;
 use crate::ending::{Answer, Failure};
 use crate::watch_page::{HEAD, MIDDLE, TAIL};
 use etagere_run::replay;
-use run_commands::faults::{Outcome, ReplayFault};
+use run_scripts::faults::{Outcome, ReplayFault};
 use std::alloc::{AllocError, Global};
 
 /// The page of a script.

@@ -1,7 +1,7 @@
 -- A run that goes through states goes on by one command.
 use Rattle.std.proofs.Common.{◌≡◌, ℕ, suc, ◌+◌, ◌<◌, Option, None, Some, List, [], ◌∷◌, ◌++◌, length, get_or, take, refl, ap, sym, ◌∙◌, subst, arith}
 use Rattle.std.proofs.lemmas.List.{length-append, length-take-le, take_more}
-use Rattle.run_commands.specs.declared.commands.Reply.{Reply}
+use Rattle.run_scripts.specs.declared.commands.Reply.{Reply}
 use Rattle.run_answers.specs.Live.{Effect, Entry, live_after, live_from}
 use Rattle.run_answers.specs.Runs.{Kind, Runs, effects}
 use Rattle.run_answers.specs.Private.Tied.{IsAnswerOf}

@@ -4,10 +4,10 @@ use Rattle.std.proofs.lemmas.Bool.{eq-eqb, eqb-true}
 use Rattle.std.specs.Prelude.{◌==◌, option_map}
 use Rattle.std.specs.List.{find}
 use Rattle.etagere_base.specs.declared.ids.Allocation.{Allocation}
-use Rattle.run_commands.specs.declared.commands.AtlasCommand.{AtlasCommand}
-use Rattle.run_commands.specs.declared.commands.AtlasCommand.TheVariants.{Return, Look}
-use Rattle.run_commands.specs.declared.commands.Reply.{Reply}
-use Rattle.run_commands.specs.declared.commands.Reply.TheVariants.{Placed, Refused, Returned, At, NotLive, Cleared, Grown, GrowRefused, NoMemory}
+use Rattle.run_scripts.specs.declared.commands.AtlasCommand.{AtlasCommand}
+use Rattle.run_scripts.specs.declared.commands.AtlasCommand.TheVariants.{Return, Look}
+use Rattle.run_scripts.specs.declared.commands.Reply.{Reply}
+use Rattle.run_scripts.specs.declared.commands.Reply.TheVariants.{Placed, Refused, Returned, At, NotLive, Cleared, Grown, GrowRefused, NoMemory}
 use Rattle.run_answers.specs.AtlasRuns.{AtlasStep, atlas_effect, shelf_atlas}
 use Rattle.shelf_model.specs.State.{AtlasState}
 use Rattle.run_answers.specs.Live.{Effect, Adds, TakesOut, Empties, Keeps, Entry, allocation_at, live_after, without}

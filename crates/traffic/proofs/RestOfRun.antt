@@ -18,8 +18,8 @@ use Rattle.shelf_model.proofs.Callers.{fresh-allocated, promises-new}
 use Rattle.shelf_snapshots.specs.declared.AtlasSnapshot.{AtlasSnapshot}
 use Rattle.shelf_records.specs.Snapshots.{snapshot_records}
 use Rattle.shelf_records.specs.StandsFor.{StandsFor}
-use Rattle.run_commands.specs.declared.commands.AtlasCommand.{AtlasCommand}
-use Rattle.run_commands.specs.declared.commands.Reply.{Reply}
+use Rattle.run_scripts.specs.declared.commands.AtlasCommand.{AtlasCommand}
+use Rattle.run_scripts.specs.declared.commands.Reply.{Reply}
 use Rattle.run_answers.specs.AtlasRuns.{shelf_atlas}
 use Rattle.run_answers.specs.Live.{Entry, live_after, live_allocations, live_from}
 use Rattle.run_answers.specs.Runs.{IsGiven, Kind, Runs, effects, live_in}

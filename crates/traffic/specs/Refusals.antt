@@ -7,12 +7,12 @@ use Rattle.bucketed_model.specs.Usage as bucket_usages
 use Rattle.shelf_model.specs.Refusal as shelf_refusals
 use Rattle.shelf_model.specs.State.{AtlasState}
 use Rattle.shelf_model.specs.Usage as shelf_usages
-use Rattle.run_commands.specs.declared.commands.AtlasCommand.{AtlasCommand}
-use Rattle.run_commands.specs.declared.commands.AtlasCommand.TheVariants as atlas
-use Rattle.run_commands.specs.declared.commands.BucketedCommand.{BucketedCommand}
-use Rattle.run_commands.specs.declared.commands.BucketedCommand.TheVariants as buckets
-use Rattle.run_commands.specs.declared.commands.Reply.{Reply}
-use Rattle.run_commands.specs.declared.commands.Reply.TheVariants as replies
+use Rattle.run_scripts.specs.declared.commands.AtlasCommand.{AtlasCommand}
+use Rattle.run_scripts.specs.declared.commands.AtlasCommand.TheVariants as atlas
+use Rattle.run_scripts.specs.declared.commands.BucketedCommand.{BucketedCommand}
+use Rattle.run_scripts.specs.declared.commands.BucketedCommand.TheVariants as buckets
+use Rattle.run_scripts.specs.declared.commands.Reply.{Reply}
+use Rattle.run_scripts.specs.declared.commands.Reply.TheVariants as replies
 use Rattle.run_answers.specs.Leading.{HasMemory}
 use Rattle.run_answers.specs.Runs.{Kind}
 use Rattle.traffic.specs.declared.going_on.Finding.{Finding}

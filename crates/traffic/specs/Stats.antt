@@ -7,9 +7,9 @@ use Rattle.bucketed_model.specs.Usage as bucket_usages
 use Rattle.shelf_model.specs.Space as shelf_space
 use Rattle.shelf_model.specs.State.{AtlasState}
 use Rattle.shelf_model.specs.Usage as shelf_usages
-use Rattle.run_commands.specs.declared.commands.AtlasCommand.{AtlasCommand}
-use Rattle.run_commands.specs.declared.commands.BucketedCommand.{BucketedCommand}
-use Rattle.run_commands.specs.declared.commands.Reply.{Reply}
+use Rattle.run_scripts.specs.declared.commands.AtlasCommand.{AtlasCommand}
+use Rattle.run_scripts.specs.declared.commands.BucketedCommand.{BucketedCommand}
+use Rattle.run_scripts.specs.declared.commands.Reply.{Reply}
 use Rattle.run_answers.specs.AtlasRuns.{shelf_atlas}
 use Rattle.run_answers.specs.BucketedRuns.{bucketed_atlas}
 use Rattle.run_answers.specs.Runs.{Kind, Runs, live_in}

@@ -12,8 +12,8 @@ ghost use Rattle.traffic.specs.GoingOn.{GoesOn, with_finding};
 use etagere::{AllocatorOptions, BucketedRefusal, Refusal, Size};
 use run_answers::ledger::Ledger;
 use run_answers::running::{Beginning, answer_next};
-use run_commands::commands::Reply;
-use run_commands::faults::RunFault;
+use run_scripts::commands::Reply;
+use run_scripts::faults::RunFault;
 use std::alloc::{AllocError, Global};
 
 /// Why a command was refused.
@@ -48,7 +48,7 @@ pub struct Finding {
 /// An atlas on which runs begin, and that tells why it refused a command.
 pub trait Explaining: Beginning {
     ghost use Rattle.std.specs.Prelude.{Option};
-    ghost use Rattle.run_commands.specs.declared.commands.Reply.{Reply};
+    ghost use Rattle.run_scripts.specs.declared.commands.Reply.{Reply};
     ghost use Rattle.traffic.specs.declared.going_on.Refused.{Refused};
 
     ghost told: { Self → Self.Command → Reply → Option Refused };

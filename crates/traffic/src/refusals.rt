@@ -13,8 +13,8 @@ ghost use Rattle.traffic.specs.Refusals.{IsExplainedBy, atlas_told, bucketed_tol
 use crate::going_on::{Explaining, Finding, Reason, Refused, go_on_new};
 use etagere::{AllocatorOptions, AtlasAllocator, BucketedAtlasAllocator, Size};
 use run_answers::leading::had_memory;
-use run_commands::commands::{AtlasCommand, BucketedCommand, Reply};
-use run_commands::faults::RunFault;
+use run_scripts::commands::{AtlasCommand, BucketedCommand, Reply};
+use run_scripts::faults::RunFault;
 use std::alloc::Global;
 
 impl Explaining for AtlasAllocator {

@@ -14,7 +14,7 @@ ghost use Rattle.traffic.specs.Resuming.{IsRestOfRun, Resumes};
 use crate::going_on::go_on;
 use crate::ledgers::ledger_of;
 use etagere::{Allocation, AtlasAllocator, AtlasSnapshot, RestoreFault};
-use run_commands::commands::{AtlasCommand, Reply};
+use run_scripts::commands::{AtlasCommand, Reply};
 use std::alloc::{AllocError, Global};
 
 /// What a saved atlas had live, and its replies to more commands.

@@ -12,8 +12,8 @@ use etagere::{
     AllocatorOptions, AtlasAllocator, AtlasSnapshot, BucketedAtlasAllocator, BucketedSnapshot, Size,
 };
 use run_answers::leading::atlas_after;
-use run_commands::commands::{AtlasCommand, BucketedCommand};
-use run_commands::faults::RunFault;
+use run_scripts::commands::{AtlasCommand, BucketedCommand};
+use run_scripts::faults::RunFault;
 use std::alloc::Global;
 
 /// The snapshot of the atlas that the commands leave, run in order on a new one of this size in pixels.

@@ -13,8 +13,8 @@ use crate::tallies::{Tally, asked_space, tally_of};
 use etagere::{
     AllocatorOptions, AtlasAllocator, BucketedAtlasAllocator, BucketedUsage, Size, Usage,
 };
-use run_commands::commands::{AtlasCommand, BucketedCommand};
-use run_commands::faults::RunFault;
+use run_scripts::commands::{AtlasCommand, BucketedCommand};
+use run_scripts::faults::RunFault;
 use std::alloc::Global;
 
 /// What a run on a shelf atlas was asked, and how full it left the atlas.

@@ -11,7 +11,7 @@ ghost use Rattle.traffic.specs.Tallies.{IsTallyOf};
 use etagere::Size;
 use etagere_base::side;
 use run_answers::ledger::Ledger;
-use run_commands::commands::{AtlasCommand, BucketedCommand, Reply};
+use run_scripts::commands::{AtlasCommand, BucketedCommand, Reply};
 
 /// What kind of command one is.
 #[derive(Clone, Copy, Debug, PartialEq, Eq)]

@@ -6,8 +6,8 @@ use etagere::{
     AtlasAllocator, AtlasSnapshot, BucketedAtlasAllocator, BucketedSnapshot, BucketedUsage,
     RestoreFault, Size, Usage,
 };
-use run_commands::commands::{AtlasCommand, BucketedCommand};
-use run_commands::faults::RunFault;
+use run_scripts::commands::{AtlasCommand, BucketedCommand};
+use run_scripts::faults::RunFault;
 use run_scripts::script::{Commands, Script};
 use saved_json::Saved;
 use std::alloc::Global;

@@ -1,6 +1,6 @@
 //! The snapshot of the atlas that a script leaves.
 
-use run_commands::faults::RunFault;
+use run_scripts::faults::RunFault;
 use run_scripts::script::{Commands, Script};
 use saved_json::Saved;
 use std::alloc::Global;

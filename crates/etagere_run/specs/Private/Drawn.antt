@@ -4,12 +4,12 @@ use Rattle.std.specs.Io.KnownBytes.{Appends, Keeps}
 use Rattle.pictures.specs.Sending.{AppendsBeginning}
 use Rattle.etagere_run.specs.declared.drawing.DrawFault.{DrawFault}
 use Rattle.etagere_run.specs.declared.drawing.DrawFault.TheVariants as ends
-use Rattle.run_commands.specs.declared.faults.Checked.{Checked}
-use Rattle.run_commands.specs.declared.faults.Checked.TheVariants.{Fine}
-use Rattle.run_commands.specs.declared.faults.Drawing.{Drawing}
-use Rattle.run_commands.specs.declared.faults.Outcome.{Outcome}
-use Rattle.run_commands.specs.declared.faults.ReplayFault.{ReplayFault}
-use Rattle.run_commands.specs.declared.faults.ReplayFault.TheVariants.{Read, Write, Memory}
+use Rattle.run_scripts.specs.declared.faults.Checked.{Checked}
+use Rattle.run_scripts.specs.declared.faults.Checked.TheVariants.{Fine}
+use Rattle.run_scripts.specs.declared.faults.Drawing.{Drawing}
+use Rattle.run_scripts.specs.declared.faults.Outcome.{Outcome}
+use Rattle.run_scripts.specs.declared.faults.ReplayFault.{ReplayFault}
+use Rattle.run_scripts.specs.declared.faults.ReplayFault.TheVariants.{Read, Write, Memory}
 use Rattle.etagere_run.specs.Drawing.{BeginsDrawing, BeginsScript, BeginsSnapshot, EndsDrawing, EndsScript, EndsSnapshot, IsPictureOf}
 use Rattle.etagere_run.specs.Replaying.{longest_asked}
 use Rattle.run_answers.specs.Runs.{RefusesRun}

@@ -4,7 +4,7 @@ use Rattle.etagere_base.specs.declared.geometry.Size.{Size}
 use Rattle.etagere_base.specs.declared.options.AllocatorOptions.{AllocatorOptions}
 use Rattle.etagere_base.specs.Frames.{atlas_frame}
 use Rattle.bucketed_model.specs.Frames.{bucketed_frame}
-use Rattle.run_commands.specs.declared.faults.StreamFault.{StreamFault}
+use Rattle.run_scripts.specs.declared.faults.StreamFault.{StreamFault}
 use Rattle.run_answers.specs.AtlasRuns.{shelf_atlas}
 use Rattle.run_answers.specs.BucketedRuns.{bucketed_atlas}
 use Rattle.run_scripts.specs.Script.{Commands, OfBuckets, OfShelves}

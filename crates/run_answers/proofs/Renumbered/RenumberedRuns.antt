@@ -21,10 +21,10 @@ use Rattle.bucketed_model.proofs.Callers.{tied-safe}
 use Rattle.bucketed_model.proofs.Ledger.EntriesTaken.{id-parts}
 use Rattle.bucketed_model.proofs.Validity.Placed.{IsPlaced}
 use Rattle.bucketed_model.proofs.Validity.Taken.{spot-valid}
-use Rattle.run_commands.specs.declared.commands.BucketedCommand.{BucketedCommand}
-use Rattle.run_commands.specs.declared.commands.BucketedCommand.TheVariants.{Allocate, Return, Grow, Clear}
-use Rattle.run_commands.specs.declared.commands.Reply.{Reply}
-use Rattle.run_commands.specs.declared.commands.Reply.TheVariants.{Placed, Refused, Returned, NotLive, Cleared, Grown, GrowRefused, NoMemory}
+use Rattle.run_scripts.specs.declared.commands.BucketedCommand.{BucketedCommand}
+use Rattle.run_scripts.specs.declared.commands.BucketedCommand.TheVariants.{Allocate, Return, Grow, Clear}
+use Rattle.run_scripts.specs.declared.commands.Reply.{Reply}
+use Rattle.run_scripts.specs.declared.commands.Reply.TheVariants.{Placed, Refused, Returned, NotLive, Cleared, Grown, GrowRefused, NoMemory}
 use Rattle.run_answers.specs.BucketedRuns.{BucketedStep, bucketed_atlas, bucketed_effect}
 use Rattle.run_answers.specs.Laws.{without_number}
 use Rattle.run_answers.specs.Live.{Entry, live_after, live_allocations, without}

@@ -11,10 +11,10 @@ use Rattle.shelf_model.specs.Places.{allocations}
 use Rattle.shelf_model.specs.State.{AtlasState}
 use Rattle.bucketed_model.specs.State.{BucketedState}
 use Rattle.bucketed_model.specs.Tied as buckets
-use Rattle.run_commands.specs.declared.commands.AtlasCommand.{AtlasCommand}
-use Rattle.run_commands.specs.declared.commands.BucketedCommand.{BucketedCommand}
-use Rattle.run_commands.specs.declared.commands.Reply.{Reply}
-use Rattle.run_commands.specs.declared.commands.Reply.TheVariants.{Placed}
+use Rattle.run_scripts.specs.declared.commands.AtlasCommand.{AtlasCommand}
+use Rattle.run_scripts.specs.declared.commands.BucketedCommand.{BucketedCommand}
+use Rattle.run_scripts.specs.declared.commands.Reply.{Reply}
+use Rattle.run_scripts.specs.declared.commands.Reply.TheVariants.{Placed}
 use Rattle.run_answers.specs.AtlasRuns.{shelf_atlas}
 use Rattle.run_answers.specs.BucketedRuns.{bucketed_atlas}
 use Rattle.run_answers.specs.Live.{Adds, Entry, live_after, live_allocations, peak_after}

@@ -4,7 +4,7 @@ use Rattle.etagere_base.specs.Frames.{options_fault}
 use Rattle.etagere_run.specs.Replaying.{HasFault, longest_asked}
 use Rattle.run_scripts.specs.ReplyText.{options_text}
 use Rattle.etagere_run.proofs.ReplayAnswers.{begun-replays, keeps-replays, refused-keeps, streamed-replays}
-use Rattle.run_commands.proofs.FirstFaults.{first-fault}
+use Rattle.run_scripts.proofs.FirstFaults.{first-fault}
 use Rattle.etagere_run.proofs.replaying.run_script.Goals as goal
 
 pub returns-in-Ok : goal.returns-in-Ok

@@ -1,7 +1,7 @@
 use Rattle.std.proofs.Common.{◌≡◌, Some, arith, refl, rules}
 use Rattle.etagere_base.specs.declared.faults.OptionsFault.TheVariants as faults
 use Rattle.etagere_base.specs.Frames.{longest_side, options_fault}
-use Rattle.run_commands.proofs.FirstFaults.{first-fault}
+use Rattle.run_scripts.proofs.FirstFaults.{first-fault}
 use Rattle.run_scripts.specs.ReplyText.{options_text}
 use Rattle.glyph_run.specs.Replaying.{HasFault}
 use Rattle.glyph_run.proofs.ReplayAnswers.{keeps-replays, stopped-replays, streamed-replays}

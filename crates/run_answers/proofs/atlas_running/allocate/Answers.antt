@@ -1,6 +1,6 @@
 use Rattle.std.proofs.Common.{refl}
 use Rattle.run_answers.specs.Private.Given.{with_given}
-use Rattle.run_commands.specs.declared.commands.Reply.TheVariants.{Placed}
+use Rattle.run_scripts.specs.declared.commands.Reply.TheVariants.{Placed}
 use Rattle.run_answers.proofs.AtlasAnswers.{placed}
 use Rattle.run_answers.proofs.atlas_running.allocate.Goals as goal
 

@@ -1,6 +1,6 @@
 use Rattle.std.proofs.Common.{List, rules, subst}
 use Rattle.std.specs.Prelude.{All}
-use Rattle.run_commands.specs.declared.commands.Reply.{Reply}
+use Rattle.run_scripts.specs.declared.commands.Reply.{Reply}
 use Rattle.run_answers.specs.Leading.{HasMemory}
 use Rattle.run_answers.proofs.leading.atlas_after.Goals as goal
 

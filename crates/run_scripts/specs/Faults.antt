@@ -4,18 +4,18 @@ use Rattle.etagere_base.specs.declared.faults.OptionsFault.TheVariants as option
 use Rattle.etagere_base.specs.declared.geometry.Size.{Size}
 use Rattle.etagere_base.specs.declared.options.AllocatorOptions.{AllocatorOptions}
 use Rattle.etagere_base.specs.Frames.{IsAccepted, options_fault}
-use Rattle.run_commands.specs.declared.faults.Checked.{Checked}
-use Rattle.run_commands.specs.declared.faults.Checked.TheVariants.{Fine, Broken, Unreadable}
-use Rattle.run_commands.specs.declared.faults.Drawing.{Drawing}
-use Rattle.run_commands.specs.declared.faults.Drawing.TheVariants.{OfScript, OfSnapshot}
-use Rattle.run_commands.specs.declared.faults.Outcome.{Outcome}
-use Rattle.run_commands.specs.declared.faults.Outcome.TheVariants as outcomes
-use Rattle.run_commands.specs.declared.faults.ReplayFault.{ReplayFault}
-use Rattle.run_commands.specs.declared.faults.ReplayFault.TheVariants as replay_faults
-use Rattle.run_commands.specs.declared.faults.RunFault.{RunFault}
-use Rattle.run_commands.specs.declared.faults.RunFault.TheVariants as run_faults
-use Rattle.run_commands.specs.declared.faults.StreamFault.{StreamFault}
-use Rattle.run_commands.specs.declared.faults.StreamFault.TheVariants as stream_faults
+use Rattle.run_scripts.specs.declared.faults.Checked.{Checked}
+use Rattle.run_scripts.specs.declared.faults.Checked.TheVariants.{Fine, Broken, Unreadable}
+use Rattle.run_scripts.specs.declared.faults.Drawing.{Drawing}
+use Rattle.run_scripts.specs.declared.faults.Drawing.TheVariants.{OfScript, OfSnapshot}
+use Rattle.run_scripts.specs.declared.faults.Outcome.{Outcome}
+use Rattle.run_scripts.specs.declared.faults.Outcome.TheVariants as outcomes
+use Rattle.run_scripts.specs.declared.faults.ReplayFault.{ReplayFault}
+use Rattle.run_scripts.specs.declared.faults.ReplayFault.TheVariants as replay_faults
+use Rattle.run_scripts.specs.declared.faults.RunFault.{RunFault}
+use Rattle.run_scripts.specs.declared.faults.RunFault.TheVariants as run_faults
+use Rattle.run_scripts.specs.declared.faults.StreamFault.{StreamFault}
+use Rattle.run_scripts.specs.declared.faults.StreamFault.TheVariants as stream_faults
 
 -- the number by which a fault of a run is told
 abbrev pub run_fault_number : RunFault → ℕ

@@ -5,7 +5,7 @@
 //! `replaying`, `drawing` and `checking`.
 
 ghost use Rattle.std.specs.Prelude.{◌≡◌};
-ghost use Rattle.run_commands.specs.Faults.{checked_status, drawing_status, fault_status, fault_words, outcome_status, replay_fault_number, run_fault_number, stream_fault_number};
+ghost use Rattle.run_scripts.specs.Faults.{checked_status, drawing_status, fault_status, fault_words, outcome_status, replay_fault_number, run_fault_number, stream_fault_number};
 
 use etagere_base::OptionsFault;
 use std::fmt::{self, Display, Formatter};
@@ -87,7 +87,7 @@ impl Outcome {
 
 impl Display for Outcome {
     ghost use Rattle.std.specs.Prelude.{Some};
-    ghost use Rattle.run_commands.specs.Faults.{outcome_words};
+    ghost use Rattle.run_scripts.specs.Faults.{outcome_words};
 
     ghost output = { λ outcome. Some (outcome_words outcome) };
 
@@ -127,7 +127,7 @@ impl Checked {
 
 impl Display for Checked {
     ghost use Rattle.std.specs.Prelude.{Some};
-    ghost use Rattle.run_commands.specs.Faults.{checked_words};
+    ghost use Rattle.run_scripts.specs.Faults.{checked_words};
 
     ghost output = { λ checked. Some (checked_words checked) };
 
@@ -164,7 +164,7 @@ impl Drawing {
 
 impl Display for Drawing {
     ghost use Rattle.std.specs.Prelude.{Some};
-    ghost use Rattle.run_commands.specs.Faults.{drawing_words};
+    ghost use Rattle.run_scripts.specs.Faults.{drawing_words};
 
     ghost output = { λ drawing. Some (drawing_words drawing) };
 
