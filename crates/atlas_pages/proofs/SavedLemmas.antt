@@ -5,7 +5,7 @@ use Rattle.std.specs.List.{AllByRecursion}
 use Rattle.etagere_base.specs.declared.frames.Frame.{Frame}
 use Rattle.etagere_base.proofs.EachLemmas.{Each-get, Each-weaken}
 use Rattle.shelf_model.specs.State.{AtlasState}
-use Rattle.shelf_snapshots.specs.declared.AtlasSnapshot.{AtlasSnapshot}
+use Rattle.snapshot_records.specs.declared.shelves.AtlasSnapshot.{AtlasSnapshot}
 use Rattle.shelf_records.specs.Snapshots.{snapshot_records}
 use Rattle.shelf_records.specs.StandsFor.{StandsFor}
 use Rattle.shelf_restoring.proofs.Loaded.WalksRestore.{stands-whole}

@@ -5,7 +5,7 @@ ghost use Rattle.std.specs.Prelude.{◌≤◌};
 use crate::axes::{lengths, step};
 use crate::broken_records::{Breach, breach_at};
 use crate::record_walks::{End, Record};
-use bucketed_snapshots::BucketedSnapshot;
+use snapshot_records::buckets::BucketedSnapshot;
 use etagere_base::RestoreFault;
 use std::alloc::{AllocError, Global};
 

@@ -3,7 +3,7 @@
 use crate::axes::{lengths, step};
 use crate::record_walks::{Chain, End, Record, Walk, walk_along};
 use etagere_base::{RestoreFault, Sides};
-use shelf_snapshots::AtlasSnapshot;
+use snapshot_records::shelves::AtlasSnapshot;
 use std::alloc::{AllocError, Global};
 
 /// A record, and what is wrong with it.

@@ -1,6 +1,6 @@
 //! The lists of a saved shelf atlas, walked record by record.
 
-use shelf_snapshots::AtlasSnapshot;
+use snapshot_records::shelves::AtlasSnapshot;
 use std::alloc::{AllocError, Global};
 
 /// The link to no record.

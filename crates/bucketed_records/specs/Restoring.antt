@@ -6,9 +6,9 @@ use Rattle.etagere_base.specs.Sides.{side}
 use Rattle.etagere_links.specs.Links.{link_of}
 use Rattle.bucketed_records.specs.declared.records.LinkedBucket.{LinkedBucket}
 use Rattle.bucketed_records.specs.declared.records.LinkedBucketShelf.{LinkedBucketShelf}
-use Rattle.bucketed_snapshots.specs.declared.BucketRecord.{BucketRecord}
-use Rattle.bucketed_snapshots.specs.declared.BucketShelfRecord.{BucketShelfRecord}
-use Rattle.bucketed_snapshots.specs.declared.BucketedSnapshot.{BucketedSnapshot}
+use Rattle.snapshot_records.specs.declared.buckets.BucketRecord.{BucketRecord}
+use Rattle.snapshot_records.specs.declared.buckets.BucketShelfRecord.{BucketShelfRecord}
+use Rattle.snapshot_records.specs.declared.buckets.BucketedSnapshot.{BucketedSnapshot}
 use Rattle.bucketed_records.specs.BucketRecords.{BucketRecords}
 use Rattle.bucketed_records.specs.StandsFor.{Keeps}
 

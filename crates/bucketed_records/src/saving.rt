@@ -8,7 +8,7 @@ ghost use Rattle.bucketed_records.specs.Private.Store.{shelf_record};
 ghost use Rattle.bucketed_records.specs.Restoring as spec;
 
 use crate::records::{KeptShelf, LinkedBucket, LinkedBucketShelf};
-use bucketed_snapshots::{BucketRecord, BucketShelfRecord, BucketedSnapshot};
+use snapshot_records::buckets::{BucketRecord, BucketShelfRecord, BucketedSnapshot};
 use etagere_links::Link;
 use std::alloc::{AllocError, Global};
 

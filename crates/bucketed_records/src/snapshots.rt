@@ -6,7 +6,7 @@ ghost use Rattle.std.specs.Prelude.{◌≡◌, ◌<◌, ◌^◌, pos, map};
 ghost use Rattle.bucketed_model.specs.Frames.{IsBucketedFrame};
 ghost use Rattle.bucketed_records.specs.Restoring as spec;
 
-use bucketed_snapshots::{BucketRecord, BucketShelfRecord, BucketedSnapshot};
+use snapshot_records::buckets::{BucketRecord, BucketShelfRecord, BucketedSnapshot};
 use etagere_base::Frame;
 use etagere_links::Link;
 

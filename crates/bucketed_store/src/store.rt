@@ -34,7 +34,7 @@ use bucketed_records::records::{
     KeptShelf, LinkedBucket, LinkedBucketShelf, MOST_BUCKETS, record_room,
 };
 use bucketed_records::saving::{saved_buckets, saved_shelves};
-use bucketed_snapshots::{BucketRecord, BucketShelfRecord};
+use snapshot_records::buckets::{BucketRecord, BucketShelfRecord};
 use etagere_base::{AllocId, Allocation, Frame, Sides, rectangle_at};
 use etagere_links::Link;
 use std::alloc::{AllocError, Global};

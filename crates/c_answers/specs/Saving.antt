@@ -5,7 +5,7 @@ use Rattle.etagere_base.specs.declared.faults.RestoreFault.TheVariants.{Memory}
 use Rattle.bucketed_records.specs.Restoring as buckets
 use Rattle.bucketed_records.specs.StandsFor as bucket_rules
 use Rattle.bucketed_model.specs.State.{BucketedState}
-use Rattle.bucketed_snapshots.specs.declared.BucketedSnapshot.{BucketedSnapshot}
+use Rattle.snapshot_records.specs.declared.buckets.BucketedSnapshot.{BucketedSnapshot}
 use Rattle.glyph_shelf.specs.Cache.{CacheState}
 use Rattle.glyph_shelf.specs.Saved.{CacheStandsFor, IsCacheBroken, without_frame}
 use Rattle.glyph_shelf.specs.declared.faults.CacheRestoreFault.{CacheRestoreFault}
@@ -17,7 +17,7 @@ use Rattle.saved_json.specs.declared.saved.Saved.TheVariants.{Atlas, Bucketed}
 use Rattle.shelf_model.specs.State.{AtlasState}
 use Rattle.shelf_records.specs.Snapshots as shelves
 use Rattle.shelf_records.specs.StandsFor as shelf_rules
-use Rattle.shelf_snapshots.specs.declared.AtlasSnapshot.{AtlasSnapshot}
+use Rattle.snapshot_records.specs.declared.shelves.AtlasSnapshot.{AtlasSnapshot}
 use Rattle.c_answers.specs.Calls.{IsWritten}
 use Rattle.c_answers.specs.Statuses.{cache_restore_refused, restore_refused, restore_memory, unreadable}
 

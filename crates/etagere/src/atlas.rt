@@ -49,7 +49,7 @@ use shelf_model::faults::{AtlasGrowFault, Refusal};
 use shelf_model::usage::Usage;
 use shelf_records::snapshots::snapshot_of;
 use shelf_restoring::loaded_atlas::LoadedAtlas;
-use shelf_snapshots::AtlasSnapshot;
+use snapshot_records::shelves::AtlasSnapshot;
 use shelf_store::asking::refusal;
 use shelf_store::choosing::{MOST_ITEMS, fits_when_empty, placement_of};
 use shelf_store::drawing::push_shelves;

@@ -26,4 +26,4 @@ pub use listing::Iter;
 pub use plain::{PlainAllocation, PlainPoint, PlainRectangle};
 pub use shelf_model::faults::{AtlasGrowFault, Refusal};
 pub use shelf_model::usage::Usage;
-pub use shelf_snapshots::{AtlasSnapshot, ItemRecord, ShelfRecord};
+pub use snapshot_records::shelves::{AtlasSnapshot, ItemRecord, ShelfRecord};

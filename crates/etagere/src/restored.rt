@@ -24,7 +24,7 @@ use shelf_restoring::loaded_atlas::LoadedAtlas;
 use shelf_restoring::rules::judge_rules;
 use shelf_restoring::walked_lists::walked_shelves;
 use shelf_restoring::walking::{WalkedRecords, walk_records};
-use shelf_snapshots::AtlasSnapshot;
+use snapshot_records::shelves::AtlasSnapshot;
 use shelf_store::starting::newly_bounded;
 use std::alloc::{AllocError, Global};
 

@@ -40,7 +40,7 @@ use bucketed_records::records::MOST_BUCKETS;
 use bucketed_records::saving::LinkedSnapshot;
 use bucketed_records::snapshots::{Totals, snapshot_of};
 use bucketed_restoring::restoring::JudgedSnapshot;
-use bucketed_snapshots::BucketedSnapshot;
+use snapshot_records::buckets::BucketedSnapshot;
 use bucketed_store::drawing::push_store;
 use bucketed_store::placing::placement_of;
 use bucketed_store::refusing::place_refusal;

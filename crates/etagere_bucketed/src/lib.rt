@@ -14,4 +14,4 @@ pub use atlas::BucketedAtlasAllocator;
 pub use bucketed_model::faults::GrowFault;
 pub use bucketed_model::refusals::BucketedRefusal;
 pub use bucketed_model::usage::BucketedUsage;
-pub use bucketed_snapshots::{BucketRecord, BucketShelfRecord, BucketedSnapshot};
+pub use snapshot_records::buckets::{BucketRecord, BucketShelfRecord, BucketedSnapshot};

@@ -12,7 +12,7 @@ ghost use Rattle.bucketed_restoring.specs.RestoringSteps.{IsRead, links_of_all};
 use crate::atlas::BucketedAtlasAllocator;
 use bucketed_records::saving::LinkedSnapshot;
 use bucketed_restoring::restoring::judged_snapshot;
-use bucketed_snapshots::BucketedSnapshot;
+use snapshot_records::buckets::BucketedSnapshot;
 use etagere_base::RestoreFault;
 use std::alloc::Global;
 

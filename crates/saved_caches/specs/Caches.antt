@@ -1,7 +1,7 @@
 -- How a JSON value spells a snapshot of a cache, and a text one.
 use Rattle.std.specs.Prelude.{◌≡◌, ℕ, List, Option, Some, IsUtf8, codes}
 use Rattle.json.specs.Json.{Json, document}
-use Rattle.shelf_snapshots.specs.declared.AtlasSnapshot.{AtlasSnapshot}
+use Rattle.snapshot_records.specs.declared.shelves.AtlasSnapshot.{AtlasSnapshot}
 use Rattle.glyph_shelf.specs.declared.saving.CacheSnapshot.{CacheSnapshot}
 use Rattle.glyph_shelf.specs.declared.saving.SavedKey.{SavedKey}
 use Rattle.saved_json.specs.JsonFields.{field, natural}

@@ -9,12 +9,12 @@ use Rattle.json.specs.Value.{members_view, value_view}
 use Rattle.json.specs.declared.value.Value.{Value, Object}
 use Rattle.json.proofs.Grammar.{members_end, members_more, read_key-shorter, value-begin_object}
 use Rattle.json.proofs.Trees.{view-Object}
-use Rattle.bucketed_snapshots.specs.declared.BucketedSnapshot.{BucketedSnapshot}
-use Rattle.bucketed_snapshots.specs.declared.BucketRecord.{BucketRecord}
-use Rattle.bucketed_snapshots.specs.declared.BucketShelfRecord.{BucketShelfRecord}
-use Rattle.shelf_snapshots.specs.declared.AtlasSnapshot.{AtlasSnapshot}
-use Rattle.shelf_snapshots.specs.declared.ItemRecord.{ItemRecord}
-use Rattle.shelf_snapshots.specs.declared.ShelfRecord.{ShelfRecord}
+use Rattle.snapshot_records.specs.declared.buckets.BucketedSnapshot.{BucketedSnapshot}
+use Rattle.snapshot_records.specs.declared.buckets.BucketRecord.{BucketRecord}
+use Rattle.snapshot_records.specs.declared.buckets.BucketShelfRecord.{BucketShelfRecord}
+use Rattle.snapshot_records.specs.declared.shelves.AtlasSnapshot.{AtlasSnapshot}
+use Rattle.snapshot_records.specs.declared.shelves.ItemRecord.{ItemRecord}
+use Rattle.snapshot_records.specs.declared.shelves.ShelfRecord.{ShelfRecord}
 use Rattle.saved_json.specs.JsonFields.{field, the_only}
 use Rattle.saved_json.specs.Records.{IsBucket, IsBucketShelf, IsItem, IsShelf}
 use Rattle.saved_json.specs.Private.Held.{AreMembers, Arrays, Opens, Passes, PassesMembers, arrays_of}

@@ -1,10 +1,10 @@
 -- How a JSON value spells each record of a snapshot.
 use Rattle.std.specs.Prelude.{◌≡◌, List, [], ◌∷◌, Some, codes}
 use Rattle.json.specs.Json.{Json, boolean, Items, no_items, item}
-use Rattle.bucketed_snapshots.specs.declared.BucketRecord.{BucketRecord}
-use Rattle.bucketed_snapshots.specs.declared.BucketShelfRecord.{BucketShelfRecord}
-use Rattle.shelf_snapshots.specs.declared.ItemRecord.{ItemRecord}
-use Rattle.shelf_snapshots.specs.declared.ShelfRecord.{ShelfRecord}
+use Rattle.snapshot_records.specs.declared.buckets.BucketRecord.{BucketRecord}
+use Rattle.snapshot_records.specs.declared.buckets.BucketShelfRecord.{BucketShelfRecord}
+use Rattle.snapshot_records.specs.declared.shelves.ItemRecord.{ItemRecord}
+use Rattle.snapshot_records.specs.declared.shelves.ShelfRecord.{ShelfRecord}
 use Rattle.saved_json.specs.JsonFields.{field, natural}
 
 pub record IsItem (json : Json) (item : ItemRecord) : Type 0 where

@@ -2,8 +2,8 @@
 use Rattle.std.specs.Prelude.{◌≡◌, ℕ, Bool, List, Option, Some, IsUtf8, codes}
 use Rattle.json.specs.Json.{Json, array, boolean, document, member, no_members, object, Items}
 use Rattle.etagere_base.specs.declared.geometry.Size.{Size}
-use Rattle.bucketed_snapshots.specs.declared.BucketedSnapshot.{BucketedSnapshot}
-use Rattle.shelf_snapshots.specs.declared.AtlasSnapshot.{AtlasSnapshot}
+use Rattle.snapshot_records.specs.declared.buckets.BucketedSnapshot.{BucketedSnapshot}
+use Rattle.snapshot_records.specs.declared.shelves.AtlasSnapshot.{AtlasSnapshot}
 use Rattle.saved_json.specs.declared.saved.Saved.{Saved}
 use Rattle.saved_json.specs.declared.saved.Saved.TheVariants.{Atlas, Bucketed}
 use Rattle.saved_json.specs.JsonFields.{field, natural, whole}

@@ -8,9 +8,9 @@ ghost use Rattle.json.specs.Value.{value_view};
 ghost use Rattle.saved_json.specs.Records.{IsBucket, IsBucketShelf, IsItem, IsShelf};
 
 use crate::json_fields::{holds_boolean, holds_natural};
-use bucketed_snapshots::{BucketRecord, BucketShelfRecord};
+use snapshot_records::buckets::{BucketRecord, BucketShelfRecord};
 use json::Value;
-use shelf_snapshots::{ItemRecord, ShelfRecord};
+use snapshot_records::shelves::{ItemRecord, ShelfRecord};
 
 /// A record that a JSON value may spell.
 pub trait Spelled {

@@ -6,10 +6,10 @@ ghost use Rattle.std.specs.Prelude.{IfOk, IsTrue};
 ghost use Rattle.json.specs.Value.{value_view};
 
 use crate::records::Spelled;
-use bucketed_snapshots::BucketedSnapshot;
+use snapshot_records::buckets::BucketedSnapshot;
 use json::{Scratch, Value};
 use serde::{Deserialize, Serialize};
-use shelf_snapshots::AtlasSnapshot;
+use snapshot_records::shelves::AtlasSnapshot;
 use std::alloc::Global;
 
 /// What a JSON text may hold, under its one key.

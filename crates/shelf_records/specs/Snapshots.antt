@@ -7,9 +7,9 @@ use Rattle.etagere_base.specs.Sides.{side, swapped_axes}
 use Rattle.shelf_links.specs.declared.records.LinkedItem.{LinkedItem}
 use Rattle.shelf_links.specs.declared.records.LinkedShelf.{LinkedShelf}
 use Rattle.etagere_links.specs.Links.{link_of}
-use Rattle.shelf_snapshots.specs.declared.AtlasSnapshot.{AtlasSnapshot}
-use Rattle.shelf_snapshots.specs.declared.ItemRecord.{ItemRecord}
-use Rattle.shelf_snapshots.specs.declared.ShelfRecord.{ShelfRecord}
+use Rattle.snapshot_records.specs.declared.shelves.AtlasSnapshot.{AtlasSnapshot}
+use Rattle.snapshot_records.specs.declared.shelves.ItemRecord.{ItemRecord}
+use Rattle.snapshot_records.specs.declared.shelves.ShelfRecord.{ShelfRecord}
 use Rattle.shelf_records.specs.AtlasRecords.{AtlasRecords}
 use Rattle.shelf_records.specs.StandsFor.{Keeps}
 

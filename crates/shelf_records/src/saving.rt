@@ -7,7 +7,7 @@ ghost use Rattle.shelf_records.specs.Snapshots as spec;
 
 use etagere_links::Link;
 use shelf_links::{LinkedItem, LinkedShelf};
-use shelf_snapshots::{ItemRecord, ShelfRecord};
+use snapshot_records::shelves::{ItemRecord, ShelfRecord};
 use std::alloc::{AllocError, Global};
 
 /// The item that a saved one stands for.

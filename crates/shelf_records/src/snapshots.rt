@@ -9,7 +9,7 @@ ghost use Rattle.shelf_records.specs.Snapshots.{snapshot_records};
 use crate::saving::{saved_items, saved_shelves};
 use etagere_base::Frame;
 use shelf_links::Records;
-use shelf_snapshots::AtlasSnapshot;
+use snapshot_records::shelves::AtlasSnapshot;
 use std::alloc::AllocError;
 
 /// What an atlas of this frame, these records and this allocated space is saved as.

@@ -15,7 +15,7 @@ use etagere_base::{Frame, LONGEST_SIDE, RestoreFault, Sides, is_frame, side, swa
 use etagere_links::Link;
 use shelf_links::Records;
 use shelf_records::saving::{linked_items, linked_shelves};
-use shelf_snapshots::AtlasSnapshot;
+use snapshot_records::shelves::AtlasSnapshot;
 use std::alloc::{AllocError, Global};
 
 /// No atlas has more records of a kind.

@@ -8,7 +8,7 @@ use Rattle.etagere_base.specs.Sides.{side}
 use Rattle.shelf_model.specs.Fresh.{fresh}
 use Rattle.shelf_model.specs.Listing.{listed}
 use Rattle.shelf_model.specs.State.{AtlasState}
-use Rattle.shelf_snapshots.specs.declared.AtlasSnapshot.{AtlasSnapshot}
+use Rattle.snapshot_records.specs.declared.shelves.AtlasSnapshot.{AtlasSnapshot}
 use Rattle.shelf_records.specs.Snapshots.{snapshot_records}
 use Rattle.shelf_records.specs.StandsFor.{StandsFor}
 use Rattle.run_scripts.specs.declared.commands.AtlasCommand.{AtlasCommand}

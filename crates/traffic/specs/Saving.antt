@@ -2,11 +2,11 @@
 use Rattle.std.specs.Prelude.{List}
 use Rattle.etagere_base.specs.declared.frames.Frame.{Frame}
 use Rattle.bucketed_model.specs.State.{BucketedState}
-use Rattle.bucketed_snapshots.specs.declared.BucketedSnapshot.{BucketedSnapshot}
+use Rattle.snapshot_records.specs.declared.buckets.BucketedSnapshot.{BucketedSnapshot}
 use Rattle.bucketed_records.specs.Restoring as buckets
 use Rattle.bucketed_records.specs.StandsFor as bucket_rules
 use Rattle.shelf_model.specs.State.{AtlasState}
-use Rattle.shelf_snapshots.specs.declared.AtlasSnapshot.{AtlasSnapshot}
+use Rattle.snapshot_records.specs.declared.shelves.AtlasSnapshot.{AtlasSnapshot}
 use Rattle.shelf_records.specs.Snapshots as shelves
 use Rattle.shelf_records.specs.StandsFor as shelf_rules
 use Rattle.run_scripts.specs.declared.commands.AtlasCommand.{AtlasCommand}

@@ -3,7 +3,7 @@ use Rattle.std.specs.Prelude.{◌≡◌, ◌≢◌, ℕ}
 use Rattle.etagere_base.specs.declared.faults.RestoreFault.{RestoreFault}
 use Rattle.etagere_base.specs.declared.faults.RestoreFault.TheVariants as rules
 use Rattle.etagere_base.specs.declared.frames.Frame.{Frame}
-use Rattle.shelf_snapshots.specs.declared.AtlasSnapshot.{AtlasSnapshot}
+use Rattle.snapshot_records.specs.declared.shelves.AtlasSnapshot.{AtlasSnapshot}
 use Rattle.shelf_records.specs.Snapshots.{IsBroken, snapshot_frame, snapshot_records}
 use Rattle.atlas_pages.specs.declared.faults.PagesRestoreFault.{PagesRestoreFault}
 use Rattle.atlas_pages.specs.declared.faults.PagesRestoreFault.TheVariants.{Page, OtherFrame, Memory}

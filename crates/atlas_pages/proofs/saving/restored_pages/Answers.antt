@@ -7,7 +7,7 @@ use Rattle.std.proofs.lemmas.Result.{err_from_is_err_and}
 use Rattle.std.specs.List.{AllByRecursion}
 use Rattle.etagere_base.proofs.EachLemmas.{Each-append}
 use Rattle.shelf_model.specs.State.{AtlasState}
-use Rattle.shelf_snapshots.specs.declared.AtlasSnapshot.{AtlasSnapshot}
+use Rattle.snapshot_records.specs.declared.shelves.AtlasSnapshot.{AtlasSnapshot}
 use Rattle.atlas_pages.specs.Promises.{IsPage}
 use Rattle.atlas_pages.specs.Saved.{EachStandsFor}
 use Rattle.atlas_pages.proofs.SavedLemmas.{refused-broken, stands-more}

@@ -2,7 +2,6 @@
 //!
 //! The fields, their names and their order are those of the format, so they don't change. Which rules a snapshot keeps
 //! is judged where it is restored.
-#![tactic(auto)]
 
 use serde::{Deserialize, Serialize};
 
