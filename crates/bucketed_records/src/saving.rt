@@ -8,8 +8,8 @@ ghost use Rattle.bucketed_records.specs.Private.Store.{shelf_record};
 ghost use Rattle.bucketed_records.specs.Restoring as spec;
 
 use crate::records::{KeptShelf, LinkedBucket, LinkedBucketShelf};
-use snapshot_records::buckets::{BucketRecord, BucketShelfRecord, BucketedSnapshot};
 use etagere_links::Link;
+use snapshot_records::buckets::{BucketRecord, BucketShelfRecord, BucketedSnapshot};
 use std::alloc::{AllocError, Global};
 
 /// A snapshot whose links were read, but not followed.

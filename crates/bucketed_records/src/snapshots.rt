@@ -6,9 +6,9 @@ ghost use Rattle.std.specs.Prelude.{◌≡◌, ◌<◌, ◌^◌, pos, map};
 ghost use Rattle.bucketed_model.specs.Frames.{IsBucketedFrame};
 ghost use Rattle.bucketed_records.specs.Restoring as spec;
 
-use snapshot_records::buckets::{BucketRecord, BucketShelfRecord, BucketedSnapshot};
 use etagere_base::Frame;
 use etagere_links::Link;
+use snapshot_records::buckets::{BucketRecord, BucketShelfRecord, BucketedSnapshot};
 
 /// What an atlas says beside its records: the current column, the height that it leaves, and the space.
 #[derive(Clone, Copy)]

@@ -11,7 +11,7 @@ use Rattle.glyph_shelf.specs.Saved.{CacheStandsFor, IsCacheBroken, without_frame
 use Rattle.glyph_shelf.specs.declared.faults.CacheRestoreFault.{CacheRestoreFault}
 use Rattle.glyph_shelf.specs.declared.faults.CacheRestoreFault.TheVariants as caches
 use Rattle.glyph_shelf.specs.declared.saving.CacheSnapshot.{CacheSnapshot}
-use Rattle.saved_caches.specs.Caches.{SpellsCache}
+use Rattle.saved_collections.specs.Caches.Values.{SpellsCache}
 use Rattle.saved_json.specs.Snapshots.{Spells}
 use Rattle.saved_json.specs.declared.saved.Saved.TheVariants.{Atlas, Bucketed}
 use Rattle.shelf_model.specs.State.{AtlasState}

@@ -7,12 +7,12 @@ ghost use Rattle.glyph_shelf.specs.Promises.{KeepsCachePromises};
 ghost use Rattle.c_answers.specs.Calls.{IsAmong};
 ghost use Rattle.c_answers.specs.Saving.{BreaksCache, IsCacheRestoreStatus, SavesCache, SavesUnframed};
 ghost use Rattle.c_answers.specs.Statuses as statuses;
-ghost use Rattle.saved_caches.specs.Caches.{SpellsCache};
+ghost use Rattle.saved_collections.specs.Caches.Values.{SpellsCache};
 
 use crate::snapshots::boxed;
 use crate::statuses::{UNREADABLE, cache_restore_refused};
 use glyph_shelf::{CacheRestoreFault, CacheSnapshot, GlyphCache};
-use saved_caches::{read_saved_cache, write_saved_cache};
+use saved_collections::caches::{read_saved_cache, write_saved_cache};
 use saved_json::ReadFault;
 use std::alloc::Global;
 

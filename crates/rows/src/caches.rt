@@ -10,7 +10,7 @@ use row_calls::lines::{
     say_number, say_rectangle,
 };
 use row_calls::places::{Called, NotMade};
-use saved_caches::{read_saved_cache, write_saved_cache};
+use saved_collections::caches::{read_saved_cache, write_saved_cache};
 use std::alloc::Global;
 use std::io;
 use std::num::NonZeroUsize;

@@ -1,8 +1,8 @@
 //! Moves of a cache of glyphs into a new atlas.
 
-use cache_moves::{KeyMove, RearrangedCache, UnplacedKey, rearranged_cache};
 use etagere::{OptionsFault, Rectangle, Size};
 use glyph_shelf::GlyphCache;
+use moves::caches::{KeyMove, RearrangedCache, UnplacedKey, rearranged_cache};
 use row_calls::lines::{say, say_bracketed, say_fault, size_of};
 use std::alloc::Global;
 use std::io;

@@ -5,7 +5,7 @@ use atlas_pages::{
     AtlasPages, PageChoice, PageOptions, PagedAllocation, PagesFault, PagesRestoreFault,
 };
 use etagere::{AllocId, AllocatorOptions, DEFAULT_OPTIONS, Rectangle, size2};
-use page_moves::{PageMove, RearrangedPages, rearranged_pages};
+use moves::pages::{PageMove, RearrangedPages, rearranged_pages};
 use page_runs::{PageCommand, PageReply, answer_on_pages};
 use row_calls::lines::{
     id_of, numbers, parted, say, say_given, say_if, say_number, say_rectangle, size_of,

@@ -8,9 +8,9 @@ ghost use Rattle.run_scripts.specs.Lines.{space};
 ghost use Rattle.run_scripts.specs.ReplyText as spec;
 ghost use Rattle.run_scripts.specs.ReplyText.{HasPlaces, IsPlace, TellsPlaces, corners_text, longest_line};
 
+use crate::commands::Reply;
 use crate::short_text::ShortText;
 use etagere_base::{Allocation, Rectangle};
-use crate::commands::Reply;
 use std::marker::Model;
 
 /// How many bytes a line has at most: `placed`, an id of 10 digits, and four places of 11 characters.

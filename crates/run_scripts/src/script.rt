@@ -12,11 +12,11 @@ ghost use Rattle.run_scripts.specs.ScriptReading.{Gives, commands_in};
 ghost use Rattle.run_scripts.specs.Words as words;
 ghost use Rattle.run_scripts.specs.declared.script.ScriptFault.TheVariants.{Memory};
 
+use crate::commands::{AtlasCommand, BucketedCommand};
 use crate::lines::{blank_lines, first_line, line_feeds};
 use crate::plain_lines::plain_command;
 use crate::words::{AtlasKind, Spelled, command_of, header_of};
 use etagere_base::{AllocatorOptions, Size};
-use crate::commands::{AtlasCommand, BucketedCommand};
 use std::alloc::{AllocFailed, Global};
 use std::marker::Model;
 

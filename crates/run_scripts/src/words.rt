@@ -8,10 +8,10 @@ ghost use Rattle.run_scripts.specs.Lines.{words_of};
 ghost use Rattle.run_scripts.specs.Words as spec;
 ghost use Rattle.run_scripts.specs.Private.Arguments.{AreLettered, IsSpelled, Nothing, Number, NumberAndSize, Sized};
 
+use crate::commands::{AtlasCommand, BucketedCommand};
 use crate::lines::split_word;
 use crate::numbers::{natural_of, number_of, position};
 use etagere_base::{AllocatorOptions, Size};
-use crate::commands::{AtlasCommand, BucketedCommand};
 
 /// What kind of atlas a script is for.
 #[derive(Clone, Copy, Debug, PartialEq, Eq)]

@@ -12,8 +12,8 @@ use crate::json_fields::field;
 use crate::records::Spelled;
 use crate::saved::{ReadFault, Saved};
 use crate::snapshots::{has_atlas_fields, has_bucketed_fields};
-use snapshot_records::buckets::BucketedSnapshot;
 use json::{Invalid, Reader, Scratch, Token, Value};
+use snapshot_records::buckets::BucketedSnapshot;
 use snapshot_records::shelves::AtlasSnapshot;
 use std::alloc::Global;
 

@@ -8,8 +8,8 @@ ghost use Rattle.json.specs.Value.{value_view};
 ghost use Rattle.saved_json.specs.Records.{IsBucket, IsBucketShelf, IsItem, IsShelf};
 
 use crate::json_fields::{holds_boolean, holds_natural};
-use snapshot_records::buckets::{BucketRecord, BucketShelfRecord};
 use json::Value;
+use snapshot_records::buckets::{BucketRecord, BucketShelfRecord};
 use snapshot_records::shelves::{ItemRecord, ShelfRecord};
 
 /// A record that a JSON value may spell.

@@ -6,9 +6,9 @@ ghost use Rattle.std.specs.Prelude.{IfOk, IsTrue};
 ghost use Rattle.json.specs.Value.{value_view};
 
 use crate::records::Spelled;
-use snapshot_records::buckets::BucketedSnapshot;
 use json::{Scratch, Value};
 use serde::{Deserialize, Serialize};
+use snapshot_records::buckets::BucketedSnapshot;
 use snapshot_records::shelves::AtlasSnapshot;
 use std::alloc::Global;
 

@@ -10,9 +10,9 @@ ghost use Rattle.saved_json.specs.Snapshots.{HasAtlasFields, HasBucketedFields, 
 
 use crate::json_fields::{field, holds_boolean, holds_natural, holds_whole};
 use crate::records::Spelled;
-use snapshot_records::buckets::BucketedSnapshot;
 use etagere_base::Size;
 use json::Value;
+use snapshot_records::buckets::BucketedSnapshot;
 use snapshot_records::shelves::AtlasSnapshot;
 
 impl Spelled for AtlasSnapshot {

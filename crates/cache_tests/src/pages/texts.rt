@@ -3,7 +3,7 @@
 use crate::assertions::holds;
 use atlas_pages::{AtlasPages, PageChoice, PageOptions, PagesSnapshot};
 use etagere::{DEFAULT_OPTIONS, size2};
-use saved_pages::{read_saved_pages, write_saved_pages};
+use saved_collections::pages::{read_saved_pages, write_saved_pages};
 use std::alloc::Global;
 use std::test::Fail;
 

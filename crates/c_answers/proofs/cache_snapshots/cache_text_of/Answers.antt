@@ -1,6 +1,6 @@
 use Rattle.std.proofs.Common.{rules}
 use Rattle.glyph_shelf.specs.Saved.{CacheStandsFor, without_frame}
-use Rattle.saved_caches.specs.Caches.{SpellsCache}
+use Rattle.saved_collections.specs.Caches.Values.{SpellsCache}
 use Rattle.c_answers.specs.Saving.{SavesUnframed}
 use Rattle.c_answers.proofs.Saving.{ok_is, some_of}
 use Rattle.c_answers.proofs.cache_snapshots.cache_text_of.Goals as goal

@@ -1,0 +1,26 @@
+//! Who asks for a place first: the tallest, as where one atlas moves.
+//!
+//! Definition: `Order`.
+
+ghost use Rattle.std.specs.List.Sorted.{IsPermutation};
+ghost use Rattle.moves.specs.Pages.Order.{AreTallestFirst};
+
+use atlas_pages::PagedAllocation;
+use rearranging::height_across;
+use std::cmp::Reverse;
+
+/// Sorts what is allocated on pages: the tallest first, and of equally tall ones in the order of pages and ids.
+///
+/// Takes no memory. Makes as many comparisons as a sort.
+pub fn sort_tallest_first(places: &mut Vec<PagedAllocation>, vertical: bool)
+    ensures same { IsPermutation places.old.items places.new.items }
+    ensures ordered { AreTallestFirst vertical places.new.items }
+{
+    places.sort_unstable_by_key(|place| {
+        (
+            Reverse(height_across(vertical, place.allocation.rectangle)),
+            place.page,
+            place.allocation.id.serialize(),
+        )
+    });
+}

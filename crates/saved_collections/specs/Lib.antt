@@ -1,0 +1,2 @@
+pub mod Caches
+pub mod Pages
