@@ -90,8 +90,8 @@ fn padded_side(before: u16, after: u16, length: i32) -> Option<i32>
     requires { pos 1 ≤ℤ length }
     ensures { result ≡ private.short_side (spec.padded_side before after length) }
 {
-    let padded = i64::from(length) + i64::from(before) + i64::from(after);
-    if padded > i64::from(LONGEST_SIDE) {
+    let padded = length as i64 + before as i64 + after as i64;
+    if padded > LONGEST_SIDE as i64 {
         return None;
     }
     Some(padded as i32)
