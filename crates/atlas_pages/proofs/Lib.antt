@@ -1,14 +1,15 @@
 pub mod Accepted
 pub mod ByRule
 pub mod Chosen
+pub mod Fullest
 pub mod Keeping
 pub mod KeptBefore
 pub mod PaddedLemmas
 pub mod PageLists
-pub mod Fullest
 pub mod PageSpaces
 pub mod PictureLemmas
 pub mod Ready
+pub mod Runs
 pub mod SavedLemmas
 pub mod Used
 pub mod WorkedRows

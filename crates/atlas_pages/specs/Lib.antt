@@ -8,4 +8,5 @@ pub mod Picture
 pub mod Places
 pub mod Private
 pub mod Promises
+pub mod Runs
 pub mod Saved

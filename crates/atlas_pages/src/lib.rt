@@ -4,7 +4,8 @@
 //! `pages` has the public calls, `padded` those of pages with a padding, `open_pages` what calls do to the atlases of
 //! the open pages, `choosing` the search for the fullest page, `listing` and `padded_listing` the iterators, `picture`
 //! all pages side by side, `saving` what pages are saved as, `options` how pages are made and chosen, `places` what a
-//! size gets, `faults` why there are no such pages. `laws` states the rules of the choice and of snapshots.
+//! size gets, `faults` why there are no such pages. `laws` states the rules of the choice and of snapshots, and `runs`
+//! answers commands on pages.
 #![tactic(auto)]
 
 mod choosing;
@@ -18,6 +19,7 @@ mod padded_listing;
 mod pages;
 mod picture;
 mod places;
+pub mod runs;
 mod saving;
 
 pub use faults::{FewerPages, PagesFault, PagesRestoreFault};

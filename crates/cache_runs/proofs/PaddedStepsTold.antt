@@ -18,7 +18,7 @@ use Rattle.glyph_shelf.specs.declared.faults.GlyphFault.{GlyphFault}
 use Rattle.glyph_shelf.specs.declared.faults.GlyphFault.TheVariants.{TooLarge, Memory, FrameFull}
 use Rattle.glyph_shelf.specs.declared.cache.Placed.{Placed}
 use Rattle.glyph_shelf.proofs.Callers.{entries-after_dropping}
-use Rattle.used_keys.proofs.Entries.{removed-unknown}
+use Rattle.glyph_shelf.proofs.UsedKeys.Entries.{removed-unknown}
 use Rattle.padded_cache.specs.Padded.{PaddedCacheState, trimmed_entry, trimmed_list}
 use Rattle.cache_runs.specs.Dropping.{is_one_of}
 use Rattle.cache_runs.specs.declared.padded_calls.PaddedCall.{PaddedCall}

@@ -7,7 +7,7 @@ use Rattle.std.specs.Prelude.{nat_eq}
 use Rattle.lru.specs.LruCache.{last_entry}
 use Rattle.etagere_base.specs.declared.geometry.Size.{Size}
 use Rattle.atlas_pages.specs.declared.places.PagedAllocation.{PagedAllocation}
-use Rattle.used_keys.proofs.Entries.{last-none}
+use Rattle.glyph_shelf.proofs.UsedKeys.Entries.{last-none}
 use Rattle.glyph_map.proofs.Found.{none-removed}
 use Rattle.paged_cache.specs.Held.{GivesPlace, has_page, place_returned}
 use Rattle.paged_cache.specs.Keyed.{RanOut, after_dropping, place_at}

@@ -6,7 +6,7 @@ use Rattle.std.specs.Map.{lookup, lookup_entry, remove_entry}
 use Rattle.std.specs.Option.{option_map_or}
 use Rattle.std.specs.Prelude.{nat_eq, option_map}
 use Rattle.lru.specs.LruCache.{promoted}
-use Rattle.used_keys.proofs.Entries.{lookup-entry}
+use Rattle.glyph_shelf.proofs.UsedKeys.Entries.{lookup-entry}
 
 module _ {K X Y : Type 0} (show : X → Y) where
   abbrev pub shown : K × X → K × Y

@@ -11,7 +11,7 @@ ghost use Rattle.shelf_records.specs.Private.Kept.{AreKept, state_of};
 ghost use Rattle.shelf_records.specs.Private.Reading as reading;
 
 use etagere_base::{AllocId, Allocation, Frame, INDEX_MODULUS};
-use shelf_links::{LinkedItem, Records};
+use shelf_records::{LinkedItem, Records};
 use shelf_store::looking::recorded_rectangle;
 use std::alloc::AllocError;
 use std::iter::FusedIterator;

@@ -5,7 +5,7 @@
 
 ghost use Rattle.std.specs.Prelude.{◌≡◌, ◌+◌, ◌*◌, ◌≤◌, IfErr, IfOk, OnOk, length};
 ghost use Rattle.etagere_base.specs.Frames.{HasAllColumns, IsFrame, longest_side};
-ghost use Rattle.shelf_links.specs.RecordLists.{shelf_walk};
+ghost use Rattle.shelf_records.specs.RecordLists.{shelf_walk};
 ghost use Rattle.shelf_model.specs.Atlas.{KeepsPromises};
 ghost use Rattle.shelf_heights.specs.Private.ByHeight.{AreByHeight};
 ghost use Rattle.shelf_records.specs.AtlasRecords.{state_spelled};
@@ -19,13 +19,13 @@ ghost use Rattle.shelf_model.specs.State.{items_in_use};
 use crate::atlas::AtlasAllocator;
 use etagere_base::{Frame, RestoreFault};
 use shelf_heights::by_height::ShelvesByHeight;
-use shelf_links::Records;
+use shelf_records::Records;
 use shelf_restoring::loaded_atlas::LoadedAtlas;
 use shelf_restoring::rules::judge_rules;
 use shelf_restoring::walked_lists::walked_shelves;
 use shelf_restoring::walking::{WalkedRecords, walk_records};
-use snapshot_records::shelves::AtlasSnapshot;
 use shelf_store::starting::newly_bounded;
+use snapshot_records::shelves::AtlasSnapshot;
 use std::alloc::{AllocError, Global};
 
 /// The shelves in use, by height, where walks have met them.

@@ -5,14 +5,14 @@ use Rattle.etagere_base.specs.declared.geometry.Size.{Size}
 use Rattle.etagere_base.specs.declared.options.AllocatorOptions.{AllocatorOptions}
 use Rattle.etagere_base.specs.Frames.{IsAccepted}
 use Rattle.run_scripts.specs.declared.commands.Reply.{Reply}
-use Rattle.run_answers.specs.Laws.{without_number}
-use Rattle.run_answers.specs.Leading.{HasMemory}
+use Rattle.etagere_run.specs.Answers.Laws.{without_number}
+use Rattle.etagere_run.specs.Answers.Leading.{HasMemory}
 use Rattle.run_scripts.specs.Script.{Commands, OfBuckets, OfShelves, Request, script_of}
 use Rattle.run_scripts.proofs.ShortHeader.{script-short}
 use Rattle.run_scripts.proofs.ShortNumbers.{IsShort}
 use Rattle.etagere_run.specs.Drawing.{IsDrawingOf, ShowsEnd}
 use Rattle.etagere_run.specs.Replaying.{IsRunOf, RepliesTo, longest_asked}
-use Rattle.run_answers.proofs.TwoRuns.{atlas-runs-differ, bucketed-runs-differ}
+use Rattle.etagere_run.proofs.Answers.TwoRuns.{atlas-runs-differ, bucketed-runs-differ}
 
 -- an input spells one request
 one-request : (input : List ℕ) (one other : Request) → script_of input ≡ Ok one → script_of input ≡ Ok other → other ≡ one

@@ -1,5 +1,6 @@
-pub mod Pictures
+pub mod Answers
 pub mod InputsDecide
+pub mod Pictures
 pub mod ReplayAnswers
 pub mod RightAnswers
 pub mod SavedDrawings

@@ -8,9 +8,9 @@ use Rattle.bucketed_model.specs.State.{BucketedState}
 use Rattle.bucketed_model.specs.Svg as buckets
 use Rattle.run_scripts.specs.declared.commands.AtlasCommand.{AtlasCommand}
 use Rattle.run_scripts.specs.declared.commands.BucketedCommand.{BucketedCommand}
-use Rattle.run_answers.specs.AtlasRuns.{shelf_atlas}
-use Rattle.run_answers.specs.BucketedRuns.{bucketed_atlas}
-use Rattle.run_answers.specs.Leading.{LeadsTo}
+use Rattle.etagere_run.specs.Answers.AtlasRuns.{shelf_atlas}
+use Rattle.etagere_run.specs.Answers.BucketedRuns.{bucketed_atlas}
+use Rattle.etagere_run.specs.Answers.Leading.{LeadsTo}
 use Rattle.etagere_run.specs.Drawing.{IsPictureOf, ShowsEnd}
 use Rattle.etagere_run.specs.Replaying.{longest_asked}
 use Rattle.run_scripts.specs.Script.{Commands, OfBuckets, OfShelves, Request}

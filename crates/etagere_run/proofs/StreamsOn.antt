@@ -8,13 +8,13 @@ use Rattle.etagere_base.specs.declared.frames.Frame.{Frame}
 use Rattle.pictures.specs.Sending.{AppendsBeginning, AppendsPart}
 use Rattle.pictures.proofs.GatheringLemmas.{appends-both, appends-nothing, begins-behind, begins-first}
 use Rattle.run_scripts.specs.declared.commands.Reply.{Reply}
-use Rattle.run_answers.specs.Live.{Entry}
+use Rattle.etagere_run.specs.Answers.Live.{Entry}
 use Rattle.run_scripts.specs.Lines.{line_feed}
 use Rattle.run_scripts.specs.ReplyText.{line_of, replies_text, text_of}
-use Rattle.run_answers.specs.Runs.{Kind, RunKeepsPromisesThroughout}
+use Rattle.etagere_run.specs.Answers.Runs.{Kind, RunKeepsPromisesThroughout}
 use Rattle.etagere_run.specs.Streaming.{IsTextOfRun, StopsAt, StreamsBeginning}
-use Rattle.run_answers.specs.Private.Tied.{IsAnswerOf, SameAlignments, SuitsRuns}
-use Rattle.run_answers.proofs.RunsOn.{GoesOn, IsUnderWay, can_go_on, ends, goes_on, starts}
+use Rattle.etagere_run.specs.Answers.Private.Tied.{IsAnswerOf, SameAlignments, SuitsRuns}
+use Rattle.etagere_run.proofs.Answers.RunsOn.{GoesOn, IsUnderWay, can_go_on, ends, goes_on, starts}
 
 -- the text of a front and a back, and of one reply more
 text-append : (front back : List Reply) → replies_text (front ++ back) ≡ replies_text front ++ replies_text back

@@ -17,12 +17,12 @@ use Rattle.run_scripts.specs.declared.faults.Outcome.{Outcome}
 use Rattle.run_scripts.specs.declared.faults.Outcome.TheVariants.{Done, BadLine, Options}
 use Rattle.run_scripts.specs.declared.faults.ReplayFault.{ReplayFault}
 use Rattle.run_scripts.specs.declared.faults.ReplayFault.TheVariants.{Read, Write, Memory}
-use Rattle.run_answers.specs.AtlasRuns.{shelf_atlas}
-use Rattle.run_answers.specs.BucketedRuns.{bucketed_atlas}
+use Rattle.etagere_run.specs.Answers.AtlasRuns.{shelf_atlas}
+use Rattle.etagere_run.specs.Answers.BucketedRuns.{bucketed_atlas}
 use Rattle.etagere_run.specs.Replaying.{HasFault, longest_asked}
 use Rattle.run_scripts.specs.ReplyText.{options_text}
-use Rattle.run_answers.specs.Leading.{LeadsTo}
-use Rattle.run_answers.specs.Runs.{Kind}
+use Rattle.etagere_run.specs.Answers.Leading.{LeadsTo}
+use Rattle.etagere_run.specs.Answers.Runs.{Kind}
 use Rattle.etagere_run.specs.Saved.{MayAnswer, ShowsSaved}
 use Rattle.run_scripts.specs.Script.{Commands, OfBuckets, OfShelves, Request, script_of}
 use Rattle.saved_json.specs.declared.saved.Saved.{Saved}

@@ -2,8 +2,8 @@
 use Rattle.std.specs.Prelude.{◌≡◌, ℕ, All, List, map}
 use Rattle.etagere_run.specs.Drawing.{IsDrawingOf}
 use Rattle.etagere_run.specs.Replaying.{IsRunOf}
-use Rattle.run_answers.specs.Laws.{without_number}
-use Rattle.run_answers.specs.Leading.{HasMemory}
+use Rattle.etagere_run.specs.Answers.Laws.{without_number}
+use Rattle.etagere_run.specs.Answers.Leading.{HasMemory}
 
 -- what two replays of an input answer, neither refused memory, is the same but for the numbers of ids
 abbrev pub ReplaysDifferInIds : Type 0

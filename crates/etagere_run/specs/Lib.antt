@@ -1,3 +1,4 @@
+pub mod Answers
 pub mod Checking
 pub mod Drawing
 pub mod Laws

@@ -13,10 +13,10 @@ use Rattle.run_scripts.specs.declared.faults.Outcome.{Outcome}
 use Rattle.run_scripts.specs.declared.faults.Outcome.TheVariants.{Done, BadLine, Options}
 use Rattle.run_scripts.specs.declared.faults.ReplayFault.{ReplayFault}
 use Rattle.run_scripts.specs.declared.faults.ReplayFault.TheVariants.{Read, Write, Memory}
-use Rattle.run_answers.specs.AtlasRuns.{shelf_atlas}
-use Rattle.run_answers.specs.BucketedRuns.{bucketed_atlas}
+use Rattle.etagere_run.specs.Answers.AtlasRuns.{shelf_atlas}
+use Rattle.etagere_run.specs.Answers.BucketedRuns.{bucketed_atlas}
 use Rattle.run_scripts.specs.ReplyText.{bad_line_text, options_text, replies_text}
-use Rattle.run_answers.specs.Runs.{RunKeepsPromisesThroughout, RunsTo}
+use Rattle.etagere_run.specs.Answers.Runs.{RunKeepsPromisesThroughout, RunsTo}
 use Rattle.run_scripts.specs.Script.{Commands, OfBuckets, OfShelves, Request, script_of}
 
 -- the longest side that an atlas may have that is asked these

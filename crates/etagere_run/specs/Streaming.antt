@@ -7,7 +7,7 @@ use Rattle.run_scripts.specs.declared.commands.Reply.{Reply}
 use Rattle.run_scripts.specs.declared.faults.StreamFault.{StreamFault}
 use Rattle.run_scripts.specs.declared.faults.StreamFault.TheVariants.{Options, Memory, Write}
 use Rattle.run_scripts.specs.ReplyText.{line_of, replies_text}
-use Rattle.run_answers.specs.Runs.{Kind, Runs, RunKeepsPromisesThroughout}
+use Rattle.etagere_run.specs.Answers.Runs.{Kind, Runs, RunKeepsPromisesThroughout}
 
 -- a text is that of the replies of a run of a new atlas, which answers all commands, keeps its promises at each moment,
 -- and leads to this state

@@ -9,10 +9,10 @@ ghost use Rattle.etagere_run.specs.Drawing.{Draws, is_snapshot};
 ghost use Rattle.etagere_run.specs.Private.Drawn.{DrawsEnd, DrawsInput, DrawsSaved, DrawsScript, DrawsSnapshot};
 ghost use Rattle.run_scripts.specs.Script.{script_of};
 
+use crate::answers::leading::atlas_after;
 use crate::saved::refusal;
 use etagere::{AtlasAllocator, OptionsFault};
 use etagere_bucketed::BucketedAtlasAllocator;
-use run_answers::leading::atlas_after;
 use run_scripts::faults::{Checked, Drawing, Outcome, ReplayFault, RunFault};
 use run_scripts::reading::read_all;
 use run_scripts::script::{Commands, Script, ScriptFault, read_script};

@@ -9,17 +9,17 @@ ghost use Rattle.std.specs.Prelude.{◌≡◌, ℕ, List, Err, length, IfErr, On
 ghost use Rattle.std.specs.Io.KnownBytes.{Appends};
 ghost use Rattle.etagere_base.specs.Frames.{IsAccepted, atlas_frame, longest_side};
 ghost use Rattle.bucketed_model.specs.Frames.{bucketed_frame, longest_bucketed_side};
-ghost use Rattle.run_answers.specs.AtlasRuns.{shelf_atlas};
-ghost use Rattle.run_answers.specs.BucketedRuns.{bucketed_atlas};
+ghost use Rattle.etagere_run.specs.Answers.AtlasRuns.{shelf_atlas};
+ghost use Rattle.etagere_run.specs.Answers.BucketedRuns.{bucketed_atlas};
 ghost use Rattle.etagere_run.specs.Streaming.{IsTextOfRun, Stops, StopsAt, Streams, StreamsBeginning};
 ghost use Rattle.run_scripts.specs.Faults.{RefusesStream};
-ghost use Rattle.run_answers.specs.Private.Rooms.{IsEmptyLedger};
-ghost use Rattle.run_answers.specs.Private.Tied.{IsNew, SuitsRuns};
+ghost use Rattle.etagere_run.specs.Answers.Private.Rooms.{IsEmptyLedger};
+ghost use Rattle.etagere_run.specs.Answers.Private.Tied.{IsNew, SuitsRuns};
 
+use crate::answers::ledger::Ledger;
+use crate::answers::running::{Answering, Beginning, answer_next};
 use etagere::{AllocatorOptions, AtlasAllocator, Size};
 use etagere_bucketed::BucketedAtlasAllocator;
-use run_answers::ledger::Ledger;
-use run_answers::running::{Answering, Beginning, answer_next};
 use run_scripts::commands::{AtlasCommand, BucketedCommand};
 use run_scripts::faults::StreamFault;
 use run_scripts::reply_text::{Line, line_of};

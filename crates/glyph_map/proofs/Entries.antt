@@ -4,7 +4,7 @@ use Rattle.std.specs.Map.{lookup, lookup_entry, remove_entry}
 use Rattle.std.specs.Option.{option_map_or}
 use Rattle.std.specs.Prelude.{option_map}
 use Rattle.lru.specs.LruCache.{LruCache, put_entries}
-use Rattle.used_keys.proofs.Entries.{lookup-entry}
+use Rattle.glyph_shelf.proofs.UsedKeys.Entries.{lookup-entry}
 
 module _ {K X : Type 0} where
   -- what is found has a key

@@ -6,7 +6,7 @@ use Rattle.std.specs.Map.{keys_of, lookup, lookup_entry, remove_entry}
 use Rattle.std.specs.Option.{option_map_or}
 use Rattle.std.specs.Prelude.{is_some, nat_eq, option_map}
 use Rattle.lru.specs.LruCache.{promoted}
-use Rattle.used_keys.specs.Keys.{uses_with, uses_without}
+use Rattle.glyph_shelf.specs.UsedKeys.Keys.{uses_with, uses_without}
 use Rattle.shelf_model.specs.Returning.{returned}
 use Rattle.etagere_base.specs.Lists.{times}
 use Rattle.etagere_base.specs.declared.ids.Allocation.{Allocation}
@@ -16,7 +16,7 @@ use Rattle.glyph_map.specs.Calls.{asked, revalued, seen, seen_at, used, with_val
 use Rattle.glyph_map.specs.State.{Held, MapState, cache_by, of_cache}
 use Rattle.glyph_map.specs.Private.Lockstep.{joined, tickets_of}
 use Rattle.glyph_map.specs.declared.ticketed.Ticketed.{Ticketed}
-use Rattle.used_keys.proofs.Entries.{entry-none, lookup-entry}
+use Rattle.glyph_shelf.proofs.UsedKeys.Entries.{entry-none, lookup-entry}
 use Rattle.glyph_map.proofs.Entries.{entry-passes}
 use Rattle.glyph_map.proofs.Joined.{AreInStep, map_of, rest-in_step}
 use Rattle.glyph_map.proofs.Unused.{known-stands}

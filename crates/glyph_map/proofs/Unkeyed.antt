@@ -7,7 +7,7 @@ use Rattle.std.specs.Prelude.{is_some, nat_lt, option_map}
 use Rattle.std.proofs.lemmas.List.{length-map, length-reverse, length-take, map-append, reverse-append, take-map}
 use Rattle.std.proofs.lemmas.Option.{slice_get-map}
 use Rattle.lru.specs.LruCache.{last_entry}
-use Rattle.used_keys.specs.Keys.{uses_left}
+use Rattle.glyph_shelf.specs.UsedKeys.Keys.{uses_left}
 use Rattle.shelf_model.specs.Choice.{placement_of}
 use Rattle.shelf_model.specs.Returning.{returned}
 use Rattle.etagere_base.specs.declared.geometry.Rectangle.{Rectangle}

@@ -12,13 +12,13 @@ use Rattle.etagere_base.specs.declared.ids.Allocation.{Allocation}
 use Rattle.shelf_model.specs.Choice.{placement_of}
 use Rattle.shelf_model.specs.Returning.{returned}
 use Rattle.shelf_model.specs.State.{AtlasState}
-use Rattle.used_keys.specs.Keys.{stands_first, uses_left, uses_with, uses_without}
+use Rattle.glyph_shelf.specs.UsedKeys.Keys.{stands_first, uses_left, uses_with, uses_without}
 use Rattle.glyph_shelf.specs.Cache.{CacheState, after_dropping, dropped_keys, rectangle_at, used, without_key, without_last}
 use Rattle.glyph_shelf.specs.Placing.{has_room}
 use Rattle.glyph_run.proofs.EntriesTold.{held_by, removed-held}
-use Rattle.run_answers.specs.Private.Renamed.{renamed, renamed_allocation}
-use Rattle.run_answers.proofs.Renamed.RenamedChoice.{map-agree, placement_of-renamed}
-use Rattle.run_answers.proofs.Renamed.RenamedReturns.{returned-renamed}
+use Rattle.etagere_run.specs.Answers.Private.Renamed.{renamed, renamed_allocation}
+use Rattle.etagere_run.proofs.Answers.Renamed.RenamedChoice.{map-agree, placement_of-renamed}
+use Rattle.etagere_run.proofs.Answers.Renamed.RenamedReturns.{returned-renamed}
 
 -- entries and a cache whose ids have other numbers
 abbrev pub renamed_entries : (ℕ → ℕ) → List (ℕ × Allocation) → List (ℕ × Allocation)

@@ -36,11 +36,11 @@ use Rattle.glyph_run.proofs.EntriesTold.{entry-found, held_by}
 use Rattle.glyph_run.proofs.RenamedCaches.{dropped-renamed, dropping-renamed, lookup-renamed, rectangle-renamed, renamed_cache, renamed_entries, room-renamed, same-cache, used-renamed, without_key-renamed}
 use Rattle.run_scripts.specs.Lines.{line_feed}
 use Rattle.run_scripts.specs.ReplyText.{corners_text}
-use Rattle.run_answers.specs.Private.Renamed.{renamed, renamed_allocation}
-use Rattle.run_answers.proofs.Renamed.NewNames.{HasNewName, new-name}
-use Rattle.run_answers.proofs.Renamed.RenamedChoice.{placement_of-renamed}
-use Rattle.run_answers.proofs.Renamed.RenamedGrow.{fresh-renamed}
-use Rattle.run_answers.proofs.Renamed.RenamedTaking.{taken-renamed}
+use Rattle.etagere_run.specs.Answers.Private.Renamed.{renamed, renamed_allocation}
+use Rattle.etagere_run.proofs.Answers.Renamed.NewNames.{HasNewName, new-name}
+use Rattle.etagere_run.proofs.Answers.Renamed.RenamedChoice.{placement_of-renamed}
+use Rattle.etagere_run.proofs.Answers.Renamed.RenamedGrow.{fresh-renamed}
+use Rattle.etagere_run.proofs.Answers.Renamed.RenamedTaking.{taken-renamed}
 
 -- two caches are the same, but that ids have other numbers
 pub record AreAlike (one other : CacheState) : Type 0 where

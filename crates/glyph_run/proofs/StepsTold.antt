@@ -4,7 +4,7 @@ use Rattle.std.proofs.lemmas.List.{length-map, length-reverse, length-take, take
 use Rattle.std.specs.Map.{keys_of, lookup, remove_entry}
 use Rattle.std.specs.Option.{option_map_or}
 use Rattle.std.specs.Prelude.{nat_eq, option_map}
-use Rattle.used_keys.specs.Keys.{uses_without}
+use Rattle.glyph_shelf.specs.UsedKeys.Keys.{uses_without}
 use Rattle.shelf_model.specs.Atlas.{Allocates}
 use Rattle.shelf_model.specs.Returning.{returned}
 use Rattle.shelf_model.specs.State.{AtlasState}
@@ -22,7 +22,7 @@ use Rattle.glyph_run.specs.declared.commands.GlyphReply.{GlyphReply}
 use Rattle.glyph_run.specs.declared.commands.GlyphReply.TheVariants.{Placed, TooLarge, NoMemory, At, Removed, NotThere, Cleared, Begun, FrameFull}
 use Rattle.glyph_run.specs.Runs.{GlyphStep, PlacesNew, rectangles, told_after, without}
 use Rattle.glyph_run.proofs.EntriesTold.{entry-found, held_by, removed-held, without-held, without-last}
-use Rattle.used_keys.proofs.Entries.{removed-unknown}
+use Rattle.glyph_shelf.proofs.UsedKeys.Entries.{removed-unknown}
 
 -- the rectangle of an allocation
 abbrev rectangle_of : Allocation → Rectangle

@@ -5,7 +5,7 @@
 ghost use Rattle.std.specs.Prelude.{◌≡◌, ◌≤◌, [], length, vec_capacity, IfOk, IfErr, OnOk};
 ghost use Rattle.std.specs.NonZero.{non_zero_usize_get};
 ghost use Rattle.etagere_base.specs.Frames.{IsAccepted, atlas_frame, longest_side};
-ghost use Rattle.run_answers.specs.Runs.{RefusesRun};
+ghost use Rattle.etagere_run.specs.Answers.Runs.{RefusesRun};
 ghost use Rattle.glyph_shelf.specs.Cache.{empty_cache};
 ghost use Rattle.glyph_shelf.specs.Promises.{KeepsCachePromises};
 ghost use Rattle.glyph_run.specs.Runs.{RunKeepsPromisesThroughout, RunsTo};

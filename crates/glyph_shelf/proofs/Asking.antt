@@ -14,12 +14,12 @@ use Rattle.etagere_base.specs.declared.geometry.Rectangle.{Rectangle}
 use Rattle.etagere_base.specs.declared.ids.Allocation.{Allocation}
 use Rattle.shelf_model.specs.Returning.{returned}
 use Rattle.shelf_model.specs.State.{AtlasState}
-use Rattle.used_keys.specs.Keys.{stands_first, uses_in, uses_left, uses_with, uses_without}
+use Rattle.glyph_shelf.specs.UsedKeys.Keys.{stands_first, uses_in, uses_left, uses_with, uses_without}
 use Rattle.glyph_shelf.specs.Cache.{CacheState, frame_uses, in_new_frame, listed, used, without_key, without_last}
 use Rattle.glyph_shelf.specs.Private.Asking.{Asks, AsksInTurn, turned}
 use Rattle.glyph_shelf.specs.Retaining.{Retains, refused_keys, without_keys}
 use Rattle.glyph_shelf.proofs.Callers.{length-without_last}
-use Rattle.used_keys.proofs.Entries.{unknown-take}
+use Rattle.glyph_shelf.proofs.UsedKeys.Entries.{unknown-take}
 
 abbrev Entries : Type 0
 Entries = List (ℕ × Allocation)

@@ -5,12 +5,12 @@ use Rattle.std.specs.Map.{keys_of}
 use Rattle.std.specs.Option.{option_map_or}
 use Rattle.std.proofs.lemmas.List.{length-drop, length-map, length-reverse, length-take, map-append, reverse-append, take-append-drop, take-take, take_all, take_at}
 use Rattle.lru.specs.LruCache.{last_entry}
-use Rattle.used_keys.specs.Keys.{uses_left}
+use Rattle.glyph_shelf.specs.UsedKeys.Keys.{uses_left}
 use Rattle.shelf_model.specs.Returning.{returned}
 use Rattle.etagere_base.specs.declared.ids.Allocation.{Allocation}
 use Rattle.glyph_shelf.specs.Cache.{CacheState, after_dropping, dropped_keys, without_last}
-use Rattle.used_keys.proofs.Entries.{last-none}
-pub use Rattle.used_keys.proofs.Entries.{unknown-take}
+use Rattle.glyph_shelf.proofs.UsedKeys.Entries.{last-none}
+pub use Rattle.glyph_shelf.proofs.UsedKeys.Entries.{unknown-take}
 pub use Rattle.glyph_shelf.proofs.Keeping.{keeps, keeps-entered, keeps-key_returned, keeps-used, keeps-without_last, looked-unknown, unknown-rectangle, without_key-unknown}
 
 -- a cache without its last entry has the same frame and capacity, and one entry less

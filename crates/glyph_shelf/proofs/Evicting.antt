@@ -7,7 +7,7 @@ use Rattle.std.proofs.lemmas.Bool.Decides.{nat_tests}
 use Rattle.std.proofs.lemmas.List.{length-append, map-append, reverse-append}
 use Rattle.std.proofs.Math.Seq.{take-append_seam}
 use Rattle.lru.specs.LruCache.{last_entry}
-use Rattle.used_keys.specs.Keys.{uses_left}
+use Rattle.glyph_shelf.specs.UsedKeys.Keys.{uses_left}
 use Rattle.shelf_model.proofs.Callers.{tied-empty}
 use Rattle.shelf_model.specs.Callers.{AreTied}
 use Rattle.shelf_model.specs.Choice.{placement_of}
@@ -23,7 +23,7 @@ use Rattle.glyph_shelf.specs.Cache.{CacheState, after_dropping, dropped_keys, ev
 use Rattle.glyph_shelf.specs.Placing.{Enters, IsEvictionCount, MakesRoom, Places, RanOut, SameLayout, has_room}
 use Rattle.glyph_shelf.specs.Promises.{KeepsCachePromises}
 use Rattle.glyph_shelf.proofs.Callers.{frame-after_dropping, frame-without_last, length-after_dropping, length-without_last}
-use Rattle.used_keys.proofs.Entries.{last-none, last-split, unknown-take}
+use Rattle.glyph_shelf.proofs.UsedKeys.Entries.{last-none, last-split, unknown-take}
 use Rattle.glyph_shelf.proofs.Keeping.{keeps-without_last}
 
 -- an empty atlas of the frame has a place for the size

@@ -7,7 +7,7 @@ use Rattle.std.specs.Map.{lookup, remove_entry}
 use Rattle.std.specs.Option.{option_map_or}
 use Rattle.std.specs.Prelude.{cond, is_some, nat_eq, nat_lt, option_map}
 use Rattle.etagere_base.specs.declared.ids.Allocation.{Allocation}
-use Rattle.used_keys.specs.Keys.{KeysState, stands_first, uses_in, uses_left, uses_with, uses_without, without}
+use Rattle.glyph_shelf.specs.UsedKeys.Keys.{KeysState, stands_first, uses_in, uses_left, uses_with, uses_without, without}
 
 -- a key that is there, and not among the first, stands behind them
 behind : (key : ℕ) (es : List (ℕ × Allocation)) (a : Allocation) (count : ℕ) → lookup (nat_eq key) es ≡ Some a

@@ -12,13 +12,13 @@ use Rattle.shelf_model.specs.State.{AtlasState}
 use Rattle.etagere_base.specs.declared.geometry.Rectangle.{Rectangle}
 use Rattle.etagere_base.specs.declared.geometry.Size.{Size}
 use Rattle.etagere_base.specs.declared.ids.Allocation.{Allocation}
-use Rattle.used_keys.specs.declared.stamps.Entry.{Entry}
-use Rattle.used_keys.specs.Private.Stamps.{unstamped}
+use Rattle.glyph_shelf.specs.declared.used_keys.stamps.Entry.{Entry}
+use Rattle.glyph_shelf.specs.UsedKeys.Private.Stamps.{unstamped}
 use Rattle.glyph_shelf.specs.Cache.{CacheState, after_dropping, evictable, frame_uses}
 use Rattle.glyph_shelf.specs.Placing.{IsFrameFull, LacksRoom, MakesRoom, Places, has_room}
 use Rattle.glyph_shelf.specs.Promises.{KeepsCachePromises}
 use Rattle.glyph_shelf.proofs.Callers.{capacity-after_dropping, length-after_dropping}
-use Rattle.used_keys.proofs.Entries.{last-among}
+use Rattle.glyph_shelf.proofs.UsedKeys.Entries.{last-among}
 use Rattle.glyph_shelf.proofs.Evicting.{Fits, HasEvicted, all-make_room, below_next, keeps-after_dropping, without_last-some}
 use Rattle.glyph_shelf.proofs.Keeping.{kept-allocated}
 

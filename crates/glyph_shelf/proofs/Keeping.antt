@@ -18,10 +18,10 @@ use Rattle.shelf_model.specs.State.{AtlasState}
 use Rattle.shelf_model.proofs.Callers.{found-allocated, not_allocated-any, promises-returned, returned-allocated, tied-added, tied-apart, tied-each, tied-returned}
 use Rattle.glyph_shelf.specs.Cache.{CacheState, frame_uses, kept_allocations, rectangle_at, used, without_key, without_last}
 use Rattle.glyph_shelf.specs.Promises.{KeepsCachePromises}
-use Rattle.used_keys.specs.Keys.{uses_in, uses_left, uses_without}
-use Rattle.used_keys.proofs.Entries.{Among, found-among, last-among, length-removed, promoted-known, promoted-unknown, unknown-take}
+use Rattle.glyph_shelf.specs.UsedKeys.Keys.{uses_in, uses_left, uses_without}
+use Rattle.glyph_shelf.proofs.UsedKeys.Entries.{Among, found-among, last-among, length-removed, promoted-known, promoted-unknown, unknown-take}
 use Rattle.glyph_shelf.proofs.FrameUses.{few-entered, few-left, few-with, few-without, with-unknown}
-use Rattle.used_keys.proofs.KeyCounts.{times-entered, times-last, times-promoted, times-removed}
+use Rattle.glyph_shelf.proofs.UsedKeys.KeyCounts.{times-entered, times-last, times-promoted, times-removed}
 use Rattle.glyph_shelf.proofs.Tying.{first-added, tied-front}
 
 -- a cache by its parts

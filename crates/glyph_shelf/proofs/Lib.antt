@@ -1,5 +1,4 @@
 mod Asking
-pub mod Callers
 mod Evicting
 mod Fitting
 mod FrameUses
@@ -10,3 +9,5 @@ mod SavedLemmas
 mod Shrinking
 mod Tying
 mod WorkedRows
+pub mod Callers
+pub mod UsedKeys

@@ -15,7 +15,7 @@ use Rattle.shelf_model.specs.Places.{allocations, is_allocated, rectangle_of}
 use Rattle.shelf_model.specs.State.{AtlasState}
 use Rattle.shelf_records.specs.Snapshots.{snapshot_records}
 use Rattle.shelf_records.specs.StandsFor.{StandsFor}
-use Rattle.used_keys.specs.Keys.{KeysState, no_keys, uses_in}
+use Rattle.glyph_shelf.specs.UsedKeys.Keys.{KeysState, no_keys, uses_in}
 use Rattle.glyph_shelf.specs.Cache.{CacheState, frame_uses}
 use Rattle.glyph_shelf.specs.Private.Restoring.{AreKeysRefused, AreRestored, EntersSaved, IsKeyRefused, ids_in, keys_in}
 use Rattle.glyph_shelf.specs.Saved.{CacheStandsFor, saved_key}
@@ -23,7 +23,7 @@ use Rattle.glyph_shelf.specs.declared.faults.CacheRestoreFault.{CacheRestoreFaul
 use Rattle.glyph_shelf.specs.declared.faults.CacheRestoreFault.TheVariants.{Atlas, Memory, NoCapacity, TooManyKeys, KeyTwice, WrongId, NoKey}
 use Rattle.glyph_shelf.specs.declared.saving.CacheSnapshot.{CacheSnapshot}
 use Rattle.glyph_shelf.specs.declared.saving.SavedKey.{SavedKey}
-use Rattle.used_keys.proofs.KeyCounts.{times-entered}
+use Rattle.glyph_shelf.proofs.UsedKeys.KeyCounts.{times-entered}
 use Rattle.glyph_shelf.proofs.Keeping.{keeps}
 use Rattle.glyph_shelf.proofs.SavedLemmas.{allocated-there, ids_of, ids-saved, keys-saved, there-allocated}
 

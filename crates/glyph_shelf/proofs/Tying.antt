@@ -3,8 +3,8 @@ use Rattle.std.proofs.Common.{List, [], ◌∷◌, refl, ◌∙◌}
 use Rattle.etagere_base.specs.declared.ids.Allocation.{Allocation}
 use Rattle.shelf_model.specs.Atlas.{Adds}
 use Rattle.shelf_model.specs.Callers.{AreTied, IsFound}
-use Rattle.used_keys.proofs.Entries.{Among}
-use Rattle.used_keys.proofs.ToFront.{each-front, times-front}
+use Rattle.glyph_shelf.proofs.UsedKeys.Entries.{Among}
+use Rattle.glyph_shelf.proofs.UsedKeys.ToFront.{each-front, times-front}
 
 -- one of what is kept goes to the front
 pub tied-front : (others kept all : List Allocation) (one : Allocation)

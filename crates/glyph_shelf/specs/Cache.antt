@@ -4,7 +4,7 @@ use Rattle.std.specs.Prelude.{ℕ, zero, suc, ◌-◌, Option, None, Some, optio
 use Rattle.std.specs.Map.{keys_of, lookup, remove_entry, values_of}
 use Rattle.std.specs.Option.{option_map_or}
 use Rattle.lru.specs.LruCache.{last_entry, promoted}
-use Rattle.used_keys.specs.Keys.{uses_in, uses_left, uses_with, uses_without}
+use Rattle.glyph_shelf.specs.UsedKeys.Keys.{uses_in, uses_left, uses_with, uses_without}
 use Rattle.shelf_model.specs.Fresh.{fresh}
 use Rattle.shelf_model.specs.Returning.{returned}
 use Rattle.shelf_model.specs.State.{AtlasState}

@@ -7,3 +7,4 @@ pub mod Promises
 pub mod Retaining
 pub mod Saved
 pub mod Sizing
+pub mod UsedKeys

@@ -27,13 +27,13 @@ use crate::faults::CacheRestoreFault;
 use crate::giving_back::{give_back, takes};
 use crate::listing::Iter;
 use crate::saving::{CacheSnapshot, restored_atlas, restored_keys, saved_keys};
+use crate::used_keys::UsedKeys;
 use etagere::{
     Allocation, AllocatorOptions, AtlasAllocator, AtlasGrowFault, OptionsFault, Rectangle, Size,
 };
 use std::alloc::{AllocError, Global};
 use std::marker::Model;
 use std::num::NonZeroUsize;
-use used_keys::UsedKeys;
 
 /// Keys with what is allocated for them, the most recently used first, and the atlas where that lies.
 #[derive(Drop)]

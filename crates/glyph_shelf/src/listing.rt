@@ -4,14 +4,14 @@
 
 ghost use Rattle.std.specs.Prelude.{◌≡◌};
 ghost use Rattle.std.specs.Iterator.{YieldsFirst, YieldsLast, item_count};
-ghost use Rattle.used_keys.specs.Private.Stamps.{unstamped};
+ghost use Rattle.glyph_shelf.specs.UsedKeys.Private.Stamps.{unstamped};
 ghost use Rattle.glyph_shelf.specs.Cache.{with_rectangles};
 
+use crate::used_keys::Entry;
 use etagere::Rectangle;
 use std::alloc::AllocError;
 use std::iter::FusedIterator;
 use std::marker::Model;
-use used_keys::Entry;
 
 /// The keys of a cache with their rectangles in pixels, the most recently used first; from the back, the least recently
 /// used first. After the last comes none, for ever.
@@ -25,7 +25,7 @@ pub struct Iter<'a> {
 impl<'a> Model for Iter<'a> {
     ghost use Rattle.std.specs.Prelude.{ℕ, List};
     ghost use Rattle.etagere_base.specs.declared.geometry.Rectangle.{Rectangle};
-    ghost use Rattle.used_keys.specs.Private.Stamps.{unstamped};
+    ghost use Rattle.glyph_shelf.specs.UsedKeys.Private.Stamps.{unstamped};
     ghost use Rattle.glyph_shelf.specs.Cache.{with_rectangles};
 
     ghost Value = { List (ℕ × Rectangle) };

@@ -12,10 +12,10 @@ ghost use Rattle.glyph_shelf.specs.Private.Restoring.{AreKeysRefused, AreRestore
 ghost use Rattle.glyph_shelf.specs.Saved.{saved_key};
 
 use crate::faults::CacheRestoreFault;
+use crate::used_keys::UsedKeys;
 use etagere::{AllocId, Allocation, AtlasAllocator, AtlasSnapshot, RestoreFault};
 use std::alloc::{AllocError, Global};
 use std::num::NonZeroUsize;
-use used_keys::UsedKeys;
 
 /// A key as it is saved, with the id of what is allocated for it.
 #[derive(Clone, Copy, Debug, PartialEq, Eq)]

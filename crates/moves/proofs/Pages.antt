@@ -1,4 +1,4 @@
-mod Arranged
-mod Done
-mod TiedLists
-mod Turns
+pub mod Arranged
+pub mod Done
+pub mod TiedLists
+pub mod Turns

@@ -9,7 +9,7 @@ use Rattle.std.proofs.Math.Seq.{take-append_seam}
 use Rattle.lru.specs.LruCache.{last_entry}
 use Rattle.etagere_base.specs.declared.geometry.Size.{Size}
 use Rattle.paged_cache.specs.Keyed.{Enters, IsEvictionCount, IsKeyed, IsUndone, KeyedState, Places, RanOut, after_dropping, dropped_keys, has_room, without_last}
-use Rattle.used_keys.proofs.Entries.{last-none, last-split, unknown-take}
+use Rattle.glyph_shelf.proofs.UsedKeys.Entries.{last-none, last-split, unknown-take}
 use Rattle.paged_cache.proofs.Keeping.{keeps-without_last, keyed}
 
 -- a number below the next one is below, or is this one

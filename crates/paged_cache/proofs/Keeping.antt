@@ -7,8 +7,8 @@ use Rattle.std.proofs.lemmas.List.{length-map, length-take}
 use Rattle.lru.specs.LruCache.{last_entry}
 use Rattle.paged_cache.specs.Keyed.{IsKeyed, KeyedState, used, without_key, without_last}
 use Rattle.etagere_base.specs.Lists.{times}
-use Rattle.used_keys.proofs.KeyCounts.{times-entered, times-last, times-promoted, times-removed}
-use Rattle.used_keys.proofs.Entries.{Among, found-among, last-among, length-removed, promoted-known, promoted-unknown}
+use Rattle.glyph_shelf.proofs.UsedKeys.KeyCounts.{times-entered, times-last, times-promoted, times-removed}
+use Rattle.glyph_shelf.proofs.UsedKeys.Entries.{Among, found-among, last-among, length-removed, promoted-known, promoted-unknown}
 
 -- keys with places by their parts
 abbrev pub keyed : {A P : Type 0} → List (ℕ × P) → ℕ → A → KeyedState A P

@@ -1,12 +1,12 @@
 //! Calls of several pages.
 
 use atlas_pages::laws::saved_and_restored;
+use atlas_pages::runs::{PageCommand, PageReply, answer_on_pages};
 use atlas_pages::{
     AtlasPages, PageChoice, PageOptions, PagedAllocation, PagesFault, PagesRestoreFault,
 };
 use etagere::{AllocId, AllocatorOptions, DEFAULT_OPTIONS, Rectangle, size2};
 use moves::pages::{PageMove, RearrangedPages, rearranged_pages};
-use page_runs::{PageCommand, PageReply, answer_on_pages};
 use row_calls::lines::{
     id_of, numbers, parted, say, say_given, say_if, say_number, say_rectangle, size_of,
 };

@@ -7,13 +7,13 @@ ghost use Rattle.std.specs.Prelude.{◌≡◌, ◌+◌, ◌*◌, ◌<◌, ◌≤
 ghost use Rattle.std.specs.List.{AllByRecursion};
 ghost use Rattle.etagere_base.specs.Lists.{times};
 ghost use Rattle.etagere_links.specs.Links.{no_link};
-ghost use Rattle.shelf_links.specs.Records.{shelf_chain};
-ghost use Rattle.shelf_links.specs.RecordUses.{missing};
+ghost use Rattle.shelf_records.specs.Records.{shelf_chain};
+ghost use Rattle.shelf_records.specs.RecordUses.{missing};
 ghost use Rattle.shelf_heights.specs.Private.ByHeight as spec;
 ghost use Rattle.shelf_heights.specs.Private.ByHeight.{AreInOrder, IsStart};
 
 use crate::by_height::{BoundedShelf, ShelvesByHeight};
-use shelf_links::{LinkedShelf, Records};
+use shelf_records::{LinkedShelf, Records};
 use std::alloc::AllocError;
 
 /// Where the shelves begin that don't come before an order, and how many shelves were looked at for it.

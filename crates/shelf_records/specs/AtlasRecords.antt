@@ -2,9 +2,9 @@
 use Rattle.std.specs.Prelude.{ℕ, ◌+◌, ◌*◌, ◌/◌, ℤ, Bool, false, None, Some, List, length, map, if◌then◌else◌}
 use Rattle.etagere_base.specs.Ids.{index_modulus}
 use Rattle.etagere_base.specs.declared.frames.Frame.{Frame}
-use Rattle.shelf_links.specs.declared.records.LinkedItem.{LinkedItem}
-use Rattle.shelf_links.specs.declared.records.LinkedShelf.{LinkedShelf}
-use Rattle.shelf_links.specs.RecordLists.{Records, Entry, shelf_walk, walked_entry}
+use Rattle.shelf_records.specs.declared.records.LinkedItem.{LinkedItem}
+use Rattle.shelf_records.specs.declared.records.LinkedShelf.{LinkedShelf}
+use Rattle.shelf_records.specs.RecordLists.{Records, Entry, shelf_walk, walked_entry}
 use Rattle.etagere_links.specs.Edits.{field_at}
 use Rattle.shelf_model.specs.State.{Item, Shelf, AtlasState}
 

@@ -2,3 +2,10 @@ pub mod AtlasRecords
 pub mod Private
 pub mod Snapshots
 pub mod StandsFor
+pub mod Laws
+pub mod RecordEdits
+pub mod RecordLists
+pub mod RecordMaking
+pub mod RecordMerges
+pub mod RecordUses
+pub mod Records

@@ -4,8 +4,8 @@ use Rattle.etagere_base.specs.declared.faults.RestoreFault.{RestoreFault}
 use Rattle.etagere_base.specs.declared.faults.RestoreFault.TheVariants.{Memory}
 use Rattle.etagere_base.specs.declared.frames.Frame as frames
 use Rattle.etagere_base.specs.Sides.{side, swapped_axes}
-use Rattle.shelf_links.specs.declared.records.LinkedItem.{LinkedItem}
-use Rattle.shelf_links.specs.declared.records.LinkedShelf.{LinkedShelf}
+use Rattle.shelf_records.specs.declared.records.LinkedItem.{LinkedItem}
+use Rattle.shelf_records.specs.declared.records.LinkedShelf.{LinkedShelf}
 use Rattle.etagere_links.specs.Links.{link_of}
 use Rattle.snapshot_records.specs.declared.shelves.AtlasSnapshot.{AtlasSnapshot}
 use Rattle.snapshot_records.specs.declared.shelves.ItemRecord.{ItemRecord}

@@ -7,14 +7,14 @@ use Rattle.etagere_base.specs.declared.frames.Frame.{Frame}
 use Rattle.etagere_base.specs.Frames.{HasAllColumns, IsFrame, across_side, longest_side}
 use Rattle.std.specs.List.{AllByRecursion}
 use Rattle.etagere_base.specs.Lists.{NoNeighbours, times}
-use Rattle.shelf_links.specs.declared.records.LinkedItem.{LinkedItem}
-use Rattle.shelf_links.specs.declared.records.LinkedShelf.{LinkedShelf}
+use Rattle.shelf_records.specs.declared.records.LinkedItem.{LinkedItem}
+use Rattle.shelf_records.specs.declared.records.LinkedShelf.{LinkedShelf}
 use Rattle.etagere_links.specs.Chains.{LeadsBack}
 use Rattle.etagere_links.specs.Edits.{link_at}
 use Rattle.etagere_links.specs.Links.{no_link}
-use Rattle.shelf_links.specs.RecordLists.{Entry, item_numbers, shelf_numbers, shelf_walk, unused_shelf_walk, unused_item_walk, item_walk, free_walk}
+use Rattle.shelf_records.specs.RecordLists.{Entry, item_numbers, shelf_numbers, shelf_walk, unused_shelf_walk, unused_item_walk, item_walk, free_walk}
 use Rattle.etagere_links.specs.Lists.{HasEachOnce}
-use Rattle.shelf_links.specs.Records.{item_chain, free_list, shelf_chain}
+use Rattle.shelf_records.specs.Records.{item_chain, free_list, shelf_chain}
 use Rattle.etagere_links.specs.Walks.{Walked}
 use Rattle.shelf_records.specs.AtlasRecords.{AtlasRecords, is_allocated_at, item_place_of, shelf_of, along_of, across_of, height_of, is_empty_at, item_at, state_spelled, walked_entries}
 use Rattle.shelf_model.specs.Merging.{both_free, both_empty}

@@ -6,10 +6,10 @@
 ghost use Rattle.std.specs.Prelude.{◌≡◌, ◌<◌, IfSome};
 ghost use Rattle.shelf_records.specs.AtlasRecords as spec;
 ghost use Rattle.etagere_links.specs.Links.{no_link};
-ghost use Rattle.shelf_links.specs.RecordLists.{first_free_of, first_item_of};
+ghost use Rattle.shelf_records.specs.RecordLists.{first_free_of, first_item_of};
 
+use crate::{LinkedItem, LinkedShelf};
 use etagere_links::Link;
-use shelf_links::{LinkedItem, LinkedShelf};
 
 /// Whether the item of this number is allocated.
 pub fn is_allocated(items: &[LinkedItem], number: usize) -> bool

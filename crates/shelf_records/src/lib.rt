@@ -1,9 +1,23 @@
-//! The records of a shelf atlas: their fields, what they spell, and what they are saved as.
+//! The linked records of a shelf atlas: what they spell, the steps that change them, and what they are saved as. A step of
+//! `store` may change several lists, and fields too.
+//!
+//! `records` has the records, `field_edits` edits a field by number, and `uses` puts records to use; `store` has all
+//! records, and the steps that are made of these and of edits of lists. `model_laws` has the laws of their definitions.
+//! `fields` has what an atlas has beside them, `saving` and `snapshots` what is saved.
 //!
 //! Definitions: `AtlasRecords` for what records spell, `StandsFor` for the rules that they keep, `Snapshots` for what is
 //! saved.
 #![tactic(auto)]
 
+mod field_edits;
 pub mod fields;
+mod model_laws;
+mod records;
 pub mod saving;
 pub mod snapshots;
+mod store;
+mod uses;
+
+pub use records::{LinkedItem, LinkedShelf};
+pub use store::Records;
+pub use uses::Rests;

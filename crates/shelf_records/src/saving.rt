@@ -5,8 +5,8 @@
 ghost use Rattle.std.specs.Prelude.{◌≡◌, IfOk, map};
 ghost use Rattle.shelf_records.specs.Snapshots as spec;
 
+use crate::{LinkedItem, LinkedShelf};
 use etagere_links::Link;
-use shelf_links::{LinkedItem, LinkedShelf};
 use snapshot_records::shelves::{ItemRecord, ShelfRecord};
 use std::alloc::{AllocError, Global};
 

@@ -6,9 +6,9 @@ ghost use Rattle.std.specs.Prelude.{◌≡◌, ◌<◌, ◌^◌, IfOk, pos};
 ghost use Rattle.etagere_base.specs.Frames.{HasAllColumns, IsFrame, longest_side};
 ghost use Rattle.shelf_records.specs.Snapshots.{snapshot_records};
 
+use crate::Records;
 use crate::saving::{saved_items, saved_shelves};
 use etagere_base::Frame;
-use shelf_links::Records;
 use snapshot_records::shelves::AtlasSnapshot;
 use std::alloc::AllocError;
 

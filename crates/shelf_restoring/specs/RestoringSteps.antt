@@ -3,7 +3,7 @@ use Rattle.std.specs.Prelude.{◌≡◌, ℕ, ◌+◌, ◌≤◌, List, [], ◌�
 use Rattle.etagere_base.specs.declared.faults.RestoreFault.{RestoreFault}
 use Rattle.etagere_base.specs.declared.faults.RestoreFault.TheVariants.{Frame, Counts, Memory}
 use Rattle.etagere_links.specs.LinksRead.{links_in, links_until}
-use Rattle.shelf_links.specs.RecordLists.{Records, free_walk, item_walk, shelf_walk, unused_item_walk, unused_shelf_walk}
+use Rattle.shelf_records.specs.RecordLists.{Records, free_walk, item_walk, shelf_walk, unused_item_walk, unused_shelf_walk}
 use Rattle.etagere_links.specs.Walks.{Walked}
 
 -- the walks along shelves: those in use, then the unused ones

@@ -8,8 +8,8 @@ ghost use Rattle.etagere_links.specs.Edits.{AreFitting};
 ghost use Rattle.etagere_links.specs.Links.{no_link, bits_of};
 ghost use Rattle.etagere_links.specs.LinksRead.{links_in, links_until};
 ghost use Rattle.etagere_links.specs.Marks.{IsMarkedBy};
-ghost use Rattle.shelf_links.specs.RecordLists.{item_numbers, item_walk, shelf_walk, unused_item_walk};
-ghost use Rattle.shelf_links.specs.Records.{item_chain};
+ghost use Rattle.shelf_records.specs.RecordLists.{item_numbers, item_walk, shelf_walk, unused_item_walk};
+ghost use Rattle.shelf_records.specs.Records.{item_chain};
 ghost use Rattle.shelf_records.specs.Private.Restoring.{HasChain, HasItemLists, chain_entry, items_met};
 ghost use Rattle.shelf_restoring.specs.RestoringSteps.{StopsAfter, item_walks};
 ghost use Rattle.shelf_records.specs.Snapshots.{IsBroken};
@@ -20,7 +20,7 @@ use etagere_base::RestoreFault;
 use etagere_links::{
     Chain, WalkRoom, all_marked, mark_onto, next_bits, restore_fault, unmarked, walk_marking,
 };
-use shelf_links::LinkedItem;
+use shelf_records::LinkedItem;
 use shelf_records::fields::first_item_link;
 use std::alloc::Global;
 

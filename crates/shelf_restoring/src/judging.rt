@@ -4,7 +4,7 @@
 //! Definitions: `Keeps` of `StandsFor`, which has the rules, and `Judging` and `Rules` for what a pass keeps of them.
 //! Each pass answers exactly: a yes says that the rule holds, a no that it is broken.
 
-ghost use Rattle.shelf_links.specs.RecordLists.{Entry};
+ghost use Rattle.shelf_records.specs.RecordLists.{Entry};
 
 pub mod filling;
 pub mod freeing;

@@ -6,7 +6,7 @@
 ghost use Rattle.shelf_records.specs.AtlasRecords.{AtlasRecords};
 
 use etagere_base::Frame;
-use shelf_links::Records;
+use shelf_records::Records;
 use std::marker::Model;
 
 /// An atlas as a snapshot says it: its links are not followed yet, and its rules not judged.

@@ -13,7 +13,7 @@ ghost use Rattle.shelf_records.specs.StandsFor.{HasCounts};
 use crate::loaded_atlas::LoadedAtlas;
 use etagere_base::{Frame, LONGEST_SIDE, RestoreFault, Sides, is_frame, side, swapped_axes};
 use etagere_links::Link;
-use shelf_links::Records;
+use shelf_records::Records;
 use shelf_records::saving::{linked_items, linked_shelves};
 use snapshot_records::shelves::AtlasSnapshot;
 use std::alloc::{AllocError, Global};

@@ -5,7 +5,7 @@
 ghost use Rattle.std.specs.Prelude.{◌≡◌, IfErr, OnOk};
 ghost use Rattle.etagere_base.specs.Frames.{IsFrame, longest_side};
 ghost use Rattle.etagere_base.specs.declared.faults.RestoreFault as spec;
-ghost use Rattle.shelf_links.specs.RecordLists.{unused_item_walk};
+ghost use Rattle.shelf_records.specs.RecordLists.{unused_item_walk};
 ghost use Rattle.shelf_records.specs.AtlasRecords.{walked_entries};
 ghost use Rattle.shelf_records.specs.Private.Restoring.{IsWalked};
 ghost use Rattle.shelf_records.specs.Snapshots.{IsBroken};

@@ -7,7 +7,7 @@ ghost use Rattle.etagere_links.specs.Edits.{AreFitting};
 ghost use Rattle.etagere_links.specs.Links.{bits_of, no_link};
 ghost use Rattle.etagere_links.specs.LinksRead.{links_in, links_until};
 ghost use Rattle.etagere_links.specs.Marks.{IsMarkedBy};
-ghost use Rattle.shelf_links.specs.Records.{shelf_chain};
+ghost use Rattle.shelf_records.specs.Records.{shelf_chain};
 ghost use Rattle.shelf_records.specs.Private.Restoring.{HasShelfLists};
 ghost use Rattle.shelf_restoring.specs.RestoringSteps.{StopsAfter, shelf_walks};
 ghost use Rattle.shelf_records.specs.Snapshots.{IsBroken};
@@ -17,7 +17,7 @@ use etagere_base::RestoreFault;
 use etagere_links::{
     Chain, WalkRoom, all_marked, next_bits, restore_fault, unmarked, walk_marking,
 };
-use shelf_links::LinkedShelf;
+use shelf_records::LinkedShelf;
 use std::alloc::Global;
 
 /// The numbers of the shelves in use, where each shelf record is in use or unused, and in one list.

@@ -3,7 +3,7 @@
 //! Definitions: `Restoring`. So no walk takes memory of its own.
 
 ghost use Rattle.std.specs.Prelude.{◌≡◌, ◌+◌, ◌≤◌, IfOk, drop, length, take};
-ghost use Rattle.shelf_links.specs.RecordLists.{unused_item_walk};
+ghost use Rattle.shelf_records.specs.RecordLists.{unused_item_walk};
 ghost use Rattle.shelf_records.specs.AtlasRecords.{walked_entries};
 ghost use Rattle.shelf_records.specs.Private.Restoring.{HasLists};
 

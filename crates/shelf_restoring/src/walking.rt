@@ -17,7 +17,7 @@ use crate::shelf_lists::walk_shelves;
 use crate::walked_lists::WalkedLists;
 use etagere_base::RestoreFault;
 use etagere_links::Chain;
-use shelf_links::LinkedShelf;
+use shelf_records::LinkedShelf;
 use std::alloc::Global;
 
 /// What walks have met of all records.

@@ -6,7 +6,7 @@ ghost use Rattle.std.specs.Prelude.{◌≡◌, ◌≤◌, ◌<◌, length};
 ghost use Rattle.etagere_base.specs.Frames.{IsFrame, longest_side};
 ghost use Rattle.etagere_base.specs.Lists.{times};
 ghost use Rattle.etagere_links.specs.Links.{no_link};
-ghost use Rattle.shelf_links.specs.RecordLists.{IsLinked, shelf_walk, walked_lists};
+ghost use Rattle.shelf_records.specs.RecordLists.{IsLinked, shelf_walk, walked_lists};
 ghost use Rattle.shelf_model.specs.Choice as choice;
 ghost use Rattle.shelf_model.specs.Refusal as spec;
 ghost use Rattle.shelf_model.specs.declared.faults.Refusal.TheVariants.{NoRoom};
@@ -22,9 +22,8 @@ use crate::choosing::{
 use crate::free_items::free_items_of;
 use etagere_base::{Frame, Sides, Size, is_not_positive, is_too_long, rounded};
 use etagere_links::{Chain, next_of};
-use shelf_links::{LinkedShelf, Records};
 use shelf_model::faults::Refusal;
-use shelf_records::fields;
+use shelf_records::{LinkedShelf, Records, fields};
 
 /// The first reason for which a size has no place; none where it has one.
 pub fn refusal(frame: &Frame, records: &Records, items_in_use: u32, size: Size) -> Option<Refusal>

@@ -9,7 +9,7 @@
 ghost use Rattle.std.specs.Prelude.{◌≡◌, ◌+◌, ◌*◌, ◌/◌, ◌≤◌, ◌<◌, ◌^◌, None, Some, IfSome, drop, is_some, length, map, nat_lt, set};
 ghost use Rattle.etagere_base.specs.Frames.{IsFrame, longest_side};
 ghost use Rattle.etagere_base.specs.Lists.{times};
-ghost use Rattle.shelf_links.specs.RecordLists.{IsLinked, shelf_walk, walked_lists};
+ghost use Rattle.shelf_records.specs.RecordLists.{IsLinked, shelf_walk, walked_lists};
 ghost use Rattle.shelf_records.specs.AtlasRecords.{height_of, is_empty_at};
 ghost use Rattle.shelf_model.specs.Choice as choice;
 ghost use Rattle.shelf_model.specs.Choice.{bad_fit_rank};
@@ -26,8 +26,8 @@ ghost use Rattle.shelf_model.specs.State as state;
 use etagere_base::{Frame, Sides, Size, asked, step};
 use shelf_heights::by_height::{BoundedShelf, ShelvesByHeight};
 use shelf_heights::heights::{chain_order, first_as_tall, first_from};
-use shelf_links::{LinkedShelf, Records};
 use shelf_model::placements::Placement;
+use shelf_records::{LinkedShelf, Records};
 
 /// An atlas has no more items than this.
 pub const MOST_ITEMS: u32 = 65535;

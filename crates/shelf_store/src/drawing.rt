@@ -6,7 +6,7 @@ ghost use Rattle.std.specs.Prelude.{◌≡◌, ◌≤◌, OnOk, OnErr};
 ghost use Rattle.etagere_base.specs.Drawing.{drawn_lines};
 ghost use Rattle.pictures.specs.Gathering.{GathersMore, SendsBeginning};
 ghost use Rattle.etagere_base.specs.Lists.{times};
-ghost use Rattle.shelf_links.specs.RecordLists.{IsLinked, shelf_walk, walked_lists};
+ghost use Rattle.shelf_records.specs.RecordLists.{IsLinked, shelf_walk, walked_lists};
 ghost use Rattle.shelf_store.specs.Private.DrawnRecords as recorded;
 ghost use Rattle.shelf_records.specs.Private.Kept.{AreKept, state_of};
 ghost use Rattle.shelf_model.specs.Svg as svg;
@@ -14,8 +14,7 @@ ghost use Rattle.shelf_model.specs.Svg as svg;
 use etagere_base::{Colour, Drawn, Frame, Sides};
 use etagere_links::{Chain, next_of};
 use pictures::{GatheredText, drawn_at, push_drawn};
-use shelf_links::{LinkedItem, LinkedShelf, Records};
-use shelf_records::fields;
+use shelf_records::{LinkedItem, LinkedShelf, Records, fields};
 use std::io::{self, Write};
 
 /// The colour of an item.

@@ -5,12 +5,11 @@
 ghost use Rattle.std.specs.Prelude.{◌≡◌, ◌≤◌, length};
 ghost use Rattle.etagere_base.specs.Lists.{times};
 ghost use Rattle.etagere_links.specs.Links.{no_link};
-ghost use Rattle.shelf_links.specs.RecordLists.{IsLinked, shelf_walk, walked_lists};
+ghost use Rattle.shelf_records.specs.RecordLists.{IsLinked, shelf_walk, walked_lists};
 ghost use Rattle.shelf_store.specs.Private.Asking.{free_of};
 
 use etagere_links::{FreeList, next_of};
-use shelf_links::{LinkedItem, Records};
-use shelf_records::fields;
+use shelf_records::{LinkedItem, Records, fields};
 
 /// The free items of a shelf: how many there are, and how wide the widest is; 0 where there are none.
 #[derive(Clone, Copy)]

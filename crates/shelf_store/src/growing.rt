@@ -24,8 +24,8 @@ use crate::starting::{reorder_shelves, sort_shelves};
 use etagere_base::{Frame, LONGEST_SIDE, ResizeFault, Size, resize_fault};
 use shelf_heights::by_height::ShelvesByHeight;
 use shelf_heights::heights::reserve_by_height;
-use shelf_links::Records;
 use shelf_model::faults::AtlasGrowFault;
+use shelf_records::Records;
 use std::alloc::AllocError;
 
 /// How many records a growth needs: of items, and of shelves.

@@ -10,7 +10,7 @@ ghost use Rattle.shelf_records.specs.Private.Kept.{AreKept, state_of};
 ghost use Rattle.shelf_records.specs.Private.Reading as reading;
 
 use etagere_base::{AllocId, Frame, INDEX_MODULUS, Rectangle, rectangle_at};
-use shelf_links::Records;
+use shelf_records::Records;
 
 /// The index of an id: the number of the record that is allocated under it.
 pub fn index_of(records: &Records, id: AllocId) -> Option<u32>

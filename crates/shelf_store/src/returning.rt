@@ -5,7 +5,7 @@
 //! stay so.
 
 ghost use Rattle.std.specs.Prelude.{◌≡◌, ℕ, ◌<◌, ◌≤◌, Some, IfSome, length};
-ghost use Rattle.shelf_links.specs.RecordLists.{first_item_of};
+ghost use Rattle.shelf_records.specs.RecordLists.{first_item_of};
 ghost use Rattle.shelf_records.specs.AtlasRecords as spec;
 ghost use Rattle.shelf_records.specs.AtlasRecords.{shelf_of};
 ghost use Rattle.shelf_store.specs.Private.ItemReturned as returned;
@@ -15,12 +15,12 @@ ghost use Rattle.shelf_store.specs.Private.ReturnedByHeight.{CanMergeNamedByHeig
 ghost use Rattle.etagere_links.specs.Edits.{link_at};
 ghost use Rattle.etagere_links.specs.Links.{no_link};
 ghost use Rattle.etagere_links.specs.Neighbours.{HasNeighbours, NamesOneOf};
-ghost use Rattle.shelf_links.specs.Records.{shelf_chain};
+ghost use Rattle.shelf_records.specs.Records.{shelf_chain};
 
 use etagere_links::{Chain, Link, previous_of};
 use shelf_heights::by_height::ShelvesByHeight;
 use shelf_heights::heights::{position_of, raise, settle, take_out};
-use shelf_links::{LinkedItem, LinkedShelf, Records};
+use shelf_records::{LinkedItem, LinkedShelf, Records};
 
 /// The item that remains where one was freed, and how many item records became unused.
 #[derive(Drop)]

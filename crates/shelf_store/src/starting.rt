@@ -8,7 +8,7 @@ ghost use Rattle.std.specs.Prelude.{◌≡◌, ℕ, ◌+◌, ◌<◌, ◌≤◌,
 ghost use Rattle.etagere_base.specs.Frames.{HasAllColumns, IsFrame, longest_side};
 ghost use Rattle.etagere_base.specs.Lists.{times};
 ghost use Rattle.etagere_links.specs.Links.{no_link};
-ghost use Rattle.shelf_links.specs.RecordLists.{shelf_numbers, shelf_walk, walked_lists};
+ghost use Rattle.shelf_records.specs.RecordLists.{shelf_numbers, shelf_walk, walked_lists};
 ghost use Rattle.shelf_heights.specs.Private.ByHeight as heights;
 ghost use Rattle.shelf_heights.specs.Private.ByHeight.{AreByHeight};
 ghost use Rattle.shelf_store.specs.Private.FreshRecords as spec;
@@ -18,7 +18,7 @@ use etagere_base::Frame;
 use etagere_links::{Chain, Link, next_of};
 use shelf_heights::by_height::{BoundedShelf, ShelvesByHeight};
 use shelf_heights::heights::bounded;
-use shelf_links::{LinkedItem, LinkedShelf, Records};
+use shelf_records::{LinkedItem, LinkedShelf, Records};
 use std::alloc::{AllocError, Global};
 
 /// The generation of a record that was just made.

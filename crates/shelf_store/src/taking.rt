@@ -6,7 +6,7 @@
 ghost use Rattle.std.specs.Prelude.{◌≡◌, ◌+◌, ◌<◌, ◌≤◌, Some, IfOk, OnOk, OnErr, IfSome, length};
 ghost use Rattle.etagere_base.specs.Frames.{longest_side};
 ghost use Rattle.etagere_links.specs.Links.{no_link};
-ghost use Rattle.shelf_links.specs.RecordUses.{rests_missing};
+ghost use Rattle.shelf_records.specs.RecordUses.{rests_missing};
 ghost use Rattle.shelf_model.specs.Choice.{splits};
 ghost use Rattle.shelf_store.specs.Private.PlacementTaken as spec;
 ghost use Rattle.shelf_store.specs.Private.PlacementTaken.{AreRestsThere, CanTakeByHeight, CanTakeFrom, HasSpare, IsItemSplittable, IsItemThere, CanPutRestIn, CanPutShelfIn, IsShelfSplittable, placement_taken, taken_by_height};
@@ -15,8 +15,8 @@ use etagere_base::{AllocId, INDEX_MODULUS};
 use etagere_links::Link;
 use shelf_heights::by_height::ShelvesByHeight;
 use shelf_heights::heights::{bounded, position_of, put_in, reserve_by_height, settle};
-use shelf_links::{LinkedItem, LinkedShelf, Records};
 use shelf_model::placements::Placement;
+use shelf_records::{LinkedItem, LinkedShelf, Records};
 use std::alloc::AllocError;
 
 /// Takes a placement, which names its shelf and its item by their records' numbers, and gives the id. An

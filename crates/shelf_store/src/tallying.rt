@@ -6,7 +6,7 @@ ghost use Rattle.std.specs.Prelude.{◌≡◌, ◌+◌, ◌≤◌, ◌<◌, leng
 ghost use Rattle.etagere_base.specs.Lists.{times};
 ghost use Rattle.etagere_base.specs.Places.{size_at};
 ghost use Rattle.etagere_links.specs.Links.{no_link};
-ghost use Rattle.shelf_links.specs.RecordLists.{IsLinked, shelf_walk, walked_lists};
+ghost use Rattle.shelf_records.specs.RecordLists.{IsLinked, shelf_walk, walked_lists};
 ghost use Rattle.shelf_model.specs.State as state;
 ghost use Rattle.shelf_model.specs.Usage as spec;
 ghost use Rattle.shelf_records.specs.Private.Kept.{AreKept, state_of};
@@ -17,9 +17,8 @@ use crate::choosing::MOST_ITEMS;
 use crate::free_items::free_items_of;
 use etagere_base::{Frame, Size, size_at};
 use etagere_links::{Chain, next_of};
-use shelf_links::{LinkedShelf, Records};
 use shelf_model::usage::Usage;
-use shelf_records::fields;
+use shelf_records::{LinkedShelf, Records, fields};
 
 /// What is counted of shelves: how many there are, how many of them are empty, how many items are free, how wide the
 /// widest of these is, and how tall the tallest of those that are as wide; 0 where none is free.

@@ -4,8 +4,8 @@ use crate::packing_lines::Wanted;
 use crate::pieces::Piece::{Count, Number, Words};
 use crate::pieces::push_pieces;
 use atlas_pages::PagedAllocation;
+use atlas_pages::runs::PageReply;
 use etagere::Size;
-use page_runs::PageReply;
 use std::alloc::{AllocError, Global};
 use std::fmt::Write;
 

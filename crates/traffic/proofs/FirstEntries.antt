@@ -2,8 +2,8 @@
 use Rattle.std.proofs.Common.{◌≡◌, ℕ, ◌+◌, ◌<◌, Some, List, [], ◌∷◌, ◌++◌, length, get_or, take, refl, ap, sym, ◌∙◌, arith}
 use Rattle.std.proofs.lemmas.List.{length-take-le, take_more}
 use Rattle.etagere_base.specs.declared.ids.Allocation.{Allocation}
-use Rattle.run_answers.specs.Live.{Entry, live_allocations}
-use Rattle.run_answers.specs.Private.Given.{with_entry}
+use Rattle.etagere_run.specs.Answers.Live.{Entry, live_allocations}
+use Rattle.etagere_run.specs.Answers.Private.Given.{with_entry}
 use Rattle.traffic.specs.Ledgers.{entries_from}
 
 -- the entries of one more allocation

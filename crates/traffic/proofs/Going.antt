@@ -2,10 +2,10 @@
 use Rattle.std.proofs.Common.{◌≡◌, ℕ, suc, ◌+◌, ◌<◌, Option, None, Some, List, [], ◌∷◌, ◌++◌, length, get_or, take, refl, ap, sym, ◌∙◌, subst, arith}
 use Rattle.std.proofs.lemmas.List.{length-append, length-take-le, take_more}
 use Rattle.run_scripts.specs.declared.commands.Reply.{Reply}
-use Rattle.run_answers.specs.Live.{Effect, Entry, live_after, live_from}
-use Rattle.run_answers.specs.Runs.{Kind, Runs, effects}
-use Rattle.run_answers.specs.Private.Tied.{IsAnswerOf}
-use Rattle.run_answers.proofs.LiveEntries.{live_from-more}
+use Rattle.etagere_run.specs.Answers.Live.{Effect, Entry, live_after, live_from}
+use Rattle.etagere_run.specs.Answers.Runs.{Kind, Runs, effects}
+use Rattle.etagere_run.specs.Answers.Private.Tied.{IsAnswerOf}
+use Rattle.etagere_run.proofs.Answers.LiveEntries.{live_from-more}
 use Rattle.traffic.specs.declared.going_on.Finding.{Finding}
 use Rattle.traffic.specs.declared.going_on.Refused.{Refused}
 use Rattle.traffic.specs.GoingOn.{GoesOn, RunsThrough, findings_in, last_of, with_finding}

@@ -8,10 +8,10 @@ use Rattle.run_scripts.specs.declared.commands.AtlasCommand.{AtlasCommand}
 use Rattle.run_scripts.specs.declared.commands.AtlasCommand.TheVariants.{Return, Look}
 use Rattle.run_scripts.specs.declared.commands.Reply.{Reply}
 use Rattle.run_scripts.specs.declared.commands.Reply.TheVariants.{Placed, Refused, Returned, At, NotLive, Cleared, Grown, GrowRefused, NoMemory}
-use Rattle.run_answers.specs.AtlasRuns.{AtlasStep, atlas_effect, shelf_atlas}
+use Rattle.etagere_run.specs.Answers.AtlasRuns.{AtlasStep, atlas_effect, shelf_atlas}
 use Rattle.shelf_model.specs.State.{AtlasState}
-use Rattle.run_answers.specs.Live.{Effect, Adds, TakesOut, Empties, Keeps, Entry, allocation_at, live_after, without}
-use Rattle.run_answers.specs.Runs.{Runs}
+use Rattle.etagere_run.specs.Answers.Live.{Effect, Adds, TakesOut, Empties, Keeps, Entry, allocation_at, live_after, without}
+use Rattle.etagere_run.specs.Answers.Runs.{Runs}
 use Rattle.traffic.specs.Continuing.{renumbered}
 
 -- what stands at a position, which is at most one allocation where the positions differ

@@ -20,14 +20,14 @@ use Rattle.shelf_records.specs.Snapshots.{snapshot_records}
 use Rattle.shelf_records.specs.StandsFor.{StandsFor}
 use Rattle.run_scripts.specs.declared.commands.AtlasCommand.{AtlasCommand}
 use Rattle.run_scripts.specs.declared.commands.Reply.{Reply}
-use Rattle.run_answers.specs.AtlasRuns.{shelf_atlas}
-use Rattle.run_answers.specs.Live.{Entry, live_after, live_allocations, live_from}
-use Rattle.run_answers.specs.Runs.{IsGiven, Kind, Runs, effects, live_in}
-use Rattle.run_answers.specs.Private.Given.{given_by}
-use Rattle.run_answers.specs.Private.Tied.{IsTied, SuitsRuns}
-use Rattle.run_answers.proofs.AtlasAnswered.{atlas-suits}
-use Rattle.run_answers.proofs.AtlasAnswers.{tied-cleared}
-use Rattle.run_answers.proofs.EveryRun.{every_atlas_run}
+use Rattle.etagere_run.specs.Answers.AtlasRuns.{shelf_atlas}
+use Rattle.etagere_run.specs.Answers.Live.{Entry, live_after, live_allocations, live_from}
+use Rattle.etagere_run.specs.Answers.Runs.{IsGiven, Kind, Runs, effects, live_in}
+use Rattle.etagere_run.specs.Answers.Private.Given.{given_by}
+use Rattle.etagere_run.specs.Answers.Private.Tied.{IsTied, SuitsRuns}
+use Rattle.etagere_run.proofs.Answers.AtlasAnswered.{atlas-suits}
+use Rattle.etagere_run.proofs.Answers.AtlasAnswers.{tied-cleared}
+use Rattle.etagere_run.proofs.Answers.EveryRun.{every_atlas_run}
 use Rattle.traffic.specs.Continuing.{renumbered, whole_position}
 use Rattle.traffic.specs.Ledgers.{entries_from}
 use Rattle.traffic.specs.Resuming.{IsRestOfRun}

@@ -6,7 +6,7 @@ use Rattle.std.specs.List.{AllByRecursion, find}
 use Rattle.etagere_base.specs.declared.ids.Allocation.{Allocation}
 use Rattle.etagere_base.specs.Lists.{times}
 use Rattle.etagere_base.proofs.TimesLemmas.{times-here, times-other}
-use Rattle.run_answers.specs.Live.{Entry, live_allocations}
+use Rattle.etagere_run.specs.Answers.Live.{Entry, live_allocations}
 use Rattle.traffic.specs.Continuing.{position_under, whole_position}
 use Rattle.traffic.specs.Ledgers.{entries_from}
 use Rattle.traffic.proofs.Renumbering.{all_at, AreRenumbered}

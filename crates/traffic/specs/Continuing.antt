@@ -4,8 +4,8 @@ use Rattle.etagere_base.specs.declared.ids.Allocation.{Allocation}
 use Rattle.run_scripts.specs.declared.commands.AtlasCommand.{AtlasCommand}
 use Rattle.run_scripts.specs.declared.commands.AtlasCommand.TheVariants.{Return, Look}
 use Rattle.run_scripts.specs.declared.commands.Reply.{Reply}
-use Rattle.run_answers.specs.Live.{Entry, live_from}
-use Rattle.run_answers.specs.Runs.{Kind, Runs, effects}
+use Rattle.etagere_run.specs.Answers.Live.{Entry, live_from}
+use Rattle.etagere_run.specs.Answers.Runs.{Kind, Runs, effects}
 
 -- a run of commands, and one of others that goes on from where it leads, with the ledger and the positions that it leaves
 pub record RunsInTwo {S C : Type 0} (kind : Kind S C) (position : ℕ) (entries : List Entry) (old : S)

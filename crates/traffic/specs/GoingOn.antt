@@ -1,8 +1,8 @@
 -- Runs with the states that they go through, and what is told of their commands.
 use Rattle.std.specs.Prelude.{◌≡◌, ℕ, ◌+◌, Option, None, Some, List, [], ◌∷◌}
 use Rattle.run_scripts.specs.declared.commands.Reply.{Reply}
-use Rattle.run_answers.specs.Live.{Entry, live_after}
-use Rattle.run_answers.specs.Runs.{Kind}
+use Rattle.etagere_run.specs.Answers.Live.{Entry, live_after}
+use Rattle.etagere_run.specs.Answers.Runs.{Kind}
 use Rattle.traffic.specs.declared.going_on.Finding.{Finding}
 use Rattle.traffic.specs.declared.going_on.Refused.{Refused}
 

@@ -1,7 +1,7 @@
 -- What was live before the first command, as entries.
 use Rattle.std.specs.Prelude.{ℕ, ◌+◌, List, [], ◌∷◌}
 use Rattle.etagere_base.specs.declared.ids.Allocation.{Allocation}
-use Rattle.run_answers.specs.Live.{Entry}
+use Rattle.etagere_run.specs.Answers.Live.{Entry}
 
 -- allocations as entries, the first of them at this position
 abbrev pub entries_from : ℕ → List Allocation → List Entry

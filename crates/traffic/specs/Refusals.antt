@@ -13,8 +13,8 @@ use Rattle.run_scripts.specs.declared.commands.BucketedCommand.{BucketedCommand}
 use Rattle.run_scripts.specs.declared.commands.BucketedCommand.TheVariants as buckets
 use Rattle.run_scripts.specs.declared.commands.Reply.{Reply}
 use Rattle.run_scripts.specs.declared.commands.Reply.TheVariants as replies
-use Rattle.run_answers.specs.Leading.{HasMemory}
-use Rattle.run_answers.specs.Runs.{Kind}
+use Rattle.etagere_run.specs.Answers.Leading.{HasMemory}
+use Rattle.etagere_run.specs.Answers.Runs.{Kind}
 use Rattle.traffic.specs.declared.going_on.Finding.{Finding}
 use Rattle.traffic.specs.declared.going_on.Reason.TheVariants.{OfShelves, OfBuckets, OfGrow}
 use Rattle.traffic.specs.declared.going_on.Refused.{Refused}

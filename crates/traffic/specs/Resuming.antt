@@ -13,8 +13,8 @@ use Rattle.shelf_records.specs.Snapshots.{snapshot_records}
 use Rattle.shelf_records.specs.StandsFor.{StandsFor}
 use Rattle.run_scripts.specs.declared.commands.AtlasCommand.{AtlasCommand}
 use Rattle.run_scripts.specs.declared.commands.Reply.{Reply}
-use Rattle.run_answers.specs.AtlasRuns.{shelf_atlas}
-use Rattle.run_answers.specs.Runs.{Runs, RunsTo, live_in}
+use Rattle.etagere_run.specs.Answers.AtlasRuns.{shelf_atlas}
+use Rattle.etagere_run.specs.Answers.Runs.{Runs, RunsTo, live_in}
 use Rattle.traffic.specs.Continuing.{renumbered, whole_position}
 use Rattle.traffic.specs.Ledgers.{entries_from}
 

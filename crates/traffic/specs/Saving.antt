@@ -11,9 +11,9 @@ use Rattle.shelf_records.specs.Snapshots as shelves
 use Rattle.shelf_records.specs.StandsFor as shelf_rules
 use Rattle.run_scripts.specs.declared.commands.AtlasCommand.{AtlasCommand}
 use Rattle.run_scripts.specs.declared.commands.BucketedCommand.{BucketedCommand}
-use Rattle.run_answers.specs.AtlasRuns.{shelf_atlas}
-use Rattle.run_answers.specs.BucketedRuns.{bucketed_atlas}
-use Rattle.run_answers.specs.Leading.{LeadsTo}
+use Rattle.etagere_run.specs.Answers.AtlasRuns.{shelf_atlas}
+use Rattle.etagere_run.specs.Answers.BucketedRuns.{bucketed_atlas}
+use Rattle.etagere_run.specs.Answers.Leading.{LeadsTo}
 
 -- a snapshot stands for a state to which the commands may lead a new atlas of a frame
 abbrev pub SavesAtlas : Frame → List AtlasCommand → AtlasSnapshot → Type 0

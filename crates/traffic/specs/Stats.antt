@@ -10,9 +10,9 @@ use Rattle.shelf_model.specs.Usage as shelf_usages
 use Rattle.run_scripts.specs.declared.commands.AtlasCommand.{AtlasCommand}
 use Rattle.run_scripts.specs.declared.commands.BucketedCommand.{BucketedCommand}
 use Rattle.run_scripts.specs.declared.commands.Reply.{Reply}
-use Rattle.run_answers.specs.AtlasRuns.{shelf_atlas}
-use Rattle.run_answers.specs.BucketedRuns.{bucketed_atlas}
-use Rattle.run_answers.specs.Runs.{Kind, Runs, live_in}
+use Rattle.etagere_run.specs.Answers.AtlasRuns.{shelf_atlas}
+use Rattle.etagere_run.specs.Answers.BucketedRuns.{bucketed_atlas}
+use Rattle.etagere_run.specs.Answers.Runs.{Kind, Runs, live_in}
 use Rattle.traffic.specs.declared.stats.AtlasStats.{AtlasStats}
 use Rattle.traffic.specs.declared.stats.BucketedStats.{BucketedStats}
 use Rattle.traffic.specs.declared.tallies.CommandKind.{CommandKind}

@@ -9,7 +9,7 @@ use Rattle.run_scripts.specs.declared.commands.BucketedCommand.{BucketedCommand}
 use Rattle.run_scripts.specs.declared.commands.BucketedCommand.TheVariants as buckets
 use Rattle.run_scripts.specs.declared.commands.Reply.{Reply}
 use Rattle.run_scripts.specs.declared.commands.Reply.TheVariants as replies
-use Rattle.run_answers.specs.Live.{Entry, allocation_at}
+use Rattle.etagere_run.specs.Answers.Live.{Entry, allocation_at}
 use Rattle.traffic.specs.declared.tallies.CommandKind.{CommandKind}
 use Rattle.traffic.specs.declared.tallies.CommandKind.TheVariants as asking
 use Rattle.traffic.specs.declared.tallies.LiveCounts.{LiveCounts}

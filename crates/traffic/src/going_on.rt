@@ -4,14 +4,14 @@
 
 ghost use Rattle.std.specs.Prelude.{◌≡◌, ◌≤◌, ◌+◌, ◌++◌, [], IfErr, IfOk, OnOk, length, vec_capacity, vec_len};
 ghost use Rattle.etagere_base.specs.Frames.{IsAccepted};
-ghost use Rattle.run_answers.specs.Live.{live_from};
-ghost use Rattle.run_answers.specs.Runs.{RefusesRun, effects, live_in};
-ghost use Rattle.run_answers.specs.Private.Tables.{entries_of};
+ghost use Rattle.etagere_run.specs.Answers.Live.{live_from};
+ghost use Rattle.etagere_run.specs.Answers.Runs.{RefusesRun, effects, live_in};
+ghost use Rattle.etagere_run.specs.Answers.Private.Tables.{entries_of};
 ghost use Rattle.traffic.specs.GoingOn.{GoesOn, with_finding};
 
 use etagere::{AllocatorOptions, BucketedRefusal, Refusal, Size};
-use run_answers::ledger::Ledger;
-use run_answers::running::{Beginning, answer_next};
+use etagere_run::answers::ledger::Ledger;
+use etagere_run::answers::running::{Beginning, answer_next};
 use run_scripts::commands::Reply;
 use run_scripts::faults::RunFault;
 use std::alloc::{AllocError, Global};

@@ -3,8 +3,8 @@
 //!
 //! Definition: `Continuing`.
 
-ghost use Rattle.run_answers.specs.AtlasRuns.{shelf_atlas};
-ghost use Rattle.run_answers.specs.BucketedRuns.{bucketed_atlas};
+ghost use Rattle.etagere_run.specs.Answers.AtlasRuns.{shelf_atlas};
+ghost use Rattle.etagere_run.specs.Answers.BucketedRuns.{bucketed_atlas};
 ghost use Rattle.traffic.specs.Continuing.{IsCutAnywhere};
 
 /// A run of some commands and then others is a run of the first, and then one of the others from the state to which it

@@ -3,11 +3,11 @@
 //! Definition: `Ledgers`.
 
 ghost use Rattle.std.specs.Prelude.{◌≡◌, ◌≤◌, ◌+◌, IfOk, length, vec_capacity, vec_len};
-ghost use Rattle.run_answers.specs.Private.Tables.{entries_of};
+ghost use Rattle.etagere_run.specs.Answers.Private.Tables.{entries_of};
 ghost use Rattle.traffic.specs.Ledgers.{entries_from};
 
 use etagere::Allocation;
-use run_answers::ledger::Ledger;
+use etagere_run::answers::ledger::Ledger;
 use std::alloc::{AllocError, Global};
 
 /// A ledger in which these allocations have the first positions, with room for so many commands behind them. Takes

@@ -5,14 +5,14 @@
 ghost use Rattle.std.specs.Prelude.{IfErr, IfOk, OnOk};
 ghost use Rattle.etagere_base.specs.Frames.{IsAccepted, atlas_frame, longest_side};
 ghost use Rattle.bucketed_model.specs.Frames.{bucketed_frame, longest_bucketed_side};
-ghost use Rattle.run_answers.specs.AtlasRuns.{shelf_atlas};
-ghost use Rattle.run_answers.specs.BucketedRuns.{bucketed_atlas};
-ghost use Rattle.run_answers.specs.Runs.{RefusesRun};
+ghost use Rattle.etagere_run.specs.Answers.AtlasRuns.{shelf_atlas};
+ghost use Rattle.etagere_run.specs.Answers.BucketedRuns.{bucketed_atlas};
+ghost use Rattle.etagere_run.specs.Answers.Runs.{RefusesRun};
 ghost use Rattle.traffic.specs.Refusals.{IsExplainedBy, atlas_told, bucketed_told};
 
 use crate::going_on::{Explaining, Finding, Reason, Refused, go_on_new};
 use etagere::{AllocatorOptions, AtlasAllocator, BucketedAtlasAllocator, Size};
-use run_answers::leading::had_memory;
+use etagere_run::answers::leading::had_memory;
 use run_scripts::commands::{AtlasCommand, BucketedCommand, Reply};
 use run_scripts::faults::RunFault;
 use std::alloc::Global;

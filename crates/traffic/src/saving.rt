@@ -5,13 +5,13 @@
 ghost use Rattle.std.specs.Prelude.{IfErr, IfOk, OnOk};
 ghost use Rattle.etagere_base.specs.Frames.{IsAccepted, atlas_frame, longest_side};
 ghost use Rattle.bucketed_model.specs.Frames.{bucketed_frame, longest_bucketed_side};
-ghost use Rattle.run_answers.specs.Runs.{RefusesRun};
+ghost use Rattle.etagere_run.specs.Answers.Runs.{RefusesRun};
 ghost use Rattle.traffic.specs.Saving.{SavesAtlas, SavesBuckets};
 
 use etagere::{
     AllocatorOptions, AtlasAllocator, AtlasSnapshot, BucketedAtlasAllocator, BucketedSnapshot, Size,
 };
-use run_answers::leading::atlas_after;
+use etagere_run::answers::leading::atlas_after;
 use run_scripts::commands::{AtlasCommand, BucketedCommand};
 use run_scripts::faults::RunFault;
 use std::alloc::Global;

@@ -5,7 +5,7 @@
 ghost use Rattle.std.specs.Prelude.{IfErr, IfOk, OnOk};
 ghost use Rattle.etagere_base.specs.Frames.{IsAccepted, atlas_frame, longest_side};
 ghost use Rattle.bucketed_model.specs.Frames.{bucketed_frame, longest_bucketed_side};
-ghost use Rattle.run_answers.specs.Runs.{RefusesRun};
+ghost use Rattle.etagere_run.specs.Answers.Runs.{RefusesRun};
 ghost use Rattle.traffic.specs.Stats.{AreAtlasStats, AreBucketedStats};
 
 use crate::going_on::go_on_new;

@@ -4,13 +4,13 @@
 
 ghost use Rattle.std.specs.Prelude.{◌≡◌, ◌<◌, ◌≤◌, ◌+◌, ◌*◌, ◌^◌, length};
 ghost use Rattle.std.specs.List.{count_by};
-ghost use Rattle.run_answers.specs.Private.Tables.{entries_of};
+ghost use Rattle.etagere_run.specs.Answers.Private.Tables.{entries_of};
 ghost use Rattle.traffic.specs.Tallies as spec;
 ghost use Rattle.traffic.specs.Tallies.{IsTallyOf};
 
 use etagere::Size;
 use etagere_base::side;
-use run_answers::ledger::Ledger;
+use etagere_run::answers::ledger::Ledger;
 use run_scripts::commands::{AtlasCommand, BucketedCommand, Reply};
 
 /// What kind of command one is.

@@ -12,7 +12,7 @@ use Rattle.run_scripts.specs.declared.faults.ReplayFault.{ReplayFault}
 use Rattle.run_scripts.specs.declared.faults.ReplayFault.TheVariants.{Read, Write, Memory}
 use Rattle.etagere_run.specs.Drawing.{BeginsDrawing, BeginsScript, BeginsSnapshot, EndsDrawing, EndsScript, EndsSnapshot, IsPictureOf}
 use Rattle.etagere_run.specs.Replaying.{longest_asked}
-use Rattle.run_answers.specs.Runs.{RefusesRun}
+use Rattle.etagere_run.specs.Answers.Runs.{RefusesRun}
 use Rattle.etagere_run.specs.Saved.{IsRightOf, ShowsSaved}
 use Rattle.run_scripts.specs.Script.{Request}
 use Rattle.saved_json.specs.declared.saved.Saved.{Saved}

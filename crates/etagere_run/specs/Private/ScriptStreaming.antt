@@ -5,8 +5,8 @@ use Rattle.etagere_base.specs.declared.options.AllocatorOptions.{AllocatorOption
 use Rattle.etagere_base.specs.Frames.{atlas_frame}
 use Rattle.bucketed_model.specs.Frames.{bucketed_frame}
 use Rattle.run_scripts.specs.declared.faults.StreamFault.{StreamFault}
-use Rattle.run_answers.specs.AtlasRuns.{shelf_atlas}
-use Rattle.run_answers.specs.BucketedRuns.{bucketed_atlas}
+use Rattle.etagere_run.specs.Answers.AtlasRuns.{shelf_atlas}
+use Rattle.etagere_run.specs.Answers.BucketedRuns.{bucketed_atlas}
 use Rattle.run_scripts.specs.Script.{Commands, OfBuckets, OfShelves}
 use Rattle.etagere_run.specs.Streaming.{Streams}
 

@@ -11,7 +11,7 @@ use Rattle.shelf_model.specs.Places.{allocations, is_allocated, rectangle_of}
 use Rattle.shelf_model.specs.State.{AtlasState}
 use Rattle.snapshot_records.specs.declared.shelves.AtlasSnapshot.{AtlasSnapshot}
 use Rattle.shelf_records.specs.Snapshots.{IsBroken, snapshot_records}
-use Rattle.used_keys.specs.Keys.{KeysState, entered}
+use Rattle.glyph_shelf.specs.UsedKeys.Keys.{KeysState, entered}
 use Rattle.glyph_shelf.specs.declared.faults.CacheRestoreFault.{CacheRestoreFault}
 use Rattle.glyph_shelf.specs.declared.faults.CacheRestoreFault.TheVariants.{Atlas, Memory, KeyTwice, WrongId, NoKey}
 use Rattle.glyph_shelf.specs.declared.saving.SavedKey.{SavedKey}

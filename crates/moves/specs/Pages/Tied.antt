@@ -5,7 +5,7 @@ use Rattle.etagere_base.specs.Lists.{total}
 use Rattle.atlas_pages.specs.declared.places.PagedAllocation.{PagedAllocation}
 use Rattle.atlas_pages.specs.Pages.{PagesState}
 use Rattle.atlas_pages.specs.Places.{is_allocated_on, rectangle_on}
-use Rattle.page_runs.specs.Told.{are}
+use Rattle.atlas_pages.specs.Runs.Told.{are}
 
 -- how often a page and an id stand among places
 abbrev pub times_on : ℕ → ℕ → List PagedAllocation → ℕ

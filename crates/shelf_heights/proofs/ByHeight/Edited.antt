@@ -10,8 +10,8 @@ use Rattle.shelf_model.specs.Listing.{RiseFrom}
 use Rattle.shelf_records.proofs.Recorded.Members.{Each-member, Each-times}
 use Rattle.shelf_records.proofs.Spelled.RecordValues.{map-agrees}
 use Rattle.etagere_base.specs.declared.frames.Frame.{Frame}
-use Rattle.shelf_links.specs.declared.records.LinkedShelf.{LinkedShelf}
-use Rattle.shelf_links.specs.RecordLists.{Records, shelf_numbers, walked_lists}
+use Rattle.shelf_records.specs.declared.records.LinkedShelf.{LinkedShelf}
+use Rattle.shelf_records.specs.RecordLists.{Records, shelf_numbers, walked_lists}
 use Rattle.shelf_heights.specs.Private.ByHeight.{AreInOrder, AreByHeight, bound_of, order_of, put_in, raised, numbers_by_height, taken_out}
 use Rattle.shelf_records.specs.Private.Kept.{AreKept}
 use Rattle.shelf_heights.specs.declared.by_height.BoundedShelf.{BoundedShelf}

@@ -4,8 +4,8 @@ use Rattle.std.specs.Prelude.{◌==◌, if◌then◌else◌}
 use Rattle.std.specs.List.{AllByRecursion}
 use Rattle.etagere_base.specs.Lists.{times}
 use Rattle.etagere_links.proofs.ListEnds.{times-other}
-use Rattle.shelf_links.specs.declared.records.LinkedItem.{LinkedItem}
-use Rattle.shelf_links.specs.RecordLists.{Entry}
+use Rattle.shelf_records.specs.declared.records.LinkedItem.{LinkedItem}
+use Rattle.shelf_records.specs.RecordLists.{Entry}
 use Rattle.shelf_records.specs.AtlasRecords.{is_allocated_at}
 use Rattle.shelf_records.specs.Private.Judging.{AreOwn, is_own, is_own_free}
 use Rattle.shelf_records.specs.StandsFor.{ListsFree, free_present}

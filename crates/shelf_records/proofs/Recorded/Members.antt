@@ -5,7 +5,7 @@ use Rattle.std.specs.List.{AllByRecursion}
 use Rattle.etagere_base.specs.Lists.{times}
 use Rattle.etagere_base.proofs.TimesLemmas.{times-append}
 use Rattle.etagere_links.proofs.ListEnds.{times-here, times-other}
-use Rattle.shelf_links.specs.RecordLists.{Entry, item_numbers}
+use Rattle.shelf_records.specs.RecordLists.{Entry, item_numbers}
 
 -- a fact of each number is one of a number that stands in the list
 pub Each-member : (P : ℕ → Type 0) (xs : List ℕ) (k : ℕ) → AllByRecursion P xs → 1 ≤ times k xs → P k

@@ -6,8 +6,8 @@ use Rattle.std.proofs.lemmas.Grind.{flat_map-append}
 use Rattle.std.proofs.lemmas.List.{map-append}
 use Rattle.etagere_base.specs.Places.{rectangle_at}
 use Rattle.etagere_base.specs.declared.ids.Allocation.{Allocation}
-use Rattle.shelf_links.specs.RecordLists.{Entry, item_numbers, shelf_numbers}
-use Rattle.shelf_links.proofs.AllLists.LinkedFrames.{shelf_numbers-append}
+use Rattle.shelf_records.specs.RecordLists.{Entry, item_numbers, shelf_numbers}
+use Rattle.shelf_records.proofs.AllLists.LinkedFrames.{shelf_numbers-append}
 use Rattle.shelf_records.specs.AtlasRecords.{AtlasRecords, across_of, along_of, height_of, item_at, item_place_of, shelf_of, spelled_shelf}
 use Rattle.shelf_model.specs.Places.{allocation_of, allocations_after, allocations_along, column_height}
 use Rattle.shelf_records.proofs.Spelled.Witnessed.{IsPlaced}

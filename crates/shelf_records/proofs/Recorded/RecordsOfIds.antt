@@ -12,14 +12,14 @@ use Rattle.etagere_base.specs.declared.ids.Allocation.{Allocation}
 use Rattle.etagere_base.proofs.EachLemmas.{Each-middle}
 use Rattle.etagere_base.proofs.FirstPlace.{is_some-map}
 use Rattle.etagere_base.proofs.TimesLemmas.{times-append}
-use Rattle.shelf_links.specs.declared.records.LinkedItem.{LinkedItem}
-use Rattle.shelf_links.specs.declared.records.LinkedShelf.{LinkedShelf}
+use Rattle.shelf_records.specs.declared.records.LinkedItem.{LinkedItem}
+use Rattle.shelf_records.specs.declared.records.LinkedShelf.{LinkedShelf}
 use Rattle.etagere_links.specs.Lists.{HasEachOnce}
-use Rattle.shelf_links.specs.RecordLists.{Records, item_numbers, shelf_numbers, walked_lists}
+use Rattle.shelf_records.specs.RecordLists.{Records, item_numbers, shelf_numbers, walked_lists}
 use Rattle.etagere_links.specs.Edits.{field_at}
-use Rattle.shelf_links.proofs.AllLists.LinkedUnused.{three-count}
+use Rattle.shelf_records.proofs.AllLists.LinkedUnused.{three-count}
 use Rattle.etagere_links.proofs.WalkedLists.{once-part}
-use Rattle.shelf_links.proofs.AllLists.LinkedFrames.{shelf_numbers-append}
+use Rattle.shelf_records.proofs.AllLists.LinkedFrames.{shelf_numbers-append}
 use Rattle.etagere_links.proofs.ListEnds.{times-here, times-other}
 use Rattle.shelf_records.specs.AtlasRecords.{across_of, height_of, is_allocated_at, item_at, item_place_of, shelf_of, spelled_item}
 use Rattle.shelf_model.specs.Places.{allocation_of, allocations, is_allocated, rectangle_of}

@@ -1,7 +1,7 @@
 -- The heights of shelves, as they count for a column.
 use Rattle.std.proofs.Common.{◌≡◌, ℕ, ◌+◌, List, [], ◌∷◌, ◌++◌, ap, arith, ◌∙◌}
 use Rattle.std.specs.Prelude.{◌/◌, ◌==◌, if◌then◌else◌}
-use Rattle.shelf_links.specs.declared.records.LinkedShelf.{LinkedShelf}
+use Rattle.shelf_records.specs.declared.records.LinkedShelf.{LinkedShelf}
 use Rattle.shelf_records.specs.AtlasRecords.{along_of, height_of}
 use Rattle.shelf_records.specs.StandsFor.{height_before}
 use Rattle.shelf_records.proofs.Spelled.RecordValues.{SameShelf}

@@ -4,8 +4,8 @@ use Rattle.std.specs.Prelude.{◌*◌, filter, slice_get, if◌then◌else◌}
 use Rattle.std.specs.Option.{option_map_or}
 use Rattle.std.specs.List.{AllByRecursion}
 use Rattle.etagere_base.specs.Lists.{times}
-use Rattle.shelf_links.specs.declared.records.LinkedItem.{LinkedItem}
-use Rattle.shelf_links.specs.declared.records.LinkedShelf.{LinkedShelf}
+use Rattle.shelf_records.specs.declared.records.LinkedItem.{LinkedItem}
+use Rattle.shelf_records.specs.declared.records.LinkedShelf.{LinkedShelf}
 use Rattle.etagere_links.specs.Edits.{field_at, changed_by}
 use Rattle.etagere_links.proofs.RecordChanges.{get-changed_by-other}
 use Rattle.etagere_links.proofs.ListEnds.{times-here}

@@ -10,9 +10,9 @@ use Rattle.etagere_base.specs.declared.ids.Allocation.{Allocation}
 use Rattle.std.specs.List.{AllByRecursion}
 use Rattle.etagere_base.specs.Lists.{times}
 use Rattle.etagere_links.specs.Links.{no_link}
-use Rattle.shelf_links.specs.declared.records.LinkedItem.{LinkedItem}
+use Rattle.shelf_records.specs.declared.records.LinkedItem.{LinkedItem}
 use Rattle.etagere_links.proofs.ListEnds.{times-other}
-use Rattle.shelf_links.specs.RecordLists.{Entry, item_numbers}
+use Rattle.shelf_records.specs.RecordLists.{Entry, item_numbers}
 use Rattle.shelf_records.specs.AtlasRecords.{AtlasRecords, is_allocated_at, item_at, spelled_item, spelled_shelf, spelled_state}
 use Rattle.shelf_model.specs.Places.{allocated_numbers, allocations, record_number}
 use Rattle.shelf_model.specs.State.{AtlasState, items_in_use}

@@ -2,7 +2,7 @@
 use Rattle.std.proofs.Common.{◌≡◌, ℕ, ◌+◌, ◌*◌, Bool, true, false, cond, Option, None, Some, List, [], ◌∷◌, ◌++◌, map, filter, not, refl, ap, ◌∙◌, sym}
 use Rattle.std.specs.Prelude.{slice_get, if◌then◌else◌, is_none}
 use Rattle.std.specs.Option.{option_map_or}
-use Rattle.shelf_links.specs.declared.records.LinkedItem.{LinkedItem}
+use Rattle.shelf_records.specs.declared.records.LinkedItem.{LinkedItem}
 use Rattle.shelf_records.specs.AtlasRecords.{is_allocated_at, item_at, item_place_of, spelled_item}
 use Rattle.shelf_model.specs.Places.{free_places}
 use Rattle.shelf_records.specs.StandsFor.{LieFrom}

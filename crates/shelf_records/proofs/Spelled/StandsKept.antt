@@ -12,7 +12,7 @@ use Rattle.etagere_base.proofs.EachLemmas.{Each-weaken}
 use Rattle.etagere_base.proofs.TimesLemmas.{times-append}
 use Rattle.etagere_links.proofs.WalkedLists.{IsPart, part-of}
 use Rattle.etagere_links.proofs.Tallies.{length-once}
-use Rattle.shelf_links.specs.RecordLists.{Records, Entry, item_numbers, unused_item_walk, walked_lists}
+use Rattle.shelf_records.specs.RecordLists.{Records, Entry, item_numbers, unused_item_walk, walked_lists}
 use Rattle.shelf_records.specs.AtlasRecords.{AtlasRecords, along_of, is_allocated_at, item_at, item_place_of, spelled_shelf, state_spelled, walked_entries}
 use Rattle.shelf_model.specs.Merging.{both_free}
 use Rattle.shelf_model.specs.Places.{allocations, column_place, free_places, record_number}

@@ -6,12 +6,12 @@ use Rattle.std.specs.List.{AllByRecursion}
 use Rattle.etagere_base.specs.declared.faults.RestoreFault.TheVariants.{Counts, Link, FreeList, Sharing}
 use Rattle.etagere_base.specs.Lists.{times}
 use Rattle.etagere_links.specs.Links.{no_link}
-use Rattle.shelf_links.specs.RecordLists.{Records, Entry, first_item_of, first_free_of, shelf_walk, unused_shelf_walk, unused_item_walk, item_walk, walked_entry, walked_lists, shelf_numbers, item_numbers, IsEntry, IsLinked}
+use Rattle.shelf_records.specs.RecordLists.{Records, Entry, first_item_of, first_free_of, shelf_walk, unused_shelf_walk, unused_item_walk, item_walk, walked_entry, walked_lists, shelf_numbers, item_numbers, IsEntry, IsLinked}
 use Rattle.etagere_links.specs.Lists.{HasEachOnce}
-use Rattle.shelf_links.specs.Records.{item_chain, free_list, shelf_chain}
-use Rattle.shelf_links.proofs.AllLists.LinkedUnused.{three-count}
+use Rattle.shelf_records.specs.Records.{item_chain, free_list, shelf_chain}
+use Rattle.shelf_records.proofs.AllLists.LinkedUnused.{three-count}
 use Rattle.etagere_links.proofs.WalkedLists.{walk_by-leads}
-use Rattle.shelf_links.proofs.AllLists.LinkedWalks.{walked-numbers}
+use Rattle.shelf_records.proofs.AllLists.LinkedWalks.{walked-numbers}
 use Rattle.shelf_records.specs.AtlasRecords.{AtlasRecords, is_allocated_at, walked_entries}
 use Rattle.shelf_records.specs.Private.Kept.{AreFit, FollowsFit}
 use Rattle.shelf_records.specs.StandsFor.{HasCounts, HasItemLinks, HasFreeList, HasLinks, IsShared, StandsFor}

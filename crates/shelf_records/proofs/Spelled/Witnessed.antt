@@ -2,7 +2,7 @@
 -- which edits change it.
 use Rattle.std.specs.Prelude.{◌≡◌, ◌%◌, pos, false, []}
 use Rattle.std.specs.List.{AllByRecursion}
-use Rattle.shelf_links.specs.RecordLists.{Entry, Lists, IsLinked, shelf_numbers}
+use Rattle.shelf_records.specs.RecordLists.{Entry, Lists, IsLinked, shelf_numbers}
 use Rattle.shelf_records.specs.AtlasRecords.{AtlasRecords, along_of, is_allocated_at, is_empty_at, shelf_of, spelled_shelf, spelled_state}
 use Rattle.shelf_model.specs.Space.{space_in}
 use Rattle.shelf_records.specs.StandsFor.{AreStacked, HasCounts, LieFrom, ListsFree}

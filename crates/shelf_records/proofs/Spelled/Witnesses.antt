@@ -6,17 +6,17 @@ use Rattle.etagere_base.specs.declared.faults.RestoreFault.TheVariants.{Frame, C
 use Rattle.etagere_links.specs.Chains.{IsPileIn, LeadsBack}
 use Rattle.etagere_links.specs.Edits.{link_at}
 use Rattle.etagere_links.proofs.WalkedLists.{walk_by-fits}
-use Rattle.shelf_links.specs.Records.{free_list, item_chain, shelf_chain}
+use Rattle.shelf_records.specs.Records.{free_list, item_chain, shelf_chain}
 use Rattle.etagere_base.proofs.EachLemmas.{Each-weaken}
 use Rattle.etagere_base.proofs.TimesLemmas.{times-append}
 use Rattle.std.specs.List.{AllByRecursion}
 use Rattle.etagere_base.specs.Lists.{NoNeighbours}
 use Rattle.etagere_links.specs.Links.{no_link}
-use Rattle.shelf_links.specs.RecordLists.{Entry, Lists, first_free_of, first_item_of, shelf_walk, item_walk, free_walk, walked_entry, unused_item_walk, unused_shelf_walk, walked_lists, shelf_numbers, item_numbers, IsEntry, IsLinked, Records}
+use Rattle.shelf_records.specs.RecordLists.{Entry, Lists, first_free_of, first_item_of, shelf_walk, item_walk, free_walk, walked_entry, unused_item_walk, unused_shelf_walk, walked_lists, shelf_numbers, item_numbers, IsEntry, IsLinked, Records}
 use Rattle.etagere_links.specs.Lists.{HasEachOnce}
 use Rattle.etagere_links.specs.Walks.{Walked}
-use Rattle.shelf_links.proofs.AllLists.LinkedUnused.{three-count}
-use Rattle.shelf_links.proofs.AllLists.LinkedWalks.{AreWalks, HasWalks, linked-walks, linked-lists, walked-numbers}
+use Rattle.shelf_records.proofs.AllLists.LinkedUnused.{three-count}
+use Rattle.shelf_records.proofs.AllLists.LinkedWalks.{AreWalks, HasWalks, linked-walks, linked-lists, walked-numbers}
 use Rattle.shelf_records.specs.AtlasRecords.{AtlasRecords, is_allocated_at, along_of, spelled_shelf, spelled_state, state_spelled, walked_entries}
 use Rattle.shelf_model.specs.Merging.{both_free}
 use Rattle.shelf_records.specs.Private.Kept.{AreFit, AreKept, FollowsFit, atlas_of, bare, state_of}

@@ -6,8 +6,8 @@ use Rattle.etagere_base.specs.declared.frames.Frame.{Frame}
 use Rattle.std.specs.List.{AllByRecursion}
 use Rattle.etagere_links.specs.Edits.{link_at}
 use Rattle.etagere_links.specs.Walks.{walk_by}
-use Rattle.shelf_links.specs.RecordLists.{Records, Entry, first_free_of, first_item_of, shelf_walk, walked_lists}
-use Rattle.shelf_links.specs.Records.{free_list, item_chain, shelf_chain}
+use Rattle.shelf_records.specs.RecordLists.{Records, Entry, first_free_of, first_item_of, shelf_walk, walked_lists}
+use Rattle.shelf_records.specs.Records.{free_list, item_chain, shelf_chain}
 use Rattle.shelf_records.specs.AtlasRecords.{AtlasRecords, spelled_state}
 use Rattle.shelf_records.specs.Private.Restoring.{Fits}
 use Rattle.shelf_records.specs.StandsFor.{StandsFor}

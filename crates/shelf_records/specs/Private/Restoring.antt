@@ -8,9 +8,9 @@ use Rattle.etagere_links.specs.declared.marking.WalkFault.TheVariants.{OutOfRang
 use Rattle.etagere_links.specs.Edits.{AreFitting, link_at}
 use Rattle.etagere_links.specs.Chains.{LeadsBack}
 use Rattle.etagere_links.specs.Links.{bits_of, link_of, no_link}
-use Rattle.shelf_links.specs.RecordLists.{Records, Entry, first_free_of, first_item_of, free_walk, item_numbers, item_walk, shelf_walk, unused_item_walk, unused_shelf_walk}
+use Rattle.shelf_records.specs.RecordLists.{Records, Entry, first_free_of, first_item_of, free_walk, item_numbers, item_walk, shelf_walk, unused_item_walk, unused_shelf_walk}
 use Rattle.etagere_links.specs.Lists.{HasEachOnce}
-use Rattle.shelf_links.specs.Records.{item_chain, free_list, shelf_chain}
+use Rattle.shelf_records.specs.Records.{item_chain, free_list, shelf_chain}
 use Rattle.shelf_records.specs.AtlasRecords.{AtlasRecords, walked_entries}
 
 -- the fault of a snapshot where a walk along a free list is refused

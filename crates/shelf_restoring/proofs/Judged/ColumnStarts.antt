@@ -6,8 +6,8 @@ use Rattle.std.specs.Prelude.{◌==◌, Decides, nat_le}
 use Rattle.etagere_base.proofs.DecidingLemmas.{decides-no, decides-yes}
 use Rattle.etagere_base.specs.declared.frames.Frame.{Frame}
 use Rattle.etagere_base.specs.Frames.{across_side}
-use Rattle.shelf_links.specs.declared.records.LinkedShelf.{LinkedShelf}
-use Rattle.shelf_links.specs.RecordLists.{Entry}
+use Rattle.shelf_records.specs.declared.records.LinkedShelf.{LinkedShelf}
+use Rattle.shelf_records.specs.RecordLists.{Entry}
 use Rattle.shelf_records.specs.AtlasRecords.{across_of, along_of, height_of}
 use Rattle.shelf_records.specs.Private.Judging.{column_at, height_below}
 use Rattle.shelf_restoring.specs.Private.Rules.{IsNext}

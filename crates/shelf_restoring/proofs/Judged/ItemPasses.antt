@@ -7,14 +7,14 @@ use Rattle.std.specs.List.{AllByRecursion}
 use Rattle.std.specs.Prelude.{Decides}
 use Rattle.etagere_links.specs.Chains.{LeadsBack}
 use Rattle.etagere_links.specs.Edits.{link_at}
-use Rattle.shelf_links.specs.declared.records.LinkedItem.{LinkedItem}
-use Rattle.shelf_links.specs.Records.{item_chain}
+use Rattle.shelf_records.specs.declared.records.LinkedItem.{LinkedItem}
+use Rattle.shelf_records.specs.Records.{item_chain}
 use Rattle.shelf_model.specs.Merging.{both_free}
 use Rattle.shelf_model.specs.Space.{allocated_width}
 use Rattle.shelf_model.specs.State.{is_free}
 use Rattle.shelf_model.specs.Valid.{IsItem}
 use Rattle.shelf_records.specs.AtlasRecords.{is_allocated_at, item_at, shelf_of, width_of}
-use Rattle.shelf_links.specs.RecordLists.{Entry}
+use Rattle.shelf_records.specs.RecordLists.{Entry}
 use Rattle.shelf_records.specs.StandsFor.{LieFrom, LinkBack, free_present}
 use Rattle.shelf_records.proofs.Spelled.SpelledPlaces.{free-spelled}
 use Rattle.shelf_restoring.specs.Private.Rules.{ApartFrom, LinkedFrom, RowFrom}

@@ -6,9 +6,9 @@ use Rattle.etagere_base.specs.declared.frames.Frame.{Frame}
 use Rattle.etagere_base.specs.Frames.{IsFrame, longest_side}
 use Rattle.std.specs.List.{AllByRecursion}
 use Rattle.etagere_base.specs.Lists.{NoNeighbours}
-use Rattle.shelf_links.specs.declared.records.LinkedItem.{LinkedItem}
-use Rattle.shelf_links.specs.declared.records.LinkedShelf.{LinkedShelf}
-use Rattle.shelf_links.specs.RecordLists.{Entry}
+use Rattle.shelf_records.specs.declared.records.LinkedItem.{LinkedItem}
+use Rattle.shelf_records.specs.declared.records.LinkedShelf.{LinkedShelf}
+use Rattle.shelf_records.specs.RecordLists.{Entry}
 use Rattle.shelf_records.specs.AtlasRecords.{along_of, height_of, spelled_shelf, spelled_state}
 use Rattle.shelf_records.specs.Private.Judging.{atlas_of_records, column_at, height_below, is_later, StackFrom, FillFrom}
 use Rattle.shelf_records.specs.StandsFor.{HasShelves}

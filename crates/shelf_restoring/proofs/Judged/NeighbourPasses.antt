@@ -3,7 +3,7 @@ use Rattle.std.proofs.Common.{◌≡◌, ℕ, Bool, true, false, ◌&&◌, List,
 use Rattle.std.specs.List.{AllByRecursion}
 use Rattle.std.specs.Prelude.{◌==◌}
 use Rattle.etagere_base.specs.Lists.{NoNeighbours}
-use Rattle.shelf_links.specs.RecordLists.{Entry}
+use Rattle.shelf_records.specs.RecordLists.{Entry}
 use Rattle.shelf_model.specs.Merging.{both_empty, both_free}
 use Rattle.shelf_model.specs.State.{Shelf, is_empty}
 use Rattle.shelf_records.specs.AtlasRecords.{AtlasRecords, spelled_shelf, spelled_state}

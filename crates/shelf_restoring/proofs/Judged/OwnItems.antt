@@ -7,8 +7,8 @@ use Rattle.etagere_base.proofs.TimesLemmas.{times-append}
 use Rattle.std.specs.List.{AllByRecursion}
 use Rattle.etagere_base.specs.Lists.{times}
 use Rattle.etagere_links.proofs.ListEnds.{times-here, times-other}
-use Rattle.shelf_links.specs.declared.records.LinkedItem.{LinkedItem}
-use Rattle.shelf_links.specs.RecordLists.{Entry, item_numbers, shelf_numbers}
+use Rattle.shelf_records.specs.declared.records.LinkedItem.{LinkedItem}
+use Rattle.shelf_records.specs.RecordLists.{Entry, item_numbers, shelf_numbers}
 use Rattle.shelf_records.specs.AtlasRecords.{shelf_of}
 use Rattle.shelf_records.specs.Private.Judging.{AreOwn, is_own}
 use Rattle.shelf_records.proofs.Judged.FreeLists.{each-stands}

@@ -4,8 +4,8 @@ use Rattle.std.specs.List.{AllByRecursion}
 use Rattle.etagere_base.proofs.EachLemmas.{Each-weaken}
 use Rattle.etagere_base.specs.Lists.{times}
 use Rattle.etagere_links.specs.Lists.{HasEachOnce}
-use Rattle.shelf_links.specs.declared.records.LinkedItem.{LinkedItem}
-use Rattle.shelf_links.specs.RecordLists.{Entry, item_numbers, shelf_numbers}
+use Rattle.shelf_records.specs.declared.records.LinkedItem.{LinkedItem}
+use Rattle.shelf_records.specs.RecordLists.{Entry, item_numbers, shelf_numbers}
 use Rattle.shelf_records.specs.Private.Judging.{AreOwn, AreUsed}
 use Rattle.shelf_records.specs.StandsFor.{FreeBack, LinkBack}
 use Rattle.shelf_records.proofs.Judged.FreeLists.{lists-length, lists-own, own-lists}

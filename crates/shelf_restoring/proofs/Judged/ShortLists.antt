@@ -5,7 +5,7 @@ use Rattle.etagere_base.proofs.TimesLemmas.{times-append}
 use Rattle.std.specs.List.{AllByRecursion}
 use Rattle.etagere_base.specs.Lists.{times}
 use Rattle.etagere_links.proofs.Tallies.{length-once}
-use Rattle.shelf_links.specs.RecordLists.{Entry, item_numbers, shelf_numbers}
+use Rattle.shelf_records.specs.RecordLists.{Entry, item_numbers, shelf_numbers}
 use Rattle.etagere_links.specs.Lists.{HasEachOnce}
 
 -- each number of a list is below a count, and stands there once at most

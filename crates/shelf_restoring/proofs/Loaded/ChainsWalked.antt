@@ -5,7 +5,7 @@ use Rattle.std.specs.List.{AllByRecursion}
 use Rattle.etagere_base.proofs.EachLemmas.{Each-append}
 use Rattle.etagere_base.proofs.TimesLemmas.{times-append}
 use Rattle.etagere_links.specs.Marks.{IsMarkedBy}
-use Rattle.shelf_links.specs.RecordLists.{Records, Entry, free_walk, item_numbers, item_walk, shelf_walk, unused_item_walk, walked_entry}
+use Rattle.shelf_records.specs.RecordLists.{Records, Entry, free_walk, item_numbers, item_walk, shelf_walk, unused_item_walk, walked_entry}
 use Rattle.etagere_links.specs.Lists.{HasEachOnce}
 use Rattle.etagere_links.proofs.MarkLemmas.{marked-length}
 use Rattle.shelf_records.specs.AtlasRecords.{AtlasRecords, walked_entries}

@@ -11,10 +11,10 @@ use Rattle.etagere_links.specs.declared.marking.WalkFault.TheVariants.{OutOfRang
 use Rattle.etagere_links.specs.Links.{bits_of, no_link}
 use Rattle.etagere_links.specs.LinksRead.{has_each, is_own, links_in, links_until}
 use Rattle.etagere_links.specs.Marks.{IsMarkedBy}
-use Rattle.shelf_links.specs.RecordLists.{Records, first_free_of, first_item_of, free_walk, item_numbers, item_walk, shelf_walk, unused_item_walk, unused_shelf_walk, walked_entry}
+use Rattle.shelf_records.specs.RecordLists.{Records, first_free_of, first_item_of, free_walk, item_numbers, item_walk, shelf_walk, unused_item_walk, unused_shelf_walk, walked_entry}
 use Rattle.etagere_links.specs.Lists.{HasEachOnce}
 use Rattle.etagere_links.specs.Walks.{walk_by, Walked}
-use Rattle.shelf_links.specs.Records.{free_list, item_chain, shelf_chain}
+use Rattle.shelf_records.specs.Records.{free_list, item_chain, shelf_chain}
 use Rattle.etagere_links.specs.WalkFaults.{BreaksOff, links_by, restore_fault}
 use Rattle.etagere_links.proofs.ReadLinks.{met_by, met_by-length, marked-once, not-told, once-told, own-once, until-all, until-fault, until-own, until-some}
 use Rattle.etagere_links.proofs.WalkChains.{walk-leads}

@@ -8,7 +8,7 @@ use Rattle.etagere_links.specs.declared.marking.WalkFault.{WalkFault}
 use Rattle.etagere_links.specs.declared.marking.WalkFault.TheVariants.{OutOfRange, Marked, Circular, Memory}
 use Rattle.etagere_links.specs.Links.{no_link}
 use Rattle.etagere_links.specs.Marks.{HasTwice, IsMarkedBy}
-use Rattle.shelf_links.specs.RecordLists.{Records, Entry, free_walk, item_numbers, item_walk, shelf_walk, unused_item_walk, unused_shelf_walk, walked_entry}
+use Rattle.shelf_records.specs.RecordLists.{Records, Entry, free_walk, item_numbers, item_walk, shelf_walk, unused_item_walk, unused_shelf_walk, walked_entry}
 use Rattle.etagere_links.specs.Lists.{HasEachOnce}
 use Rattle.etagere_links.specs.WalkFaults.{BreaksOff, restore_fault}
 use Rattle.etagere_links.specs.Walks.{Walked}

@@ -5,13 +5,13 @@ use Rattle.std.proofs.lemmas.List.{length-map}
 use Rattle.std.specs.List.{AllByRecursion}
 use Rattle.etagere_base.specs.Lists.{times}
 use Rattle.etagere_base.proofs.EachLemmas.{Each-weaken}
-use Rattle.shelf_links.proofs.AllLists.LinkedWalks.{walked-numbers}
+use Rattle.shelf_records.proofs.AllLists.LinkedWalks.{walked-numbers}
 use Rattle.etagere_links.proofs.WalkChains.{walk-leads}
-use Rattle.shelf_links.specs.declared.records.LinkedItem.{LinkedItem}
+use Rattle.shelf_records.specs.declared.records.LinkedItem.{LinkedItem}
 use Rattle.etagere_links.specs.Links.{bits_of, no_link}
-use Rattle.shelf_links.specs.RecordLists.{Records, Entry, first_free_of, first_item_of, item_numbers, shelf_numbers, shelf_walk, unused_item_walk, unused_shelf_walk, walked_entry}
+use Rattle.shelf_records.specs.RecordLists.{Records, Entry, first_free_of, first_item_of, item_numbers, shelf_numbers, shelf_walk, unused_item_walk, unused_shelf_walk, walked_entry}
 use Rattle.etagere_links.specs.Lists.{HasEachOnce}
-use Rattle.shelf_links.specs.Records.{free_list, item_chain}
+use Rattle.shelf_records.specs.Records.{free_list, item_chain}
 use Rattle.shelf_records.specs.AtlasRecords.{AtlasRecords, walked_entries}
 use Rattle.shelf_records.specs.Private.Restoring.{HasChain, HasFree, IsWalked}
 use Rattle.shelf_restoring.proofs.Loaded.ChainsWalked.{once-walked}

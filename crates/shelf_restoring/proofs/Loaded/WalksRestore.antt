@@ -3,7 +3,7 @@
 use Rattle.std.proofs.Common.{◌≡◌, List, length, refl, ap, sym, ◌∙◌}
 use Rattle.etagere_base.specs.declared.faults.RestoreFault.{RestoreFault}
 use Rattle.etagere_base.specs.declared.faults.RestoreFault.TheVariants.{Frame, Counts, Link, Shelves, Runs, Neighbours, FreeList, Sharing, Unused, Space, Memory}
-use Rattle.shelf_links.specs.RecordLists.{Entry, item_numbers}
+use Rattle.shelf_records.specs.RecordLists.{Entry, item_numbers}
 use Rattle.shelf_records.specs.AtlasRecords.{AtlasRecords, state_spelled, walked_entries}
 use Rattle.shelf_records.specs.Snapshots.{IsBroken}
 use Rattle.shelf_records.specs.StandsFor.{StandsFor}

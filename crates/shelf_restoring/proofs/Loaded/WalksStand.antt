@@ -3,7 +3,7 @@ use Rattle.std.proofs.Common.{◌≡◌, ℕ, ℤ, List, [], ◌∷◌, length, 
 use Rattle.std.specs.List.{AllByRecursion}
 use Rattle.etagere_base.specs.declared.faults.RestoreFault.TheVariants.{Space}
 use Rattle.etagere_links.specs.Links.{no_link}
-use Rattle.shelf_links.specs.RecordLists.{Entry, free_walk, item_walk, shelf_walk, unused_item_walk, unused_shelf_walk, walked_entry}
+use Rattle.shelf_records.specs.RecordLists.{Entry, free_walk, item_walk, shelf_walk, unused_item_walk, unused_shelf_walk, walked_entry}
 use Rattle.etagere_links.specs.Walks.{Walked}
 use Rattle.shelf_records.specs.AtlasRecords.{AtlasRecords, state_spelled, walked_entries}
 use Rattle.shelf_records.specs.Private.Kept.{AreKept}

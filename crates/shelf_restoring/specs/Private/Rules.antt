@@ -3,12 +3,12 @@ use Rattle.std.specs.Prelude.{◌≡◌, ℕ, ◌+◌, ◌%◌, ◌≤◌, ◌&&
 use Rattle.etagere_base.specs.declared.frames.Frame.{Frame}
 use Rattle.etagere_base.specs.Frames.{across_side}
 use Rattle.std.specs.List.{AllByRecursion}
-use Rattle.shelf_links.specs.declared.records.LinkedItem.{LinkedItem}
-use Rattle.shelf_links.specs.declared.records.LinkedShelf.{LinkedShelf}
-use Rattle.shelf_links.specs.RecordLists.{Entry}
+use Rattle.shelf_records.specs.declared.records.LinkedItem.{LinkedItem}
+use Rattle.shelf_records.specs.declared.records.LinkedShelf.{LinkedShelf}
+use Rattle.shelf_records.specs.RecordLists.{Entry}
 use Rattle.etagere_links.specs.Chains.{LeadsBack}
 use Rattle.etagere_links.specs.Edits.{link_at}
-use Rattle.shelf_links.specs.Records.{free_list, item_chain}
+use Rattle.shelf_records.specs.Records.{free_list, item_chain}
 use Rattle.shelf_records.specs.AtlasRecords.{across_of, along_of, height_of, is_allocated_at, is_empty_at, item_at, item_place_of, shelf_of, width_of}
 use Rattle.shelf_records.specs.Private.Judging.{column_at, height_below, is_own_free}
 use Rattle.shelf_model.specs.Valid.{IsItem}

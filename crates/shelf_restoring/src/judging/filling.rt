@@ -6,8 +6,7 @@ ghost use Rattle.std.specs.Prelude.{◌≡◌, map};
 ghost use Rattle.shelf_model.specs.State as state;
 ghost use Rattle.shelf_records.specs.AtlasRecords.{item_at};
 
-use shelf_links::LinkedItem;
-use shelf_records::fields;
+use shelf_records::{LinkedItem, fields};
 
 /// Whether these items are one, and that is free.
 pub fn is_one_free(items: &[LinkedItem], numbers: &[u16]) -> bool

@@ -5,7 +5,7 @@
 
 ghost use Rattle.std.specs.Prelude.{◌≡◌, true, Decides, IfOk, length};
 ghost use Rattle.std.specs.List.{AllByRecursion};
-ghost use Rattle.shelf_links.specs.RecordLists.{Entry};
+ghost use Rattle.shelf_records.specs.RecordLists.{Entry};
 ghost use Rattle.shelf_records.specs.Private.Judging as judging;
 ghost use Rattle.shelf_records.specs.Private.Judging.{AreUsed};
 ghost use Rattle.shelf_records.specs.StandsFor.{free_present};
@@ -13,8 +13,7 @@ ghost use Rattle.shelf_restoring.specs.Private.Rules.{FreeOwn};
 
 use crate::judging::linking::links_back;
 use etagere_links::FreeList;
-use shelf_links::LinkedItem;
-use shelf_records::fields;
+use shelf_records::{LinkedItem, fields};
 use std::alloc::{AllocError, Global};
 
 /// The marks of the items in use, of so many: all but those unused.

@@ -7,7 +7,7 @@ ghost use Rattle.etagere_base.specs.Frames.{IsFrame, alignment_along, longest_si
 ghost use Rattle.etagere_base.specs.declared.frames.Frame.{Frame};
 ghost use Rattle.etagere_links.specs.Edits.{link_at};
 ghost use Rattle.etagere_links.specs.Links.{no_link};
-ghost use Rattle.shelf_links.specs.Records.{item_chain};
+ghost use Rattle.shelf_records.specs.Records.{item_chain};
 ghost use Rattle.shelf_model.specs.Space as space;
 ghost use Rattle.shelf_model.specs.State as state;
 ghost use Rattle.shelf_model.specs.Valid.{IsItem};
@@ -19,8 +19,7 @@ ghost use Rattle.shelf_restoring.specs.Private.Rules.{ApartFrom, LinkedFrom, Row
 use crate::judging::linking::is_link_to;
 use etagere_base::Frame;
 use etagere_links::{Chain, previous_of};
-use shelf_links::LinkedItem;
-use shelf_records::fields;
+use shelf_records::{LinkedItem, fields};
 
 /// What is found of the items of a shelf.
 #[derive(Clone, Copy, Drop)]

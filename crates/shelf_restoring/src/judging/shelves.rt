@@ -7,7 +7,7 @@ ghost use Rattle.std.specs.Prelude.{◌≡◌, ◌≤◌, ◌*◌, Decides, IsTr
 ghost use Rattle.etagere_base.specs.Frames.{IsFrame, longest_side};
 ghost use Rattle.etagere_base.specs.Lists.{NoNeighbours};
 ghost use Rattle.etagere_links.specs.Links.{no_link};
-ghost use Rattle.shelf_links.specs.RecordLists.{Entry};
+ghost use Rattle.shelf_records.specs.RecordLists.{Entry};
 ghost use Rattle.shelf_model.specs.Merging.{both_free};
 ghost use Rattle.shelf_model.specs.Space as space;
 ghost use Rattle.shelf_model.specs.State as state;
@@ -24,7 +24,7 @@ use crate::judging::items::judge_items;
 use crate::judging::stacking::{fills_columns, is_next};
 use etagere_base::Frame;
 use etagere_links::Link;
-use shelf_links::{LinkedItem, LinkedShelf};
+use shelf_records::{LinkedItem, LinkedShelf};
 
 /// Which rules shelves keep, and the area of their allocated items.
 #[derive(Clone, Copy, Drop)]

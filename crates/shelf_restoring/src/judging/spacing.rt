@@ -7,8 +7,7 @@ ghost use Rattle.std.specs.Prelude.{◌≡◌, false, pos, Decides};
 ghost use Rattle.std.specs.List.{AllByRecursion};
 ghost use Rattle.shelf_records.specs.AtlasRecords as spec;
 
-use shelf_links::LinkedItem;
-use shelf_records::fields;
+use shelf_records::{LinkedItem, fields};
 
 /// Whether none of these items is allocated.
 pub fn none_allocated(items: &[LinkedItem], numbers: &[u16]) -> bool

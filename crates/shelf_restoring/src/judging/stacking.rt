@@ -6,12 +6,12 @@
 ghost use Rattle.std.specs.Prelude.{◌≡◌, ◌≤◌, ◌/◌, ◌%◌, List, [], Decides};
 ghost use Rattle.etagere_base.specs.Frames.{longest_side};
 ghost use Rattle.etagere_links.specs.Links.{no_link};
-ghost use Rattle.shelf_links.specs.declared.records.LinkedShelf.{LinkedShelf};
+ghost use Rattle.shelf_records.specs.declared.records.LinkedShelf.{LinkedShelf};
 ghost use Rattle.shelf_restoring.specs.Private.Rules.{FollowFrom, IsNext, SaysOf};
 
 use crate::judging::WalkedShelf;
 use etagere_base::Frame;
-use shelf_links::LinkedShelf;
+use shelf_records::LinkedShelf;
 
 /// Whether a shelf, of which this is the record, stands where so much is filled of the column that starts here, if a
 /// column does.

@@ -6,8 +6,8 @@ use Rattle.std.specs.Prelude.{nat_lt}
 use Rattle.std.specs.List.{AllByRecursion}
 use Rattle.etagere_base.specs.Lists.{times}
 use Rattle.etagere_base.specs.declared.frames.Frame.{Frame}
-use Rattle.shelf_links.specs.RecordLists.{Records, shelf_walk}
-use Rattle.shelf_links.proofs.AllLists.LinkedWalks.{walked-numbers}
+use Rattle.shelf_records.specs.RecordLists.{Records, shelf_walk}
+use Rattle.shelf_records.proofs.AllLists.LinkedWalks.{walked-numbers}
 use Rattle.shelf_model.specs.Choice.{bad_fit_rank}
 use Rattle.shelf_model.specs.Listing.{RiseFrom}
 use Rattle.shelf_heights.specs.Private.ByHeight.{AreByHeight, order_of, chain_order, numbers_by_height}

@@ -5,8 +5,8 @@ use Rattle.std.proofs.lemmas.Bool.Decides.{nat_tests}
 use Rattle.std.proofs.lemmas.List.{length-map, get_or-drop, get_or-map, length-drop}
 use Rattle.std.specs.Option.{is_some}
 use Rattle.std.specs.Prelude.{find, nat_le, nat_lt, if◌then◌else◌}
-use Rattle.shelf_links.specs.RecordLists.{Records, free_walk}
-use Rattle.shelf_links.specs.declared.records.LinkedShelf.{LinkedShelf}
+use Rattle.shelf_records.specs.RecordLists.{Records, free_walk}
+use Rattle.shelf_records.specs.declared.records.LinkedShelf.{LinkedShelf}
 use Rattle.shelf_records.specs.AtlasRecords.{height_of, item_at}
 use Rattle.shelf_heights.specs.Private.ByHeight.{chain_order, bounded_at, numbers_by_height}
 use Rattle.shelf_store.specs.Private.Opening.{AreSearchable, IsEarliestWide, IsSearchable, looked_into, chain_order_at, widest_of}

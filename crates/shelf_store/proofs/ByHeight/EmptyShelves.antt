@@ -7,7 +7,7 @@ use Rattle.std.specs.Option.{is_some, option_map_or}
 use Rattle.std.specs.Prelude.{◌/◌, nat_le}
 use Rattle.std.specs.List.{AllByRecursion}
 use Rattle.etagere_base.proofs.EachLemmas.{Each-front, Each-weaken}
-use Rattle.shelf_links.specs.RecordLists.{Records, free_walk}
+use Rattle.shelf_records.specs.RecordLists.{Records, free_walk}
 use Rattle.shelf_records.specs.AtlasRecords.{height_of, is_empty_at, item_at}
 use Rattle.shelf_heights.specs.Private.ByHeight.{IsFirstAsWide, bounded_at, numbers_by_height}
 use Rattle.shelf_store.specs.Private.Opening.{AreSearchable, AreWhole, IsSearchable}

@@ -1,8 +1,8 @@
 -- Shelves by height of kept records, by the lists that these spell.
 use Rattle.std.proofs.Common.{◌≡◌, ℕ, List, subst, arith, sym}
 use Rattle.etagere_base.specs.declared.frames.Frame.{Frame}
-use Rattle.shelf_links.specs.RecordLists.{Lists, Records, shelf_numbers, shelf_walk, walked_lists}
-use Rattle.shelf_links.proofs.AllLists.LinkedWalks.{walked-numbers}
+use Rattle.shelf_records.specs.RecordLists.{Lists, Records, shelf_numbers, shelf_walk, walked_lists}
+use Rattle.shelf_records.proofs.AllLists.LinkedWalks.{walked-numbers}
 use Rattle.shelf_heights.specs.Private.ByHeight.{AreByHeight, IsByHeight, chain_order}
 use Rattle.shelf_records.specs.Private.Kept.{AreKept, atlas_of, bare}
 use Rattle.shelf_heights.specs.declared.by_height.BoundedShelf.{BoundedShelf}

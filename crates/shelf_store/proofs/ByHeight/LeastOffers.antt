@@ -5,8 +5,8 @@ use Rattle.std.specs.Prelude.{◌/◌, ◌||◌, nat_le, nat_lt}
 use Rattle.std.specs.List.{AllByRecursion}
 use Rattle.etagere_base.specs.Lists.{times}
 use Rattle.etagere_base.specs.declared.frames.Frame.{Frame}
-use Rattle.shelf_links.specs.declared.records.LinkedShelf.{LinkedShelf}
-use Rattle.shelf_links.specs.RecordLists.{Records}
+use Rattle.shelf_records.specs.declared.records.LinkedShelf.{LinkedShelf}
+use Rattle.shelf_records.specs.RecordLists.{Records}
 use Rattle.shelf_records.specs.AtlasRecords.{height_of, is_empty_at}
 use Rattle.shelf_model.specs.Choice.{bad_fit_rank}
 use Rattle.shelf_model.specs.Listing.{RiseFrom}

@@ -5,11 +5,11 @@ use Rattle.etagere_base.proofs.EachLemmas.{Each-append, Each-back, Each-front, E
 use Rattle.etagere_base.proofs.TimesLemmas.{hit, times-append, times-remove_place}
 use Rattle.std.specs.List.{AllByRecursion}
 use Rattle.etagere_base.specs.Lists.{times}
-use Rattle.shelf_links.specs.declared.records.LinkedShelf.{LinkedShelf}
+use Rattle.shelf_records.specs.declared.records.LinkedShelf.{LinkedShelf}
 use Rattle.etagere_links.specs.Links.{no_link}
-use Rattle.shelf_links.specs.RecordLists.{Records, Entry, shelf_numbers}
-use Rattle.shelf_links.specs.RecordMerges.{shelf_absorbed}
-use Rattle.shelf_links.proofs.AllLists.LinkedFrames.{shelf_numbers-append}
+use Rattle.shelf_records.specs.RecordLists.{Records, Entry, shelf_numbers}
+use Rattle.shelf_records.specs.RecordMerges.{shelf_absorbed}
+use Rattle.shelf_records.proofs.AllLists.LinkedFrames.{shelf_numbers-append}
 use Rattle.shelf_records.specs.AtlasRecords.{AtlasRecords, height_of, item_at, spelled_shelf}
 use Rattle.shelf_heights.specs.Private.ByHeight.{AreBounds, AreInOrder, IsBound, bound_of, order_of, chain_order, raised, numbers_by_height, taken_out}
 use Rattle.shelf_store.specs.Private.ItemReturned.{empty_next}

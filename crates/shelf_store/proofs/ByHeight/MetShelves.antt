@@ -4,7 +4,7 @@ use Rattle.std.proofs.Math.Seq.{drop-cons}
 use Rattle.std.proofs.lemmas.List.{length-append, length-drop, length-map}
 use Rattle.etagere_base.specs.Lists.{times}
 use Rattle.etagere_base.specs.declared.frames.Frame.{Frame}
-use Rattle.shelf_links.specs.RecordLists.{Records, shelf_walk}
+use Rattle.shelf_records.specs.RecordLists.{Records, shelf_walk}
 use Rattle.shelf_heights.specs.Private.ByHeight.{newly_bounded}
 use Rattle.shelf_records.specs.Private.Kept.{AreKept}
 use Rattle.shelf_heights.specs.declared.by_height.BoundedShelf.{BoundedShelf}

@@ -13,9 +13,9 @@ use Rattle.etagere_base.specs.declared.frames.Frame.{Frame}
 use Rattle.etagere_base.proofs.EachLemmas.{Each-all, Each-weaken}
 use Rattle.etagere_base.proofs.FrameSides.{columns-apart}
 use Rattle.etagere_base.proofs.TimesLemmas.{hit}
-use Rattle.shelf_links.proofs.AllLists.LinkedWalks.{walked-numbers}
-use Rattle.shelf_links.specs.declared.records.LinkedShelf.{LinkedShelf}
-use Rattle.shelf_links.specs.RecordLists.{Entry, Records, shelf_numbers, shelf_walk, walked_lists}
+use Rattle.shelf_records.proofs.AllLists.LinkedWalks.{walked-numbers}
+use Rattle.shelf_records.specs.declared.records.LinkedShelf.{LinkedShelf}
+use Rattle.shelf_records.specs.RecordLists.{Entry, Records, shelf_numbers, shelf_walk, walked_lists}
 use Rattle.shelf_records.specs.AtlasRecords.{height_of, spelled_shelf}
 use Rattle.shelf_model.specs.Listing.{RiseFrom}
 use Rattle.shelf_heights.specs.Private.ByHeight.{AreBounds, AreByHeight, IsBound, bounded_at, newly_bounded, order_at, order_of, chain_order, numbers_by_height}

@@ -2,7 +2,7 @@
 use Rattle.std.proofs.Common.{◌≡◌, ◌≢◌, ℕ, ◌+◌, List, [], ◌∷◌, ◌++◌, length, map, arith}
 use Rattle.std.specs.List.{AllByRecursion}
 use Rattle.etagere_base.specs.Lists.{times}
-use Rattle.shelf_links.specs.RecordLists.{Entry, shelf_numbers}
+use Rattle.shelf_records.specs.RecordLists.{Entry, shelf_numbers}
 use Rattle.etagere_links.proofs.ListEnds.{times-here}
 use Rattle.shelf_records.specs.AtlasRecords.{AtlasRecords, spelled_shelf}
 use Rattle.shelf_heights.specs.Private.ByHeight.{IsBound, numbers_by_height}

@@ -6,7 +6,7 @@ use Rattle.std.specs.Option.{option_map_or}
 use Rattle.std.proofs.lemmas.Bool.Decides.{nat_tests}
 use Rattle.std.specs.Prelude.{◌/◌, ◌||◌, nat_le, nat_lt}
 use Rattle.std.specs.List.{AllByRecursion}
-use Rattle.shelf_links.specs.RecordLists.{Records}
+use Rattle.shelf_records.specs.RecordLists.{Records}
 use Rattle.shelf_records.specs.AtlasRecords.{height_of, is_empty_at}
 use Rattle.shelf_model.specs.Choice.{bad_fit_rank}
 use Rattle.shelf_heights.specs.Private.ByHeight.{AreInOrder, IsFirstAsWide, order_of, numbers_by_height, bounded_at}

@@ -10,9 +10,9 @@ use Rattle.etagere_base.specs.Lists.{NoNeighbours}
 use Rattle.etagere_base.specs.declared.frames.Frame.{Frame}
 use Rattle.etagere_base.proofs.EachLemmas.{Each-get}
 use Rattle.etagere_base.proofs.FrameSides.{column-within, columns-apart, sides_low}
-use Rattle.shelf_links.specs.declared.records.LinkedShelf.{LinkedShelf}
-use Rattle.shelf_links.specs.RecordLists.{Records, shelf_walk, walked_entry}
-use Rattle.shelf_links.proofs.AllLists.LinkedWalks.{walked-numbers}
+use Rattle.shelf_records.specs.declared.records.LinkedShelf.{LinkedShelf}
+use Rattle.shelf_records.specs.RecordLists.{Records, shelf_walk, walked_entry}
+use Rattle.shelf_records.proofs.AllLists.LinkedWalks.{walked-numbers}
 use Rattle.shelf_records.specs.AtlasRecords.{AtlasRecords, across_of, along_of, height_of, spelled_shelf}
 use Rattle.shelf_model.specs.Listing.{RiseFrom}
 use Rattle.shelf_model.specs.Places.{column_height}

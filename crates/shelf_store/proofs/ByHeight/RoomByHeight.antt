@@ -2,9 +2,9 @@
 use Rattle.std.proofs.Common.{◌≡◌, ℕ, ◌+◌, ◌<◌, ◌≤◌, Bool, true, false, Option, None, Some, List, [], ◌∷◌, ◌++◌, length, refl, arith, if◌then◌else◌}
 use Rattle.std.proofs.lemmas.List.{length-append, length-map}
 use Rattle.etagere_base.specs.declared.frames.Frame.{Frame}
-use Rattle.shelf_links.specs.RecordLists.{Records, shelf_numbers, walked_lists}
-use Rattle.shelf_links.specs.RecordUses.{missing, new_shelf, rests_missing, rests_of, rests_used, shelves_used}
-use Rattle.shelf_links.specs.Records.{item_chain, shelf_chain}
+use Rattle.shelf_records.specs.RecordLists.{Records, shelf_numbers, walked_lists}
+use Rattle.shelf_records.specs.RecordUses.{missing, new_shelf, rests_missing, rests_of, rests_used, shelves_used}
+use Rattle.shelf_records.specs.Records.{item_chain, shelf_chain}
 use Rattle.shelf_heights.specs.declared.by_height.BoundedShelf.{BoundedShelf}
 use Rattle.shelf_model.specs.Choice.{Placement}
 use Rattle.shelf_heights.specs.Private.ByHeight.{AreByHeight, numbers_by_height}
@@ -12,7 +12,7 @@ use Rattle.shelf_records.specs.Private.Kept.{AreKept, bare, state_of}
 use Rattle.shelf_store.specs.Private.PlacementTaken.{HasSpare, free_item, item_record, placement_taken, rest_shelf, shelf_record, with_shelf_rest}
 use Rattle.shelf_model.specs.State.{items_in_use}
 use Rattle.shelf_store.proofs.ByHeight.SplitOrders.{length-split, length-taken}
-use Rattle.shelf_links.proofs.MissingRecords.{missing-counted}
+use Rattle.shelf_records.proofs.MissingRecords.{missing-counted}
 use Rattle.shelf_records.proofs.Judged.EqualTimes.{length-fewer}
 use Rattle.shelf_store.proofs.Spelled.ItemLocated.{in-use-counted}
 use Rattle.shelf_store.proofs.Spelled.TakenReady.{each-length}

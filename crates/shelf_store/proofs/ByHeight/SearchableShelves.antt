@@ -5,9 +5,9 @@ use Rattle.etagere_base.specs.declared.sides.Sides.{Sides}
 use Rattle.std.specs.List.{AllByRecursion}
 use Rattle.etagere_base.specs.Lists.{times}
 use Rattle.etagere_base.proofs.EachLemmas.{Each-all, Each-weaken}
-use Rattle.shelf_links.specs.declared.records.LinkedItem.{LinkedItem}
-use Rattle.shelf_links.specs.RecordLists.{Entry, Records, shelf_walk, walked_entry}
-use Rattle.shelf_links.proofs.AllLists.LinkedWalks.{walked-numbers}
+use Rattle.shelf_records.specs.declared.records.LinkedItem.{LinkedItem}
+use Rattle.shelf_records.specs.RecordLists.{Entry, Records, shelf_walk, walked_entry}
+use Rattle.shelf_records.proofs.AllLists.LinkedWalks.{walked-numbers}
 use Rattle.shelf_records.specs.AtlasRecords.{is_allocated_at, is_empty_at, item_at, spelled_shelf}
 use Rattle.shelf_model.specs.Choice.{shelf_height}
 use Rattle.shelf_model.specs.Listing.{RiseFrom}

@@ -4,8 +4,8 @@ use Rattle.std.proofs.lemmas.Bool.Decides.{nat_tests}
 use Rattle.std.specs.Option.{option_map_or}
 use Rattle.std.specs.Prelude.{find, nat_le, nat_lt}
 use Rattle.std.specs.List.{AllByRecursion}
-use Rattle.shelf_links.specs.declared.records.LinkedItem.{LinkedItem}
-use Rattle.shelf_links.specs.RecordLists.{Records, free_walk}
+use Rattle.shelf_records.specs.declared.records.LinkedItem.{LinkedItem}
+use Rattle.shelf_records.specs.RecordLists.{Records, free_walk}
 use Rattle.shelf_records.specs.AtlasRecords.{height_of, item_at}
 use Rattle.shelf_model.specs.Choice.{bad_fit_rank}
 use Rattle.shelf_store.specs.Private.Opening.{IsSearchable, searched, widest_of}

@@ -5,8 +5,8 @@ use Rattle.std.proofs.lemmas.List.{drop-map, length-map, map-append, take-append
 use Rattle.std.specs.Option.{option_map_or}
 use Rattle.std.specs.List.{AllByRecursion}
 use Rattle.etagere_base.proofs.EachLemmas.{Each-back}
-use Rattle.shelf_links.specs.RecordLists.{Records}
-use Rattle.shelf_links.specs.declared.records.LinkedShelf.{LinkedShelf}
+use Rattle.shelf_records.specs.RecordLists.{Records}
+use Rattle.shelf_records.specs.declared.records.LinkedShelf.{LinkedShelf}
 use Rattle.shelf_records.specs.AtlasRecords.{height_of}
 use Rattle.shelf_model.specs.Listing.{RiseFrom}
 use Rattle.shelf_heights.specs.Private.ByHeight.{AreInOrder, IsFirstAsWide, IsStart, order_at, order_of, numbers_by_height, bounded_at}

@@ -5,9 +5,9 @@ use Rattle.etagere_base.proofs.EachLemmas.{Each-both}
 use Rattle.etagere_base.proofs.TimesLemmas.{hit, times-append, times-remove_place}
 use Rattle.etagere_base.specs.Lists.{times}
 use Rattle.etagere_base.specs.declared.frames.Frame.{Frame}
-use Rattle.shelf_links.specs.RecordLists.{Records, shelf_numbers, shelf_walk, walked_lists}
-use Rattle.shelf_links.specs.declared.records.LinkedShelf.{LinkedShelf}
-use Rattle.shelf_links.proofs.AllLists.LinkedWalks.{walked-numbers}
+use Rattle.shelf_records.specs.RecordLists.{Records, shelf_numbers, shelf_walk, walked_lists}
+use Rattle.shelf_records.specs.declared.records.LinkedShelf.{LinkedShelf}
+use Rattle.shelf_records.proofs.AllLists.LinkedWalks.{walked-numbers}
 use Rattle.shelf_records.specs.AtlasRecords.{spelled_shelf}
 use Rattle.shelf_heights.specs.Private.ByHeight.{AreInOrder, AreByHeight, IsBound, bound_of, order_of, put_in, numbers_by_height, taken_out}
 use Rattle.shelf_records.specs.Private.Kept.{AreKept, bare}

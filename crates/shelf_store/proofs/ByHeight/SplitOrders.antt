@@ -4,12 +4,12 @@ use Rattle.std.proofs.lemmas.List.{length-append}
 use Rattle.etagere_base.specs.Lists.{times}
 use Rattle.etagere_base.specs.declared.frames.Frame.{Frame}
 use Rattle.etagere_links.specs.Edits.{changed_by, first_without, link_at, linked_between}
-use Rattle.shelf_links.specs.RecordLists.{Records, first_free_of, shelf_walk}
-use Rattle.shelf_links.specs.RecordMerges.{shelf_split}
-use Rattle.shelf_links.specs.RecordUses.{new_shelf, rests_of, rests_used, shelves_used}
-use Rattle.shelf_links.specs.Records.{free_list, item_chain, shelf_chain}
-use Rattle.shelf_links.specs.declared.records.LinkedItem.{LinkedItem}
-use Rattle.shelf_links.specs.declared.records.LinkedShelf.{LinkedShelf}
+use Rattle.shelf_records.specs.RecordLists.{Records, first_free_of, shelf_walk}
+use Rattle.shelf_records.specs.RecordMerges.{shelf_split}
+use Rattle.shelf_records.specs.RecordUses.{new_shelf, rests_of, rests_used, shelves_used}
+use Rattle.shelf_records.specs.Records.{free_list, item_chain, shelf_chain}
+use Rattle.shelf_records.specs.declared.records.LinkedItem.{LinkedItem}
+use Rattle.shelf_records.specs.declared.records.LinkedShelf.{LinkedShelf}
 use Rattle.etagere_links.proofs.FieldChanges.{field_at-kept}
 use Rattle.etagere_links.proofs.RecordChanges.{length-changed_by}
 use Rattle.etagere_links.proofs.RecordFrames.{length-linked_between, map-linked_between}

@@ -8,12 +8,12 @@ use Rattle.std.specs.List.{AllByRecursion}
 use Rattle.etagere_base.proofs.EachLemmas.{Each-append, Each-weaken}
 use Rattle.etagere_links.specs.Chains.{Leads}
 use Rattle.etagere_links.specs.Edits.{link_at}
-use Rattle.shelf_links.proofs.AllLists.LinkedItems.{entry_of}
-use Rattle.shelf_links.specs.RecordLists.{Entry, IsLinkedExcept, Records, shelf_numbers}
-use Rattle.shelf_links.specs.Records.{shelf_chain}
-use Rattle.shelf_links.proofs.AllLists.LinkedFrames.{shelf_numbers-append}
-use Rattle.shelf_links.proofs.AllLists.LinkedUnused.{lists_of}
-use Rattle.shelf_links.proofs.AllLists.LinkedUses.{but_first}
+use Rattle.shelf_records.proofs.AllLists.LinkedItems.{entry_of}
+use Rattle.shelf_records.specs.RecordLists.{Entry, IsLinkedExcept, Records, shelf_numbers}
+use Rattle.shelf_records.specs.Records.{shelf_chain}
+use Rattle.shelf_records.proofs.AllLists.LinkedFrames.{shelf_numbers-append}
+use Rattle.shelf_records.proofs.AllLists.LinkedUnused.{lists_of}
+use Rattle.shelf_records.proofs.AllLists.LinkedUses.{but_first}
 use Rattle.shelf_records.specs.AtlasRecords.{along_of, spelled_shelf}
 use Rattle.shelf_model.specs.Fresh.{empty_columns}
 use Rattle.shelf_records.specs.Private.Kept.{bare}

@@ -7,11 +7,11 @@ use Rattle.etagere_base.specs.Frames.{across_side}
 use Rattle.std.specs.List.{AllByRecursion}
 use Rattle.etagere_base.specs.Lists.{total}
 use Rattle.etagere_base.proofs.AlignedPlaces.{multiple}
-use Rattle.shelf_links.specs.declared.records.LinkedItem.{LinkedItem}
+use Rattle.shelf_records.specs.declared.records.LinkedItem.{LinkedItem}
 use Rattle.etagere_links.specs.Chains.{Leads}
 use Rattle.etagere_links.specs.Edits.{link_at}
-use Rattle.shelf_links.specs.RecordLists.{Records, first_item_of, item_walk, shelf_walk, walked_entry}
-use Rattle.shelf_links.specs.Records.{item_chain, shelf_chain}
+use Rattle.shelf_records.specs.RecordLists.{Records, first_item_of, item_walk, shelf_walk, walked_entry}
+use Rattle.shelf_records.specs.Records.{item_chain, shelf_chain}
 use Rattle.shelf_records.specs.AtlasRecords.{along_of, is_allocated_at, is_empty_at, item_at, spelled_shelf}
 use Rattle.shelf_model.specs.Growing.{ends_column, ends_free, filled_ends, grown_frame, records_needed}
 use Rattle.shelf_records.specs.Private.Kept.{AreKept, atlas_of, bare, state_of}

@@ -4,9 +4,9 @@ use Rattle.etagere_base.specs.declared.frames.Frame.{Frame}
 use Rattle.std.specs.List.{AllByRecursion}
 use Rattle.etagere_base.specs.Lists.{times}
 use Rattle.etagere_base.proofs.EachLemmas.{Each-append, Each-back, Each-front, Each-middle}
-use Rattle.shelf_links.specs.RecordLists.{Entry, IsEntry, IsLinkedExcept, item_numbers, shelf_numbers}
-use Rattle.shelf_links.proofs.AllLists.LinkedEdits.{same-numbers}
-use Rattle.shelf_links.proofs.AllLists.LinkedUnused.{lists_of}
+use Rattle.shelf_records.specs.RecordLists.{Entry, IsEntry, IsLinkedExcept, item_numbers, shelf_numbers}
+use Rattle.shelf_records.proofs.AllLists.LinkedEdits.{same-numbers}
+use Rattle.shelf_records.proofs.AllLists.LinkedUnused.{lists_of}
 use Rattle.shelf_records.specs.AtlasRecords.{AtlasRecords, is_allocated_at, is_empty_at, spelled_shelf}
 use Rattle.shelf_records.specs.Private.Kept.{bare}
 use Rattle.shelf_records.proofs.Spelled.Witnessed.{HasFlag, IsPlaced}

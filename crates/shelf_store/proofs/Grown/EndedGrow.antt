@@ -4,8 +4,8 @@ use Rattle.std.proofs.lemmas.Bool.{cases_lt}
 use Rattle.etagere_base.specs.declared.frames.Frame.{Frame}
 use Rattle.etagere_base.specs.declared.geometry.Size.{Size}
 use Rattle.etagere_base.proofs.EachLemmas.{Each-weaken}
-use Rattle.shelf_links.specs.RecordLists.{Entry, IsLinked, IsLinkedExcept, Lists, Records}
-use Rattle.shelf_links.proofs.AllLists.LinkedUnused.{lists_of}
+use Rattle.shelf_records.specs.RecordLists.{Entry, IsLinked, IsLinkedExcept, Lists, Records}
+use Rattle.shelf_records.proofs.AllLists.LinkedUnused.{lists_of}
 use Rattle.shelf_records.specs.AtlasRecords.{AtlasRecords, spelled_shelf}
 use Rattle.shelf_model.specs.Growing.{atlas_grown, grown_frame}
 use Rattle.shelf_records.specs.Private.Kept.{AreKept, bare, state_of}

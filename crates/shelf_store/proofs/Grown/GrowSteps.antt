@@ -2,12 +2,12 @@
 use Rattle.std.proofs.Common.{◌≡◌, ℕ, zero, suc, ◌+◌, ◌*◌, ◌≤◌, Bool, true, false, cond, Option, None, Some, List, refl, arith}
 use Rattle.etagere_base.specs.declared.frames.Frame.{Frame}
 use Rattle.etagere_base.specs.Frames.{across_side}
-use Rattle.shelf_links.specs.declared.records.LinkedShelf.{LinkedShelf}
-use Rattle.shelf_links.specs.declared.records.LinkedItem.{LinkedItem}
+use Rattle.shelf_records.specs.declared.records.LinkedShelf.{LinkedShelf}
+use Rattle.shelf_records.specs.declared.records.LinkedItem.{LinkedItem}
 use Rattle.etagere_links.specs.Edits.{link_at}
-use Rattle.shelf_links.specs.RecordEdits.{item_changed}
-use Rattle.shelf_links.specs.RecordLists.{Records}
-use Rattle.shelf_links.specs.Records.{shelf_chain}
+use Rattle.shelf_records.specs.RecordEdits.{item_changed}
+use Rattle.shelf_records.specs.RecordLists.{Records}
+use Rattle.shelf_records.specs.Records.{shelf_chain}
 use Rattle.shelf_records.specs.AtlasRecords.{is_allocated_at, width_of}
 use Rattle.shelf_store.specs.declared.growing.Made.{Made}
 use Rattle.shelf_store.specs.Private.RecordsGrown.{CanAppend, CanHeighten, CanHeightenAll, CanWiden, CanWidenAll, Growing, after_item, columns_appended, columns_heightened, counted_from, end_heightened, ends_column_at, last_from, last_item, next_shelf, shelf_inserted, shelf_widened, shelves_widened}

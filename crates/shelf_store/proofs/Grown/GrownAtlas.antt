@@ -6,7 +6,7 @@ use Rattle.etagere_base.specs.declared.frames.Frame.{Frame}
 use Rattle.etagere_base.specs.declared.geometry.Size.{Size}
 use Rattle.etagere_base.specs.Frames.{IsFrame}
 use Rattle.etagere_base.proofs.FrameSides.{columns-le}
-use Rattle.shelf_links.specs.RecordLists.{Records}
+use Rattle.shelf_records.specs.RecordLists.{Records}
 use Rattle.shelf_model.specs.declared.faults.AtlasGrowFault.TheVariants as faults
 use Rattle.shelf_store.specs.declared.growing.Needed.{Needed}
 use Rattle.shelf_model.specs.Growing.{atlas_grown, grow_fault, grown_frame, or_records_fault, records_needed, size_fault}

@@ -10,7 +10,7 @@ use Rattle.std.specs.List.{AllByRecursion}
 use Rattle.etagere_base.specs.Lists.{total}
 use Rattle.etagere_base.proofs.EachLemmas.{Each-append, Each-weaken}
 use Rattle.etagere_base.proofs.FrameSides.{column_width-le, sides_low}
-use Rattle.shelf_links.specs.RecordLists.{Records}
+use Rattle.shelf_records.specs.RecordLists.{Records}
 use Rattle.shelf_store.specs.declared.growing.Needed.{Needed}
 use Rattle.shelf_model.specs.Fresh.{empty_columns}
 use Rattle.shelf_model.specs.Growing.{added_columns, added_height, added_width, ends_column, ends_free, filled_ends, grown_frame}

@@ -3,10 +3,10 @@ use Rattle.std.proofs.Common.{◌≡◌, ◌-◌, Bool, true, false, ℕ, List, 
 use Rattle.std.specs.Prelude.{nat_lt, ◌||◌}
 use Rattle.etagere_base.specs.declared.frames.Frame.{Frame}
 use Rattle.etagere_base.specs.Frames.{across_side}
-use Rattle.shelf_links.specs.RecordLists.{Records}
-use Rattle.shelf_links.specs.RecordMaking.{records_made}
-use Rattle.shelf_links.specs.RecordUses.{missing}
-use Rattle.shelf_links.specs.Records.{item_chain, shelf_chain}
+use Rattle.shelf_records.specs.RecordLists.{Records}
+use Rattle.shelf_records.specs.RecordMaking.{records_made}
+use Rattle.shelf_records.specs.RecordUses.{missing}
+use Rattle.shelf_records.specs.Records.{item_chain, shelf_chain}
 use Rattle.shelf_heights.specs.Private.ByHeight.{AreByHeight}
 use Rattle.shelf_store.specs.Private.RecordsGrown.{Growing, needed_of, records_grown, with_columns, with_height, with_missing, with_width}
 use Rattle.shelf_store.specs.declared.growing.Needed.{Needed}

@@ -4,10 +4,10 @@ use Rattle.std.specs.List.{AllByRecursion}
 use Rattle.etagere_base.specs.Lists.{NoNeighbours, times, total}
 use Rattle.etagere_base.specs.declared.frames.Frame.{Frame}
 use Rattle.etagere_base.specs.declared.geometry.Size.{Size}
-use Rattle.shelf_links.proofs.AllLists.LinkedItems.{entry_of}
-use Rattle.shelf_links.specs.RecordLists.{Entry, Records, shelf_numbers}
-use Rattle.shelf_links.proofs.AllLists.LinkedUnused.{lists_of}
-use Rattle.shelf_links.proofs.AllLists.LinkedUses.{but_first}
+use Rattle.shelf_records.proofs.AllLists.LinkedItems.{entry_of}
+use Rattle.shelf_records.specs.RecordLists.{Entry, Records, shelf_numbers}
+use Rattle.shelf_records.proofs.AllLists.LinkedUnused.{lists_of}
+use Rattle.shelf_records.proofs.AllLists.LinkedUses.{but_first}
 use Rattle.shelf_records.specs.AtlasRecords.{along_of, spelled_shelf}
 use Rattle.shelf_model.specs.Fresh.{empty_columns}
 use Rattle.shelf_model.specs.Growing.{atlas_grown, ends_free, filled_ends, grow_fault, grown_frame}

@@ -5,9 +5,9 @@ use Rattle.etagere_base.specs.declared.frames.Frame.{Frame}
 use Rattle.std.specs.List.{AllByRecursion}
 use Rattle.etagere_links.specs.Chains.{Leads}
 use Rattle.etagere_links.specs.Edits.{link_at}
-use Rattle.shelf_links.specs.RecordLists.{Entry, shelf_numbers}
-use Rattle.shelf_links.specs.Records.{shelf_chain}
-use Rattle.shelf_links.proofs.AllLists.LinkedFrames.{shelf_numbers-append}
+use Rattle.shelf_records.specs.RecordLists.{Entry, shelf_numbers}
+use Rattle.shelf_records.specs.Records.{shelf_chain}
+use Rattle.shelf_records.proofs.AllLists.LinkedFrames.{shelf_numbers-append}
 use Rattle.shelf_model.specs.Places.{column_height}
 use Rattle.shelf_store.specs.Private.RecordsGrown.{CanHeighten, CanHeightenAll, Growing, columns_heightened, end_heightened, ends_column_at}
 use Rattle.shelf_model.specs.State.{Shelf}

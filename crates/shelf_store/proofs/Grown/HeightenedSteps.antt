@@ -11,11 +11,11 @@ use Rattle.etagere_base.proofs.EachLemmas.{Each-back}
 use Rattle.etagere_base.proofs.NoNeighboursLemmas.{NoNeighbours-tail}
 use Rattle.etagere_links.specs.Chains.{Leads}
 use Rattle.etagere_links.specs.Edits.{link_at}
-use Rattle.shelf_links.proofs.AllLists.LinkedItems.{entry_of}
-use Rattle.shelf_links.specs.RecordLists.{Entry, Records, shelf_numbers}
-use Rattle.shelf_links.specs.Records.{shelf_chain}
-use Rattle.shelf_links.proofs.AllLists.LinkedFrames.{shelf_numbers-append}
-use Rattle.shelf_links.proofs.AllLists.LinkedUses.{but_first}
+use Rattle.shelf_records.proofs.AllLists.LinkedItems.{entry_of}
+use Rattle.shelf_records.specs.RecordLists.{Entry, Records, shelf_numbers}
+use Rattle.shelf_records.specs.Records.{shelf_chain}
+use Rattle.shelf_records.proofs.AllLists.LinkedFrames.{shelf_numbers-append}
+use Rattle.shelf_records.proofs.AllLists.LinkedUses.{but_first}
 use Rattle.shelf_records.specs.AtlasRecords.{across_of, along_of, height_of, is_empty_at, spelled_shelf}
 use Rattle.shelf_model.specs.Growing.{ends_column, filled_ends}
 use Rattle.shelf_model.specs.Merging.{combined_shelves}

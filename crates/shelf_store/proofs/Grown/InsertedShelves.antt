@@ -6,22 +6,22 @@ use Rattle.etagere_base.specs.declared.frames.Frame.{Frame}
 use Rattle.std.specs.List.{AllByRecursion}
 use Rattle.etagere_base.proofs.TimesLemmas.{times-append}
 use Rattle.etagere_base.specs.Lists.{times}
-use Rattle.shelf_links.proofs.AllLists.LinkedItems.{entry_of}
-use Rattle.shelf_links.proofs.AllLists.LinkedEdits.{linked-apart, around_of}
-use Rattle.shelf_links.specs.declared.records.LinkedItem.{LinkedItem}
-use Rattle.shelf_links.specs.declared.records.LinkedShelf.{LinkedShelf}
+use Rattle.shelf_records.proofs.AllLists.LinkedItems.{entry_of}
+use Rattle.shelf_records.proofs.AllLists.LinkedEdits.{linked-apart, around_of}
+use Rattle.shelf_records.specs.declared.records.LinkedItem.{LinkedItem}
+use Rattle.shelf_records.specs.declared.records.LinkedShelf.{LinkedShelf}
 use Rattle.etagere_links.specs.Edits.{changed_by, link_at, linked_between}
-use Rattle.shelf_links.specs.RecordEdits.{item_changed, shelf_changed, shelf_inserted_after}
-use Rattle.shelf_links.specs.RecordLists.{Entry, IsEntry, IsLinkedExcept, Records, item_numbers, shelf_numbers}
-use Rattle.shelf_links.specs.RecordMaking.{started}
-use Rattle.shelf_links.specs.RecordUses.{shelves_used}
-use Rattle.shelf_links.specs.Records.{free_list, item_chain, shelf_chain}
+use Rattle.shelf_records.specs.RecordEdits.{item_changed, shelf_changed, shelf_inserted_after}
+use Rattle.shelf_records.specs.RecordLists.{Entry, IsEntry, IsLinkedExcept, Records, item_numbers, shelf_numbers}
+use Rattle.shelf_records.specs.RecordMaking.{started}
+use Rattle.shelf_records.specs.RecordUses.{shelves_used}
+use Rattle.shelf_records.specs.Records.{free_list, item_chain, shelf_chain}
 use Rattle.etagere_links.proofs.FieldChanges.{field_at-changed}
-use Rattle.shelf_links.proofs.AllLists.LinkedFields.{item_written-linked, shelf_written-linked}
-use Rattle.shelf_links.proofs.AllLists.LinkedFrames.{shelf_numbers-append}
-use Rattle.shelf_links.proofs.AllLists.LinkedShelves.{shelf_inserted_after-linked}
-use Rattle.shelf_links.proofs.AllLists.LinkedUnused.{IsLoose, lists_of, loose-of}
-use Rattle.shelf_links.proofs.AllLists.LinkedUses.{but_first}
+use Rattle.shelf_records.proofs.AllLists.LinkedFields.{item_written-linked, shelf_written-linked}
+use Rattle.shelf_records.proofs.AllLists.LinkedFrames.{shelf_numbers-append}
+use Rattle.shelf_records.proofs.AllLists.LinkedShelves.{shelf_inserted_after-linked}
+use Rattle.shelf_records.proofs.AllLists.LinkedUnused.{IsLoose, lists_of, loose-of}
+use Rattle.shelf_records.proofs.AllLists.LinkedUses.{but_first}
 use Rattle.etagere_links.proofs.RecordChanges.{get-changed_by-other, length-changed_by, link_at-changed}
 use Rattle.etagere_links.proofs.RecordFrames.{map-linked_between}
 use Rattle.shelf_records.specs.AtlasRecords.{across_of, along_of, height_of, is_allocated_at, is_empty_at, item_at, item_place_of, shelf_of, spelled_item, spelled_shelf}

@@ -2,11 +2,11 @@
 use Rattle.std.proofs.Common.{◌≡◌, ℕ, zero, suc, List, [], ◌∷◌, ◌++◌, length, length-append, refl, arith}
 use Rattle.etagere_base.specs.Lists.{times}
 use Rattle.etagere_base.proofs.TimesLemmas.{times-append}
-use Rattle.shelf_links.specs.RecordLists.{IsLinkedExcept, Lists, Records, item_numbers, shelf_numbers}
-use Rattle.shelf_links.specs.RecordMaking.{records_made, with_new_items, with_new_shelves}
-use Rattle.shelf_links.specs.RecordUses.{new_item, new_shelf}
-use Rattle.shelf_links.proofs.AllLists.LinkedFields.{item_made-linked, shelf_made-linked}
-use Rattle.shelf_links.proofs.AllLists.LinkedUnused.{three-count}
+use Rattle.shelf_records.specs.RecordLists.{IsLinkedExcept, Lists, Records, item_numbers, shelf_numbers}
+use Rattle.shelf_records.specs.RecordMaking.{records_made, with_new_items, with_new_shelves}
+use Rattle.shelf_records.specs.RecordUses.{new_item, new_shelf}
+use Rattle.shelf_records.proofs.AllLists.LinkedFields.{item_made-linked, shelf_made-linked}
+use Rattle.shelf_records.proofs.AllLists.LinkedUnused.{three-count}
 use Rattle.shelf_store.specs.Private.FreshRecords.{numbered}
 
 -- so many numbers from this one on

@@ -2,10 +2,10 @@
 use Rattle.std.proofs.Common.{◌≡◌, ℕ, zero, suc, ◌+◌, ◌-◌, ◌≤◌, Bool, true, Option, None, Some, List, [], ◌∷◌, ◌++◌, length, refl, ap, sym, subst, ◌∙◌, arith}
 use Rattle.std.specs.Prelude.{is_some}
 use Rattle.std.specs.Option.{option_map_or}
-use Rattle.shelf_links.specs.RecordLists.{Entry, IsLinkedExcept}
-use Rattle.shelf_links.specs.RecordUses.{item_used, number_used, shelf_used}
-use Rattle.shelf_links.proofs.AllLists.LinkedUnused.{lists_of}
-use Rattle.shelf_links.proofs.AllLists.LinkedUses.{but_first, uses-item, uses-shelf}
+use Rattle.shelf_records.specs.RecordLists.{Entry, IsLinkedExcept}
+use Rattle.shelf_records.specs.RecordUses.{item_used, number_used, shelf_used}
+use Rattle.shelf_records.proofs.AllLists.LinkedUnused.{lists_of}
+use Rattle.shelf_records.proofs.AllLists.LinkedUses.{but_first, uses-item, uses-shelf}
 use Rattle.shelf_store.specs.Private.RecordsGrown.{Growing, after_item, after_shelf, made_after_item, made_after_shelf, next_item, next_shelf}
 use Rattle.shelf_store.specs.declared.growing.Made.{Made}
 use Rattle.shelf_store.proofs.Grown.MadeLinked.{numbers_from}

@@ -10,13 +10,13 @@ use Rattle.etagere_links.specs.Edits.{link_at}
 use Rattle.etagere_links.specs.Links.{bits_of}
 use Rattle.etagere_links.specs.Walks.{walk}
 use Rattle.etagere_links.proofs.RecordChanges.{link_at-same, map-changed_by}
-use Rattle.shelf_links.specs.declared.records.LinkedShelf.{LinkedShelf}
-use Rattle.shelf_links.specs.RecordLists.{Records, shelf_numbers, shelf_walk, walked_lists}
-use Rattle.shelf_links.specs.RecordMaking.{records_made}
-use Rattle.shelf_links.specs.RecordUses.{missing}
-use Rattle.shelf_links.specs.Records.{item_chain, shelf_chain}
-use Rattle.shelf_links.proofs.AllLists.LinkedWalks.{walked-numbers}
-use Rattle.shelf_links.proofs.FirstLinks.{to_first_free}
+use Rattle.shelf_records.specs.declared.records.LinkedShelf.{LinkedShelf}
+use Rattle.shelf_records.specs.RecordLists.{Records, shelf_numbers, shelf_walk, walked_lists}
+use Rattle.shelf_records.specs.RecordMaking.{records_made}
+use Rattle.shelf_records.specs.RecordUses.{missing}
+use Rattle.shelf_records.specs.Records.{item_chain, shelf_chain}
+use Rattle.shelf_records.proofs.AllLists.LinkedWalks.{walked-numbers}
+use Rattle.shelf_records.proofs.FirstLinks.{to_first_free}
 use Rattle.shelf_heights.specs.Private.ByHeight.{AreByHeight, numbers_by_height}
 use Rattle.shelf_heights.specs.declared.by_height.BoundedShelf.{BoundedShelf}
 use Rattle.shelf_records.specs.AtlasRecords.{along_of, height_of, is_allocated_at, is_empty_at}

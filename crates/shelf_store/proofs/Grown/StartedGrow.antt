@@ -9,13 +9,13 @@ use Rattle.etagere_base.specs.declared.geometry.Size.{Size}
 use Rattle.std.specs.List.{AllByRecursion}
 use Rattle.etagere_base.proofs.AlignedPlaces.{multiple}
 use Rattle.etagere_base.proofs.EachLemmas.{Each-append, Each-weaken}
-use Rattle.shelf_links.specs.declared.records.LinkedItem.{LinkedItem}
-use Rattle.shelf_links.specs.declared.records.LinkedShelf.{LinkedShelf}
-use Rattle.shelf_links.specs.RecordLists.{Entry, Records, shelf_numbers, walked_lists}
-use Rattle.shelf_links.specs.RecordMaking.{with_new_items, with_new_shelves}
-use Rattle.shelf_links.specs.RecordUses.{missing, new_item, new_shelf}
-use Rattle.shelf_links.specs.Records.{item_chain, shelf_chain}
-use Rattle.shelf_links.proofs.AllLists.LinkedUnused.{lists_of}
+use Rattle.shelf_records.specs.declared.records.LinkedItem.{LinkedItem}
+use Rattle.shelf_records.specs.declared.records.LinkedShelf.{LinkedShelf}
+use Rattle.shelf_records.specs.RecordLists.{Entry, Records, shelf_numbers, walked_lists}
+use Rattle.shelf_records.specs.RecordMaking.{with_new_items, with_new_shelves}
+use Rattle.shelf_records.specs.RecordUses.{missing, new_item, new_shelf}
+use Rattle.shelf_records.specs.Records.{item_chain, shelf_chain}
+use Rattle.shelf_records.proofs.AllLists.LinkedUnused.{lists_of}
 use Rattle.shelf_store.specs.declared.growing.Needed.{Needed}
 use Rattle.shelf_records.specs.AtlasRecords.{along_of, height_of, item_at, item_place_of, spelled_item, spelled_shelf}
 use Rattle.shelf_model.specs.Growing.{grow_fault, grown_column_width, grown_frame}
@@ -29,7 +29,7 @@ use Rattle.shelf_store.proofs.Grown.CountedRecords.{needed-counted}
 use Rattle.shelf_model.proofs.Grown.GrownFrames.{Fits, GrowsFrame, frame-grows, grow-fits}
 use Rattle.shelf_store.proofs.Grown.HalfGrown.{HasGrown}
 use Rattle.shelf_store.proofs.Grown.MadeLinked.{numbers_from, records-made}
-use Rattle.shelf_links.proofs.MissingRecords.{missing-counted}
+use Rattle.shelf_records.proofs.MissingRecords.{missing-counted}
 use Rattle.shelf_store.proofs.Spelled.ItemLocated.{in-use-counted}
 use Rattle.shelf_records.proofs.Spelled.RecordValues.{SameItem, SameItem-then, SameShelf, SameShelf-then, item-same}
 use Rattle.shelf_store.proofs.Spelled.SpelledLists.{IsSpelledBut}

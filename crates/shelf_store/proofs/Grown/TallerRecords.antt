@@ -4,12 +4,12 @@ use Rattle.etagere_base.specs.declared.frames.Frame.{Frame}
 use Rattle.std.specs.List.{AllByRecursion}
 use Rattle.etagere_base.specs.Lists.{times}
 use Rattle.etagere_base.proofs.EachLemmas.{Each-append, Each-back, Each-front}
-use Rattle.shelf_links.proofs.AllLists.LinkedEdits.{linked-apart, around_of}
-use Rattle.shelf_links.specs.declared.records.LinkedShelf.{LinkedShelf}
-use Rattle.shelf_links.specs.RecordEdits.{shelf_changed}
-use Rattle.shelf_links.specs.RecordLists.{Entry, IsEntry, Records, shelf_numbers}
-use Rattle.shelf_links.proofs.AllLists.LinkedFields.{shelf_changed-linked}
-use Rattle.shelf_links.proofs.AllLists.LinkedFrames.{shelf_numbers-append}
+use Rattle.shelf_records.proofs.AllLists.LinkedEdits.{linked-apart, around_of}
+use Rattle.shelf_records.specs.declared.records.LinkedShelf.{LinkedShelf}
+use Rattle.shelf_records.specs.RecordEdits.{shelf_changed}
+use Rattle.shelf_records.specs.RecordLists.{Entry, IsEntry, Records, shelf_numbers}
+use Rattle.shelf_records.proofs.AllLists.LinkedFields.{shelf_changed-linked}
+use Rattle.shelf_records.proofs.AllLists.LinkedFrames.{shelf_numbers-append}
 use Rattle.etagere_links.proofs.FieldChanges.{field_at-changed, field_at-kept}
 use Rattle.etagere_links.proofs.RecordChanges.{length-changed_by}
 use Rattle.shelf_records.specs.AtlasRecords.{AtlasRecords, across_of, along_of, height_of, spelled_shelf}

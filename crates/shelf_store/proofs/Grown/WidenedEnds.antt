@@ -6,17 +6,17 @@ use Rattle.etagere_base.specs.declared.frames.Frame.{Frame}
 use Rattle.etagere_base.specs.Lists.{times}
 use Rattle.etagere_base.proofs.EachLemmas.{Each-middle}
 use Rattle.etagere_base.proofs.TimesLemmas.{times-append, times-here}
-use Rattle.shelf_links.proofs.AllLists.LinkedEdits.{linked-apart, around_of}
-use Rattle.shelf_links.specs.declared.records.LinkedItem.{LinkedItem}
+use Rattle.shelf_records.proofs.AllLists.LinkedEdits.{linked-apart, around_of}
+use Rattle.shelf_records.specs.declared.records.LinkedItem.{LinkedItem}
 use Rattle.etagere_links.specs.Edits.{changed_by}
-use Rattle.shelf_links.specs.RecordEdits.{item_changed, item_inserted_after}
-use Rattle.shelf_links.specs.RecordLists.{Entry, IsEntry, IsLinkedExcept, Records, item_numbers}
-use Rattle.shelf_links.specs.RecordMaking.{started}
-use Rattle.shelf_links.proofs.AllLists.LinkedFields.{item_changed-linked, item_written-linked}
-use Rattle.shelf_links.proofs.AllLists.LinkedFrames.{item_numbers-append}
-use Rattle.shelf_links.proofs.AllLists.LinkedItems.{free_inserted_front-linked, item_inserted_after-linked, entry_of}
-use Rattle.shelf_links.proofs.AllLists.LinkedUnused.{IsLoose, lists_of, loose-of}
-use Rattle.shelf_links.proofs.AllLists.LinkedUses.{but_first}
+use Rattle.shelf_records.specs.RecordEdits.{item_changed, item_inserted_after}
+use Rattle.shelf_records.specs.RecordLists.{Entry, IsEntry, IsLinkedExcept, Records, item_numbers}
+use Rattle.shelf_records.specs.RecordMaking.{started}
+use Rattle.shelf_records.proofs.AllLists.LinkedFields.{item_changed-linked, item_written-linked}
+use Rattle.shelf_records.proofs.AllLists.LinkedFrames.{item_numbers-append}
+use Rattle.shelf_records.proofs.AllLists.LinkedItems.{free_inserted_front-linked, item_inserted_after-linked, entry_of}
+use Rattle.shelf_records.proofs.AllLists.LinkedUnused.{IsLoose, lists_of, loose-of}
+use Rattle.shelf_records.proofs.AllLists.LinkedUses.{but_first}
 use Rattle.etagere_links.proofs.FieldChanges.{field_at-kept}
 use Rattle.etagere_links.proofs.RecordChanges.{length-changed_by}
 use Rattle.shelf_records.specs.AtlasRecords.{AtlasRecords, along_of, height_of, is_allocated_at, item_at, item_place_of, spelled_shelf, width_of}

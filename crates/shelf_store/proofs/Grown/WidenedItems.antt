@@ -7,12 +7,12 @@ use Rattle.etagere_base.proofs.EachLemmas.{Each-append, Each-back, Each-front}
 use Rattle.std.specs.List.{AllByRecursion}
 use Rattle.etagere_base.specs.Lists.{times}
 use Rattle.etagere_base.proofs.TimesLemmas.{times-append}
-use Rattle.shelf_links.specs.declared.records.LinkedItem.{LinkedItem}
+use Rattle.shelf_records.specs.declared.records.LinkedItem.{LinkedItem}
 use Rattle.etagere_links.specs.Edits.{link_at}
-use Rattle.shelf_links.specs.RecordEdits.{item_changed, item_inserted_after}
-use Rattle.shelf_links.specs.RecordLists.{Records, first_free_of}
-use Rattle.shelf_links.specs.RecordMaking.{started}
-use Rattle.shelf_links.specs.Records.{free_list, item_chain}
+use Rattle.shelf_records.specs.RecordEdits.{item_changed, item_inserted_after}
+use Rattle.shelf_records.specs.RecordLists.{Records, first_free_of}
+use Rattle.shelf_records.specs.RecordMaking.{started}
+use Rattle.shelf_records.specs.Records.{free_list, item_chain}
 use Rattle.etagere_links.proofs.FieldChanges.{field_at-changed}
 use Rattle.etagere_links.proofs.ListEnds.{times-here}
 use Rattle.etagere_links.proofs.RecordChanges.{get-changed_by-other, length-changed_by}

@@ -6,10 +6,10 @@ use Rattle.etagere_base.specs.declared.frames.Frame.{Frame}
 use Rattle.etagere_base.proofs.AlignedPlaces.{multiple}
 use Rattle.etagere_base.proofs.EachLemmas.{Each-middle}
 use Rattle.etagere_links.specs.Links.{no_link}
-use Rattle.shelf_links.proofs.AllLists.LinkedItems.{entry_of}
-use Rattle.shelf_links.proofs.AllLists.LinkedEdits.{linked-apart, around_of}
-use Rattle.shelf_links.specs.Records.{item_chain}
-use Rattle.shelf_links.specs.RecordLists.{Entry, IsEntry, Records, first_item_of}
+use Rattle.shelf_records.proofs.AllLists.LinkedItems.{entry_of}
+use Rattle.shelf_records.proofs.AllLists.LinkedEdits.{linked-apart, around_of}
+use Rattle.shelf_records.specs.Records.{item_chain}
+use Rattle.shelf_records.specs.RecordLists.{Entry, IsEntry, Records, first_item_of}
 use Rattle.etagere_links.proofs.Tallies.{length-once}
 use Rattle.shelf_records.specs.AtlasRecords.{along_of, is_allocated_at, item_at, spelled_shelf, width_of}
 use Rattle.shelf_model.specs.Growing.{ends_free}

@@ -6,7 +6,7 @@ use Rattle.etagere_base.specs.declared.geometry.Point.{Point}
 use Rattle.etagere_base.specs.declared.geometry.Rectangle.{Rectangle}
 use Rattle.etagere_base.specs.Places.{rectangle_at}
 use Rattle.etagere_base.specs.Sides.{swapped_axes}
-use Rattle.shelf_links.specs.RecordLists.{Records}
+use Rattle.shelf_records.specs.RecordLists.{Records}
 use Rattle.etagere_base.proofs.FirstPlace.{first-at}
 use Rattle.shelf_records.specs.AtlasRecords.{across_of, height_of, item_at, item_place_of, shelf_of}
 use Rattle.shelf_model.specs.Places.{column_height, column_place, is_allocated, rectangle_of}

@@ -3,8 +3,8 @@ use Rattle.std.proofs.Common.{◌≡◌, ℕ, ◌+◌, ◌<◌, Bool, true, fals
 use Rattle.std.proofs.lemmas.Bool.{eqb-true}
 use Rattle.std.specs.Prelude.{◌%◌}
 use Rattle.etagere_base.specs.declared.frames.Frame.{Frame}
-use Rattle.shelf_links.specs.declared.records.LinkedItem.{LinkedItem}
-use Rattle.shelf_links.specs.RecordLists.{Records}
+use Rattle.shelf_records.specs.declared.records.LinkedItem.{LinkedItem}
+use Rattle.shelf_records.specs.RecordLists.{Records}
 use Rattle.shelf_model.specs.Atlas.{KeepsPromises, without_id}
 use Rattle.shelf_model.specs.Places.{allocations}
 use Rattle.shelf_records.specs.AtlasRecords.{is_allocated_at, item_at, shelf_of}

@@ -5,7 +5,7 @@ use Rattle.etagere_base.specs.declared.frames.Frame.{Frame}
 use Rattle.etagere_base.specs.declared.geometry.Size.{Size}
 use Rattle.etagere_base.specs.declared.sides.Sides.{Sides}
 use Rattle.etagere_base.specs.Frames.{across_side, is_not_positive, is_too_long, rounded}
-use Rattle.shelf_links.specs.RecordLists.{Records}
+use Rattle.shelf_records.specs.RecordLists.{Records}
 use Rattle.shelf_model.specs.declared.faults.Refusal.TheVariants.{NoRoom, NoRecords}
 use Rattle.shelf_model.specs.Choice.{shelf_height}
 use Rattle.shelf_model.specs.Refusal.{has_no_room, is_taller_than_atlas, is_wider_than_column, lacks_records, refusal, widest_for}

@@ -10,8 +10,8 @@ use Rattle.etagere_base.specs.declared.frames.Frame.{Frame}
 use Rattle.etagere_base.specs.declared.geometry.Size.{Size}
 use Rattle.etagere_base.specs.declared.sides.Sides.{Sides}
 use Rattle.etagere_base.proofs.EachLemmas.{Each-weaken}
-use Rattle.shelf_links.specs.declared.records.LinkedItem.{LinkedItem}
-use Rattle.shelf_links.specs.RecordLists.{Entry, Records, shelf_walk, walked_entry}
+use Rattle.shelf_records.specs.declared.records.LinkedItem.{LinkedItem}
+use Rattle.shelf_records.specs.RecordLists.{Entry, Records, shelf_walk, walked_entry}
 use Rattle.shelf_model.specs.Choice.{Placement, chosen, splits}
 use Rattle.shelf_model.specs.Refusal.{lacks_records}
 use Rattle.shelf_model.specs.State.{Item, Shelf, is_empty, is_free, items_in_use}

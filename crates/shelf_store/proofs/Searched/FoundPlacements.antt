@@ -13,9 +13,9 @@ use Rattle.etagere_base.specs.declared.sides.Sides.{Sides}
 use Rattle.etagere_base.proofs.EachLemmas.{Each-get}
 use Rattle.etagere_base.proofs.ReplacedLists.{IsAt, split-at}
 use Rattle.etagere_base.proofs.TimesLemmas.{find-stands}
-use Rattle.shelf_links.specs.declared.records.LinkedShelf.{LinkedShelf}
-use Rattle.shelf_links.specs.RecordLists.{Entry, Records, shelf_numbers, shelf_walk, walked_entry, walked_lists}
-use Rattle.shelf_links.proofs.AllLists.LinkedWalks.{walked-numbers}
+use Rattle.shelf_records.specs.declared.records.LinkedShelf.{LinkedShelf}
+use Rattle.shelf_records.specs.RecordLists.{Entry, Records, shelf_numbers, shelf_walk, walked_entry, walked_lists}
+use Rattle.shelf_records.proofs.AllLists.LinkedWalks.{walked-numbers}
 use Rattle.shelf_records.specs.AtlasRecords.{across_of, along_of, height_of, is_empty_at, item_at, item_place_of, spelled_shelf}
 use Rattle.shelf_model.specs.Choice.{Placement, chosen, fitting_place, is_item_split, placement_in, placement_of, rank, shelf_height, splits, width_at}
 use Rattle.shelf_model.specs.Places.{column_height, column_place}

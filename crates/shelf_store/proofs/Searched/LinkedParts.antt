@@ -4,11 +4,11 @@ use Rattle.std.specs.List.{AllByRecursion}
 use Rattle.etagere_base.specs.Lists.{times}
 use Rattle.etagere_base.proofs.TimesLemmas.{times-append}
 use Rattle.etagere_links.specs.Lists.{HasEachOnce}
-use Rattle.shelf_links.specs.RecordLists.{IsEntry, IsLinked, Records, first_free_of, first_item_of, free_walk, item_numbers, item_walk, shelf_numbers, shelf_walk, walked_entry, walked_lists}
-use Rattle.shelf_links.specs.Records.{free_list, item_chain, shelf_chain}
-use Rattle.shelf_links.proofs.AllLists.LinkedUnused.{three-count}
+use Rattle.shelf_records.specs.RecordLists.{IsEntry, IsLinked, Records, first_free_of, first_item_of, free_walk, item_numbers, item_walk, shelf_numbers, shelf_walk, walked_entry, walked_lists}
+use Rattle.shelf_records.specs.Records.{free_list, item_chain, shelf_chain}
+use Rattle.shelf_records.proofs.AllLists.LinkedUnused.{three-count}
 use Rattle.etagere_links.proofs.WalkedLists.{IsPart, part-of}
-use Rattle.shelf_links.proofs.AllLists.LinkedWalks.{walked-numbers}
+use Rattle.shelf_records.proofs.AllLists.LinkedWalks.{walked-numbers}
 use Rattle.etagere_links.proofs.Tallies.{length-once}
 use Rattle.shelf_records.proofs.Recorded.Members.{Each-member}
 use Rattle.shelf_store.proofs.Searched.Following.{IsLeft}

@@ -7,8 +7,8 @@ use Rattle.etagere_base.specs.Lists.{times}
 use Rattle.etagere_base.proofs.EachLemmas.{Each-both, Each-weaken}
 use Rattle.etagere_base.proofs.ReplacedLists.{slice_get-append}
 use Rattle.etagere_base.specs.declared.frames.Frame.{Frame}
-use Rattle.shelf_links.specs.declared.records.LinkedItem.{LinkedItem}
-use Rattle.shelf_links.specs.RecordLists.{Entry, IsEntry, Records, shelf_walk, walked_entry, walked_lists}
+use Rattle.shelf_records.specs.declared.records.LinkedItem.{LinkedItem}
+use Rattle.shelf_records.specs.RecordLists.{Entry, IsEntry, Records, shelf_walk, walked_entry, walked_lists}
 use Rattle.etagere_links.proofs.ListEnds.{times-here}
 use Rattle.shelf_records.specs.AtlasRecords.{AtlasRecords, along_of, height_of, is_empty_at, item_at, item_place_of, spelled_shelf}
 use Rattle.shelf_model.specs.Choice.{bad_fit_rank, fitting_place, is_good_fit, number_at, rank, width_at}

@@ -6,12 +6,12 @@ use Rattle.etagere_base.proofs.EachLemmas.{Each-append, Each-front, Each-back}
 use Rattle.etagere_base.proofs.TimesLemmas.{times-append}
 use Rattle.std.specs.List.{AllByRecursion}
 use Rattle.etagere_base.specs.Lists.{times}
-use Rattle.shelf_links.specs.declared.records.LinkedItem.{LinkedItem}
+use Rattle.shelf_records.specs.declared.records.LinkedItem.{LinkedItem}
 use Rattle.etagere_links.specs.Edits.{changed_by, unlinked, made_unused}
 use Rattle.etagere_links.specs.Families.{IsUnchanged}
-use Rattle.shelf_links.specs.RecordLists.{Records}
-use Rattle.shelf_links.specs.RecordMerges.{free_absorbed, allocated_absorbed}
-use Rattle.shelf_links.specs.Records.{item_chain, free_list}
+use Rattle.shelf_records.specs.RecordLists.{Records}
+use Rattle.shelf_records.specs.RecordMerges.{free_absorbed, allocated_absorbed}
+use Rattle.shelf_records.specs.Records.{item_chain, free_list}
 use Rattle.etagere_links.proofs.ListEnds.{times-here}
 use Rattle.etagere_links.proofs.FieldChanges.{field_at-changed, field_at-kept}
 use Rattle.etagere_links.proofs.RecordChanges.{get-changed_by-other, length-changed_by}

@@ -4,13 +4,13 @@ use Rattle.std.specs.Prelude.{◌/◌, not, is_none, if◌then◌else◌}
 use Rattle.etagere_base.proofs.EachLemmas.{Each-append, Each-middle}
 use Rattle.std.specs.List.{AllByRecursion}
 use Rattle.etagere_base.specs.Lists.{times}
-use Rattle.shelf_links.proofs.AllLists.LinkedEdits.{linked-apart, Around, with_entry}
-use Rattle.shelf_links.specs.declared.records.LinkedItem.{LinkedItem}
-use Rattle.shelf_links.specs.declared.records.LinkedShelf.{LinkedShelf}
+use Rattle.shelf_records.proofs.AllLists.LinkedEdits.{linked-apart, Around, with_entry}
+use Rattle.shelf_records.specs.declared.records.LinkedItem.{LinkedItem}
+use Rattle.shelf_records.specs.declared.records.LinkedShelf.{LinkedShelf}
 use Rattle.etagere_links.specs.Chains.{IsChainIn}
-use Rattle.shelf_links.specs.RecordLists.{Records, Entry, Lists, IsEntry, first_item_of, shelf_numbers}
-use Rattle.shelf_links.specs.Records.{item_chain}
-use Rattle.shelf_links.proofs.AllLists.LinkedFields.{KeepsShelfLinks, shelf_changed-linked}
+use Rattle.shelf_records.specs.RecordLists.{Records, Entry, Lists, IsEntry, first_item_of, shelf_numbers}
+use Rattle.shelf_records.specs.Records.{item_chain}
+use Rattle.shelf_records.proofs.AllLists.LinkedFields.{KeepsShelfLinks, shelf_changed-linked}
 use Rattle.etagere_links.proofs.FieldChanges.{field_at-changed, field_at-kept, field_at-other}
 use Rattle.etagere_links.proofs.ListEnds.{times-here}
 use Rattle.shelf_records.specs.AtlasRecords.{AtlasRecords, along_of, across_of, height_of, is_empty_at, is_allocated_at, item_at, item_place_of, spelled_shelf}

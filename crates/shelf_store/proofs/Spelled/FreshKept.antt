@@ -9,14 +9,14 @@ use Rattle.etagere_base.specs.Frames.{HasAllColumns, IsFrame, across_side}
 use Rattle.etagere_base.proofs.FrameSides.{columns-le}
 use Rattle.etagere_base.specs.Lists.{times}
 use Rattle.etagere_links.specs.Chains.{IsChainIn, Leads, LeadsBack}
-use Rattle.shelf_links.specs.declared.records.LinkedItem.{LinkedItem}
-use Rattle.shelf_links.specs.declared.records.LinkedShelf.{LinkedShelf}
+use Rattle.shelf_records.specs.declared.records.LinkedItem.{LinkedItem}
+use Rattle.shelf_records.specs.declared.records.LinkedShelf.{LinkedShelf}
 use Rattle.etagere_links.specs.Edits.{link_at, field_at}
-use Rattle.shelf_links.specs.RecordLists.{Entry, Lists, IsEntry, IsLinked, first_item_of, first_free_of, item_numbers, shelf_numbers, shelf_walk}
+use Rattle.shelf_records.specs.RecordLists.{Entry, Lists, IsEntry, IsLinked, first_item_of, first_free_of, item_numbers, shelf_numbers, shelf_walk}
 use Rattle.etagere_links.specs.Lists.{HasEachOnce}
-use Rattle.shelf_links.specs.Records.{item_chain, free_list, shelf_chain}
+use Rattle.shelf_records.specs.Records.{item_chain, free_list, shelf_chain}
 use Rattle.etagere_links.specs.Walks.{Walked}
-use Rattle.shelf_links.proofs.AllLists.LinkedWalks.{AreWalks, linked-walks}
+use Rattle.shelf_records.proofs.AllLists.LinkedWalks.{AreWalks, linked-walks}
 use Rattle.shelf_records.specs.AtlasRecords.{AtlasRecords, along_of, height_of, is_allocated_at, item_at, item_place_of, spelled_shelf}
 use Rattle.shelf_model.specs.Fresh.{empty_columns, fresh}
 use Rattle.shelf_store.specs.Private.FreshRecords.{column_after, column_before, fresh_item, fresh_records, fresh_shelf, numbered}

@@ -7,17 +7,17 @@ use Rattle.etagere_base.proofs.EachLemmas.{Each-append, Each-front, Each-back, E
 use Rattle.etagere_base.proofs.TimesLemmas.{times-append}
 use Rattle.std.specs.List.{AllByRecursion}
 use Rattle.etagere_base.specs.Lists.{times}
-use Rattle.shelf_links.proofs.AllLists.LinkedItems.{entry_of}
-use Rattle.shelf_links.proofs.AllLists.LinkedEdits.{linked-apart, Around}
-use Rattle.shelf_links.specs.declared.records.LinkedItem.{LinkedItem}
+use Rattle.shelf_records.proofs.AllLists.LinkedItems.{entry_of}
+use Rattle.shelf_records.proofs.AllLists.LinkedEdits.{linked-apart, Around}
+use Rattle.shelf_records.specs.declared.records.LinkedItem.{LinkedItem}
 use Rattle.etagere_links.specs.Edits.{field_at}
 use Rattle.etagere_links.specs.Links.{no_link}
-use Rattle.shelf_links.specs.RecordEdits.{item_changed}
-use Rattle.shelf_links.specs.RecordLists.{Records, Entry, item_numbers, IsEntry}
-use Rattle.shelf_links.specs.RecordMerges.{item_given, front_given}
+use Rattle.shelf_records.specs.RecordEdits.{item_changed}
+use Rattle.shelf_records.specs.RecordLists.{Records, Entry, item_numbers, IsEntry}
+use Rattle.shelf_records.specs.RecordMerges.{item_given, front_given}
 use Rattle.etagere_links.proofs.FieldChanges.{field_at-changed}
-use Rattle.shelf_links.proofs.AllLists.LinkedFrames.{item_numbers-append}
-use Rattle.shelf_links.proofs.AllLists.LinkedUnused.{lists_of}
+use Rattle.shelf_records.proofs.AllLists.LinkedFrames.{item_numbers-append}
+use Rattle.shelf_records.proofs.AllLists.LinkedUnused.{lists_of}
 use Rattle.etagere_links.proofs.ListEnds.{times-here}
 use Rattle.etagere_links.proofs.RecordChanges.{length-changed_by}
 use Rattle.shelf_records.specs.AtlasRecords.{AtlasRecords, item_place_of, item_at, spelled_item, spelled_shelf}

@@ -1,17 +1,17 @@
 -- What a return adds up of the widths of items fits 16 bits, and all that it reads of them is there.
-use Rattle.shelf_links.proofs.AllLists.LinkedEdits.{Around, with_entry}
+use Rattle.shelf_records.proofs.AllLists.LinkedEdits.{Around, with_entry}
 use Rattle.std.proofs.Common.{◌≡◌, ◌≢◌, ℕ, ◌+◌, ◌≤◌, Bool, true, false, ◌==◌, None, Some, List, [], ◌∷◌, ◌++◌, refl, ap, subst, arith, sym, ◌∙◌}
 use Rattle.etagere_base.proofs.TimesLemmas.{times-other}
 use Rattle.etagere_base.specs.Frames.{IsFrame}
 use Rattle.etagere_base.proofs.EachLemmas.{Each-middle}
 use Rattle.etagere_base.proofs.FrameSides.{column_width-le, sides_low}
 use Rattle.etagere_base.specs.Lists.{times}
-use Rattle.shelf_links.proofs.AllLists.LinkedItems.{entry_of}
-use Rattle.shelf_links.specs.declared.records.LinkedItem.{LinkedItem}
+use Rattle.shelf_records.proofs.AllLists.LinkedItems.{entry_of}
+use Rattle.shelf_records.specs.declared.records.LinkedItem.{LinkedItem}
 use Rattle.etagere_links.specs.Edits.{link_at}
 use Rattle.etagere_links.specs.Lists.{first_or, last_or}
-use Rattle.shelf_links.specs.RecordLists.{Entry, IsEntry, first_item_of}
-use Rattle.shelf_links.specs.Records.{item_chain}
+use Rattle.shelf_records.specs.RecordLists.{Entry, IsEntry, first_item_of}
+use Rattle.shelf_records.specs.Records.{item_chain}
 use Rattle.etagere_links.proofs.Chains.{next-is, previous-is}
 use Rattle.etagere_links.proofs.ListEnds.{first-stands, last-stands-in}
 use Rattle.shelf_records.specs.AtlasRecords.{AtlasRecords, is_allocated_at, spelled_shelf, width_of}

@@ -1,6 +1,6 @@
 -- Records that spell lists, after an allocated item became free and was merged with its free neighbours: its shelf is the
 -- one with the item freed, and merged.
-use Rattle.shelf_links.proofs.AllLists.LinkedEdits.{Around, with_entry}
+use Rattle.shelf_records.proofs.AllLists.LinkedEdits.{Around, with_entry}
 use Rattle.std.proofs.Common.{◌≡◌, ℕ, ◌+◌, ◌≤◌, Bool, true, List, ◌∷◌, ◌++◌, length, map, refl, ap, arith, sym, ◌∙◌}
 use Rattle.std.specs.Prelude.{◌/◌, if◌then◌else◌}
 use Rattle.std.proofs.lemmas.List.{map-append}
@@ -9,9 +9,9 @@ use Rattle.etagere_base.proofs.AlignedPlaces.{multiple}
 use Rattle.etagere_base.proofs.EachLemmas.{Each-middle}
 use Rattle.etagere_base.specs.Lists.{NoNeighbours, remove_place, times}
 use Rattle.etagere_base.specs.MergingAt.{merged_at, merged_before}
-use Rattle.shelf_links.proofs.AllLists.LinkedItems.{entry_of}
-use Rattle.shelf_links.specs.declared.records.LinkedItem.{LinkedItem}
-use Rattle.shelf_links.specs.RecordLists.{Entry}
+use Rattle.shelf_records.proofs.AllLists.LinkedItems.{entry_of}
+use Rattle.shelf_records.specs.declared.records.LinkedItem.{LinkedItem}
+use Rattle.shelf_records.specs.RecordLists.{Entry}
 use Rattle.shelf_records.specs.AtlasRecords.{AtlasRecords, along_of, height_of, is_allocated_at, item_place_of, item_at, spelled_shelf, width_of}
 use Rattle.shelf_model.specs.Merging.{both_free, combined_items, merged_shelf}
 use Rattle.shelf_model.specs.Places.{column_place}

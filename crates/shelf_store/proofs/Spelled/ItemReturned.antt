@@ -1,5 +1,5 @@
 -- A return on records that keep every rule: they keep every rule again, and spell the state after the return.
-use Rattle.shelf_links.proofs.AllLists.LinkedEdits.{Around, around_of, with_entry}
+use Rattle.shelf_records.proofs.AllLists.LinkedEdits.{Around, around_of, with_entry}
 use Rattle.std.proofs.Common.{◌≡◌, ◌≢◌, ℕ, zero, suc, Bool, ◌*◌, ◌+◌, ◌≤◌, true, false, None, Some, List, [], ◌∷◌, ◌++◌, length, map, refl, ap, subst, arith, sym, ◌∙◌}
 use Rattle.std.proofs.lemmas.List.{length-map, map-append}
 use Rattle.std.specs.Prelude.{nat_lt}
@@ -10,13 +10,13 @@ use Rattle.etagere_base.proofs.TimesLemmas.{times-append}
 use Rattle.std.specs.List.{AllByRecursion}
 use Rattle.etagere_base.specs.Lists.{times}
 use Rattle.etagere_base.specs.MergingAt.{merged_at, merged_before}
-use Rattle.shelf_links.proofs.AllLists.LinkedItems.{entry_of}
-use Rattle.shelf_links.specs.declared.records.LinkedItem.{LinkedItem}
-use Rattle.shelf_links.specs.RecordLists.{Records, Entry, Lists, IsLinked, shelf_numbers, walked_lists}
+use Rattle.shelf_records.proofs.AllLists.LinkedItems.{entry_of}
+use Rattle.shelf_records.specs.declared.records.LinkedItem.{LinkedItem}
+use Rattle.shelf_records.specs.RecordLists.{Records, Entry, Lists, IsLinked, shelf_numbers, walked_lists}
 use Rattle.etagere_links.specs.Edits.{field_at}
-use Rattle.shelf_links.proofs.AllLists.LinkedFrames.{shelf_numbers-append}
-use Rattle.shelf_links.proofs.AllLists.LinkedUnused.{lists_of}
-use Rattle.shelf_links.proofs.AllLists.LinkedWalks.{linked-lists, linked-walks}
+use Rattle.shelf_records.proofs.AllLists.LinkedFrames.{shelf_numbers-append}
+use Rattle.shelf_records.proofs.AllLists.LinkedUnused.{lists_of}
+use Rattle.shelf_records.proofs.AllLists.LinkedWalks.{linked-lists, linked-walks}
 use Rattle.etagere_links.proofs.ListEnds.{times-here}
 use Rattle.shelf_records.specs.AtlasRecords.{AtlasRecords, is_allocated_at, item_at, shelf_of, spelled_item, spelled_shelf, spelled_state}
 use Rattle.shelf_model.specs.Merging.{both_empty, combined_shelves, merged_shelf}

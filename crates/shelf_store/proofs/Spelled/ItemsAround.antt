@@ -5,7 +5,7 @@ use Rattle.std.specs.Prelude.{not}
 use Rattle.etagere_base.proofs.TimesLemmas.{times-append}
 use Rattle.etagere_base.specs.Lists.{times}
 use Rattle.etagere_base.specs.MergingAt.{merged_at, merged_before}
-use Rattle.shelf_links.specs.declared.records.LinkedItem.{LinkedItem}
+use Rattle.shelf_records.specs.declared.records.LinkedItem.{LinkedItem}
 use Rattle.etagere_links.specs.Edits.{field_at}
 use Rattle.etagere_links.proofs.ListEnds.{times-other}
 use Rattle.shelf_records.specs.AtlasRecords.{is_allocated_at, item_place_of, item_at, spelled_item}

@@ -1,5 +1,5 @@
 -- Records that spell lists, and whose shelves say whether they are empty, after a shelf was merged with its neighbours.
-use Rattle.shelf_links.proofs.AllLists.LinkedEdits.{Around, around_of, with_entry}
+use Rattle.shelf_records.proofs.AllLists.LinkedEdits.{Around, around_of, with_entry}
 use Rattle.std.proofs.Common.{◌≡◌, ◌≢◌, ℕ, suc, ◌+◌, ◌≤◌, ◌<◌, Bool, true, false, Option, None, Some, List, [], ◌∷◌, ◌++◌, length, map, refl, ap, subst, arith, sym, ◌∙◌, append_assoc}
 use Rattle.std.proofs.lemmas.List.{length-append}
 use Rattle.std.specs.Prelude.{slice_get}
@@ -9,10 +9,10 @@ use Rattle.etagere_base.specs.MergingAt.{merged_at, merged_before}
 use Rattle.etagere_links.specs.Edits.{link_at}
 use Rattle.etagere_links.specs.Lists.{last_or}
 use Rattle.etagere_links.specs.Neighbours.{HasNeighbours, NamesOneOf}
-use Rattle.shelf_links.specs.RecordLists.{Entry, first_item_of, item_numbers, shelf_numbers}
-use Rattle.shelf_links.specs.Records.{shelf_chain}
-use Rattle.shelf_links.proofs.AllLists.LinkedFrames.{item_numbers-append, shelf_numbers-append}
-use Rattle.shelf_links.proofs.AllLists.LinkedUnused.{lists_of}
+use Rattle.shelf_records.specs.RecordLists.{Entry, first_item_of, item_numbers, shelf_numbers}
+use Rattle.shelf_records.specs.Records.{shelf_chain}
+use Rattle.shelf_records.proofs.AllLists.LinkedFrames.{item_numbers-append, shelf_numbers-append}
+use Rattle.shelf_records.proofs.AllLists.LinkedUnused.{lists_of}
 use Rattle.etagere_links.proofs.ListEnds.{last-append, times-here}
 use Rattle.shelf_records.specs.AtlasRecords.{AtlasRecords, height_of, spelled_shelf}
 use Rattle.shelf_model.specs.Merging.{both_empty, combined_shelves}

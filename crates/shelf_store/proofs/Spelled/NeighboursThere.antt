@@ -3,16 +3,16 @@ use Rattle.std.proofs.Common.{◌≡◌, ℕ, ◌+◌, ◌<◌, ◌≤◌, Bool,
 use Rattle.etagere_base.proofs.EachLemmas.{Each-middle}
 use Rattle.etagere_base.proofs.TimesLemmas.{times-append}
 use Rattle.etagere_base.specs.Lists.{times}
-use Rattle.shelf_links.proofs.AllLists.LinkedItems.{entry_of}
-use Rattle.shelf_links.proofs.AllLists.LinkedEdits.{IsApart, linked-apart, Around, with_entry}
-use Rattle.shelf_links.specs.declared.records.LinkedItem.{LinkedItem}
+use Rattle.shelf_records.proofs.AllLists.LinkedItems.{entry_of}
+use Rattle.shelf_records.proofs.AllLists.LinkedEdits.{IsApart, linked-apart, Around, with_entry}
+use Rattle.shelf_records.specs.declared.records.LinkedItem.{LinkedItem}
 use Rattle.etagere_links.specs.Chains.{IsChainIn}
 use Rattle.etagere_links.specs.Edits.{link_at}
 use Rattle.etagere_links.specs.Families.{Family}
 use Rattle.etagere_links.specs.Lists.{first_or, last_or}
 use Rattle.etagere_links.specs.Neighbours.{HasNeighbours, NamesOneOf}
-use Rattle.shelf_links.specs.RecordLists.{Records, Entry, IsEntry, IsLinked, IsLinkedExcept, Lists, first_free_of, first_item_of, item_numbers, shelf_numbers}
-use Rattle.shelf_links.specs.Records.{free_list, item_chain, shelf_chain}
+use Rattle.shelf_records.specs.RecordLists.{Records, Entry, IsEntry, IsLinked, IsLinkedExcept, Lists, first_free_of, first_item_of, item_numbers, shelf_numbers}
+use Rattle.shelf_records.specs.Records.{free_list, item_chain, shelf_chain}
 use Rattle.etagere_links.proofs.Chains.{Leads-start, next-is, previous-is}
 use Rattle.etagere_links.proofs.ListEnds.{first-stands, last-stands-in, times-here}
 use Rattle.etagere_links.proofs.WalkedLists.{once-part}

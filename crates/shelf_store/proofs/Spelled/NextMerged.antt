@@ -6,12 +6,12 @@ use Rattle.etagere_base.proofs.EachLemmas.{Each-middle}
 use Rattle.etagere_base.proofs.TimesLemmas.{times-append, times-here}
 use Rattle.etagere_base.specs.Lists.{times, remove_place}
 use Rattle.etagere_base.specs.MergingAt.{merged_at}
-use Rattle.shelf_links.proofs.AllLists.LinkedItems.{entry_of}
-use Rattle.shelf_links.proofs.AllLists.LinkedEdits.{linked-apart, Around, with_entry}
-use Rattle.shelf_links.specs.declared.records.LinkedItem.{LinkedItem}
+use Rattle.shelf_records.proofs.AllLists.LinkedItems.{entry_of}
+use Rattle.shelf_records.proofs.AllLists.LinkedEdits.{linked-apart, Around, with_entry}
+use Rattle.shelf_records.specs.declared.records.LinkedItem.{LinkedItem}
 use Rattle.etagere_links.specs.Edits.{link_at}
-use Rattle.shelf_links.specs.RecordLists.{Records, Entry, IsEntry, first_item_of}
-use Rattle.shelf_links.specs.Records.{item_chain}
+use Rattle.shelf_records.specs.RecordLists.{Records, Entry, IsEntry, first_item_of}
+use Rattle.shelf_records.specs.Records.{item_chain}
 use Rattle.etagere_links.proofs.Chains.{next-is}
 use Rattle.shelf_records.specs.AtlasRecords.{AtlasRecords, is_allocated_at, item_place_of, along_of, item_at, spelled_shelf, width_of}
 use Rattle.shelf_model.specs.Merging.{both_free, combined_items}

@@ -1,11 +1,11 @@
 -- A shelf that isn't empty after a return: nothing merges with it.
 use Rattle.std.proofs.Common.{◌≡◌, ℕ, zero, suc, Bool, true, false, ◌==◌, Option, None, Some, List, [], ◌∷◌, refl, ap, sym, ◌∙◌}
 use Rattle.std.specs.Prelude.{◌&&◌}
-use Rattle.shelf_links.specs.declared.records.LinkedShelf.{LinkedShelf}
+use Rattle.shelf_records.specs.declared.records.LinkedShelf.{LinkedShelf}
 use Rattle.etagere_links.specs.Edits.{link_at}
-use Rattle.shelf_links.specs.RecordEdits.{with_empty}
-use Rattle.shelf_links.specs.RecordLists.{Records}
-use Rattle.shelf_links.specs.Records.{shelf_chain}
+use Rattle.shelf_records.specs.RecordEdits.{with_empty}
+use Rattle.shelf_records.specs.RecordLists.{Records}
+use Rattle.shelf_records.specs.Records.{shelf_chain}
 use Rattle.shelf_records.specs.AtlasRecords.{along_of, is_empty_at}
 use Rattle.shelf_store.specs.Private.ItemReturned.{IsLinkedBack, IsRemaining, Step, are_both_empty, emptiness_said, has_one_free, item_merged, empty_named, empty_next, named_shelf_merged, shelf_merged, shelf_next_absorbed, shelves_merged}
 use Rattle.shelf_store.specs.Private.ReturnedByHeight.{named_shelf_merged_by_height, shelf_merged_by_height, next_absorbed_by_height, shelves_merged_by_height}

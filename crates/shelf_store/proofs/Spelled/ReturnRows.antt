@@ -1,8 +1,8 @@
 -- Returns on the records of small atlases, by computing: which records are unused, in which order.
 use Rattle.std.proofs.Common.{◌≡◌, ℕ, Bool, true, false, Option, None, Some, [], ◌∷◌, refl}
-use Rattle.shelf_links.specs.declared.records.LinkedItem.{LinkedItem}
-use Rattle.shelf_links.specs.declared.records.LinkedShelf.{LinkedShelf}
-use Rattle.shelf_links.specs.RecordLists.{Records, walked_lists}
+use Rattle.shelf_records.specs.declared.records.LinkedItem.{LinkedItem}
+use Rattle.shelf_records.specs.declared.records.LinkedShelf.{LinkedShelf}
+use Rattle.shelf_records.specs.RecordLists.{Records, walked_lists}
 use Rattle.shelf_records.specs.AtlasRecords.{height_of, is_empty_at, width_of}
 use Rattle.shelf_store.specs.Private.ItemReturned.{item_returned, unused_by}
 

@@ -1,8 +1,8 @@
 -- A return changes the number of no records.
 use Rattle.std.proofs.Common.{◌≡◌, ℕ, Option, None, Some, length, refl, ◌∙◌}
 use Rattle.etagere_links.specs.Edits.{link_at}
-use Rattle.shelf_links.specs.RecordLists.{Records, first_item_of}
-use Rattle.shelf_links.specs.Records.{shelf_chain}
+use Rattle.shelf_records.specs.RecordLists.{Records, first_item_of}
+use Rattle.shelf_records.specs.Records.{shelf_chain}
 use Rattle.etagere_links.proofs.RecordChanges.{length-changed_by}
 use Rattle.shelf_records.specs.AtlasRecords.{shelf_of, AtlasRecords}
 use Rattle.shelf_store.specs.Private.ItemReturned.{empty_next, emptiness_said, free_next, free_previous, freed_after, item_merged, item_returned, named_shelf_merged, next_absorbed, shelf_merged, shelf_next_absorbed, shelf_of_item_absorbed}

@@ -7,17 +7,17 @@ use Rattle.etagere_base.proofs.AlignedPlaces.{multiple}
 use Rattle.etagere_base.proofs.EachLemmas.{Each-append, Each-front, Each-back}
 use Rattle.etagere_base.specs.Lists.{times}
 use Rattle.etagere_base.specs.MergingAt.{merged_at}
-use Rattle.shelf_links.proofs.AllLists.LinkedItems.{entry_of}
-use Rattle.shelf_links.proofs.AllLists.LinkedEdits.{linked-apart, around_of, Around, with_entry}
-use Rattle.shelf_links.specs.declared.records.LinkedItem.{LinkedItem}
-use Rattle.shelf_links.specs.declared.records.LinkedShelf.{LinkedShelf}
+use Rattle.shelf_records.proofs.AllLists.LinkedItems.{entry_of}
+use Rattle.shelf_records.proofs.AllLists.LinkedEdits.{linked-apart, around_of, Around, with_entry}
+use Rattle.shelf_records.specs.declared.records.LinkedItem.{LinkedItem}
+use Rattle.shelf_records.specs.declared.records.LinkedShelf.{LinkedShelf}
 use Rattle.etagere_links.specs.Edits.{link_at}
 use Rattle.etagere_links.specs.Lists.{first_or, last_or}
-use Rattle.shelf_links.specs.RecordLists.{Records, Entry, IsEntry, first_item_of, shelf_numbers}
-use Rattle.shelf_links.specs.Records.{item_chain, shelf_chain}
+use Rattle.shelf_records.specs.RecordLists.{Records, Entry, IsEntry, first_item_of, shelf_numbers}
+use Rattle.shelf_records.specs.Records.{item_chain, shelf_chain}
 use Rattle.etagere_links.proofs.Chains.{Leads-start, next-is, previous-is}
-use Rattle.shelf_links.proofs.AllLists.LinkedFrames.{shelf_numbers-append}
-use Rattle.shelf_links.proofs.AllLists.LinkedUnused.{lists_of}
+use Rattle.shelf_records.proofs.AllLists.LinkedFrames.{shelf_numbers-append}
+use Rattle.shelf_records.proofs.AllLists.LinkedUnused.{lists_of}
 use Rattle.etagere_links.proofs.ListEnds.{times-here}
 use Rattle.shelf_records.specs.AtlasRecords.{AtlasRecords, along_of, height_of, is_empty_at, is_allocated_at, item_at, spelled_shelf}
 use Rattle.shelf_model.specs.Merging.{both_empty, combined_shelves}

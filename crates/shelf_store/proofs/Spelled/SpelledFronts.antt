@@ -4,15 +4,15 @@ use Rattle.std.specs.Prelude.{◌%◌}
 use Rattle.etagere_base.proofs.EachLemmas.{Each-append, Each-front, Each-back, Each-middle}
 use Rattle.etagere_base.proofs.TimesLemmas.{times-append}
 use Rattle.etagere_base.specs.Lists.{times}
-use Rattle.shelf_links.proofs.AllLists.LinkedItems.{entry_of}
-use Rattle.shelf_links.proofs.AllLists.LinkedEdits.{linked-apart, Around, with_entry}
-use Rattle.shelf_links.specs.declared.records.LinkedItem.{LinkedItem}
+use Rattle.shelf_records.proofs.AllLists.LinkedItems.{entry_of}
+use Rattle.shelf_records.proofs.AllLists.LinkedEdits.{linked-apart, Around, with_entry}
+use Rattle.shelf_records.specs.declared.records.LinkedItem.{LinkedItem}
 use Rattle.etagere_links.specs.Edits.{changed_by, link_at, first_without, linked_between, unlinked, field_at}
-use Rattle.shelf_links.specs.RecordLists.{Records, Entry, first_free_of}
-use Rattle.shelf_links.specs.RecordMerges.{front_given}
-use Rattle.shelf_links.specs.Records.{item_chain, free_list}
+use Rattle.shelf_records.specs.RecordLists.{Records, Entry, first_free_of}
+use Rattle.shelf_records.specs.RecordMerges.{front_given}
+use Rattle.shelf_records.specs.Records.{item_chain, free_list}
 use Rattle.etagere_links.proofs.FieldChanges.{field_at-changed, field_at-kept}
-use Rattle.shelf_links.proofs.AllLists.LinkedMerges.{front_given-linked}
+use Rattle.shelf_records.proofs.AllLists.LinkedMerges.{front_given-linked}
 use Rattle.etagere_links.proofs.ListEnds.{times-here}
 use Rattle.etagere_links.proofs.RecordChanges.{get-changed_by-other}
 use Rattle.etagere_links.proofs.RecordFrames.{length-unlinked, length-linked_between, map-linked_between, map-unlinked}

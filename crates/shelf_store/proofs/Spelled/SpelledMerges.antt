@@ -5,16 +5,16 @@ use Rattle.etagere_base.proofs.EachLemmas.{Each-append, Each-front, Each-back, E
 use Rattle.etagere_base.proofs.TimesLemmas.{times-append}
 use Rattle.std.specs.List.{AllByRecursion}
 use Rattle.etagere_base.specs.Lists.{times}
-use Rattle.shelf_links.proofs.AllLists.LinkedItems.{entry_of}
-use Rattle.shelf_links.proofs.AllLists.LinkedEdits.{linked-apart, Around, with_entry}
-use Rattle.shelf_links.specs.declared.records.LinkedItem.{LinkedItem}
-use Rattle.shelf_links.specs.declared.records.LinkedShelf.{LinkedShelf}
+use Rattle.shelf_records.proofs.AllLists.LinkedItems.{entry_of}
+use Rattle.shelf_records.proofs.AllLists.LinkedEdits.{linked-apart, Around, with_entry}
+use Rattle.shelf_records.specs.declared.records.LinkedItem.{LinkedItem}
+use Rattle.shelf_records.specs.declared.records.LinkedShelf.{LinkedShelf}
 use Rattle.etagere_links.specs.Edits.{changed_by, link_at, first_without, linked_between, unlinked, field_at}
-use Rattle.shelf_links.specs.RecordEdits.{free_unlinked, with_first_item, with_first_free}
-use Rattle.shelf_links.specs.RecordLists.{IsLinkedExcept, Records, Entry, first_item_of, first_free_of}
-use Rattle.shelf_links.specs.RecordMerges.{free_absorbed, allocated_absorbed, item_freed, item_given}
-use Rattle.shelf_links.specs.Records.{item_chain, free_list}
-use Rattle.shelf_links.proofs.AllLists.LinkedMerges.{unused_too, free_absorbed-linked, allocated_absorbed-linked, item_freed-linked, item_given-linked}
+use Rattle.shelf_records.specs.RecordEdits.{free_unlinked, with_first_item, with_first_free}
+use Rattle.shelf_records.specs.RecordLists.{IsLinkedExcept, Records, Entry, first_item_of, first_free_of}
+use Rattle.shelf_records.specs.RecordMerges.{free_absorbed, allocated_absorbed, item_freed, item_given}
+use Rattle.shelf_records.specs.Records.{item_chain, free_list}
+use Rattle.shelf_records.proofs.AllLists.LinkedMerges.{unused_too, free_absorbed-linked, allocated_absorbed-linked, item_freed-linked, item_given-linked}
 use Rattle.etagere_links.proofs.ListEnds.{times-here}
 use Rattle.etagere_links.proofs.RecordChanges.{map-changed_by}
 use Rattle.etagere_links.proofs.RecordFrames.{length-unlinked, map-linked_between, map-unlinked}

@@ -2,19 +2,19 @@
 use Rattle.std.proofs.Common.{◌≡◌, ◌≢◌, ℕ, ◌+◌, ◌<◌, false, Some, List, [], ◌∷◌, ◌++◌, length, map, refl, arith, ◌∙◌}
 use Rattle.etagere_base.proofs.EachLemmas.{Each-append, Each-front, Each-back}
 use Rattle.std.specs.List.{AllByRecursion}
-use Rattle.shelf_links.proofs.AllLists.LinkedItems.{entry_of}
-use Rattle.shelf_links.proofs.AllLists.LinkedEdits.{linked-apart, Around}
-use Rattle.shelf_links.specs.declared.records.LinkedItem.{LinkedItem}
-use Rattle.shelf_links.specs.declared.records.LinkedShelf.{LinkedShelf}
+use Rattle.shelf_records.proofs.AllLists.LinkedItems.{entry_of}
+use Rattle.shelf_records.proofs.AllLists.LinkedEdits.{linked-apart, Around}
+use Rattle.shelf_records.specs.declared.records.LinkedItem.{LinkedItem}
+use Rattle.shelf_records.specs.declared.records.LinkedShelf.{LinkedShelf}
 use Rattle.etagere_links.specs.Edits.{unlinked, made_unused}
 use Rattle.etagere_links.specs.Families.{IsUnchanged}
-use Rattle.shelf_links.specs.RecordLists.{Records, Entry, shelf_numbers}
-use Rattle.shelf_links.specs.RecordMerges.{shelf_absorbed}
-use Rattle.shelf_links.specs.Records.{item_chain, shelf_chain}
+use Rattle.shelf_records.specs.RecordLists.{Records, Entry, shelf_numbers}
+use Rattle.shelf_records.specs.RecordMerges.{shelf_absorbed}
+use Rattle.shelf_records.specs.Records.{item_chain, shelf_chain}
 use Rattle.etagere_links.proofs.FieldChanges.{field_at-changed, field_at-kept}
-use Rattle.shelf_links.proofs.AllLists.LinkedMerges.{shelf_absorbed-linked}
-use Rattle.shelf_links.proofs.AllLists.LinkedFrames.{shelf_numbers-append}
-use Rattle.shelf_links.proofs.AllLists.LinkedUnused.{lists_of}
+use Rattle.shelf_records.proofs.AllLists.LinkedMerges.{shelf_absorbed-linked}
+use Rattle.shelf_records.proofs.AllLists.LinkedFrames.{shelf_numbers-append}
+use Rattle.shelf_records.proofs.AllLists.LinkedUnused.{lists_of}
 use Rattle.etagere_links.proofs.RecordChanges.{length-changed_by}
 use Rattle.etagere_links.proofs.RecordFrames.{map-unlinked, map-made_unused, length-unlinked, length-made_unused}
 use Rattle.shelf_records.specs.AtlasRecords.{AtlasRecords, is_allocated_at, is_empty_at, along_of, across_of, height_of}

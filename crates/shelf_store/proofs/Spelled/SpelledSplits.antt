@@ -5,21 +5,21 @@ use Rattle.etagere_base.proofs.EachLemmas.{Each-append, Each-front, Each-back, E
 use Rattle.etagere_base.proofs.TimesLemmas.{times-append}
 use Rattle.std.specs.List.{AllByRecursion}
 use Rattle.etagere_base.specs.Lists.{times}
-use Rattle.shelf_links.proofs.AllLists.LinkedItems.{entry_of}
-use Rattle.shelf_links.proofs.AllLists.LinkedEdits.{linked-apart, Around, with_entry}
-use Rattle.shelf_links.specs.declared.records.LinkedItem.{LinkedItem}
-use Rattle.shelf_links.specs.declared.records.LinkedShelf.{LinkedShelf}
+use Rattle.shelf_records.proofs.AllLists.LinkedItems.{entry_of}
+use Rattle.shelf_records.proofs.AllLists.LinkedEdits.{linked-apart, Around, with_entry}
+use Rattle.shelf_records.specs.declared.records.LinkedItem.{LinkedItem}
+use Rattle.shelf_records.specs.declared.records.LinkedShelf.{LinkedShelf}
 use Rattle.etagere_links.specs.Edits.{changed_by, link_at, linked_between, field_at}
 use Rattle.etagere_links.specs.Links.{no_link}
-use Rattle.shelf_links.specs.RecordEdits.{item_changed}
-use Rattle.shelf_links.specs.RecordLists.{Records, Entry, shelf_numbers, item_numbers, IsEntry}
-use Rattle.shelf_links.specs.RecordMerges.{shelf_split}
-use Rattle.shelf_links.specs.Records.{shelf_chain}
+use Rattle.shelf_records.specs.RecordEdits.{item_changed}
+use Rattle.shelf_records.specs.RecordLists.{Records, Entry, shelf_numbers, item_numbers, IsEntry}
+use Rattle.shelf_records.specs.RecordMerges.{shelf_split}
+use Rattle.shelf_records.specs.Records.{shelf_chain}
 use Rattle.etagere_links.proofs.FieldChanges.{field_at-changed, field_at-kept}
-use Rattle.shelf_links.proofs.AllLists.LinkedFields.{item_written-linked}
-use Rattle.shelf_links.proofs.AllLists.LinkedFrames.{item_numbers-append, shelf_numbers-append}
-use Rattle.shelf_links.proofs.AllLists.LinkedSplits.{shelf_split-linked}
-use Rattle.shelf_links.proofs.AllLists.LinkedUnused.{lists_of, IsLoose, loose-of}
+use Rattle.shelf_records.proofs.AllLists.LinkedFields.{item_written-linked}
+use Rattle.shelf_records.proofs.AllLists.LinkedFrames.{item_numbers-append, shelf_numbers-append}
+use Rattle.shelf_records.proofs.AllLists.LinkedSplits.{shelf_split-linked}
+use Rattle.shelf_records.proofs.AllLists.LinkedUnused.{lists_of, IsLoose, loose-of}
 use Rattle.etagere_links.proofs.RecordChanges.{get-changed_by-other, length-changed_by}
 use Rattle.etagere_links.proofs.RecordFrames.{map-linked_between, length-linked_between}
 use Rattle.shelf_records.specs.AtlasRecords.{AtlasRecords, is_allocated_at, item_place_of, shelf_of, along_of, across_of, height_of, is_empty_at, item_at, spelled_item, spelled_shelf}

@@ -4,13 +4,13 @@ use Rattle.std.specs.Prelude.{slice_get}
 use Rattle.etagere_base.proofs.TimesLemmas.{times-append}
 use Rattle.std.specs.List.{AllByRecursion}
 use Rattle.etagere_base.specs.Lists.{times}
-use Rattle.shelf_links.specs.declared.records.LinkedShelf.{LinkedShelf}
+use Rattle.shelf_records.specs.declared.records.LinkedShelf.{LinkedShelf}
 use Rattle.etagere_links.specs.Links.{no_link}
-use Rattle.shelf_links.specs.RecordLists.{Records, Entry, Lists, shelf_numbers, item_numbers, IsEntry}
+use Rattle.shelf_records.specs.RecordLists.{Records, Entry, Lists, shelf_numbers, item_numbers, IsEntry}
 use Rattle.etagere_links.specs.Edits.{field_at}
-use Rattle.shelf_links.specs.RecordUses.{number_used, new_shelf, shelves_used, item_used, shelf_used}
-use Rattle.shelf_links.proofs.AllLists.LinkedUnused.{three-count, IsLoose, loose-of}
-use Rattle.shelf_links.proofs.AllLists.LinkedUses.{but_first, uses-item, uses-shelf}
+use Rattle.shelf_records.specs.RecordUses.{number_used, new_shelf, shelves_used, item_used, shelf_used}
+use Rattle.shelf_records.proofs.AllLists.LinkedUnused.{three-count, IsLoose, loose-of}
+use Rattle.shelf_records.proofs.AllLists.LinkedUses.{but_first, uses-item, uses-shelf}
 use Rattle.etagere_links.proofs.WalkedLists.{once-part}
 use Rattle.shelf_records.specs.AtlasRecords.{AtlasRecords, is_allocated_at, spelled_shelf}
 use Rattle.shelf_records.proofs.Spelled.Witnessed.{HasFlag, IsPlaced}

@@ -7,8 +7,8 @@ use Rattle.std.specs.List.{AllByRecursion}
 use Rattle.std.specs.Prelude.{◌/◌, ◌==◌, if◌then◌else◌}
 use Rattle.etagere_base.proofs.EachLemmas.{Each-all}
 use Rattle.etagere_base.specs.Lists.{times}
-use Rattle.shelf_links.specs.declared.records.LinkedShelf.{LinkedShelf}
-use Rattle.shelf_links.specs.RecordLists.{Entry, shelf_numbers}
+use Rattle.shelf_records.specs.declared.records.LinkedShelf.{LinkedShelf}
+use Rattle.shelf_records.specs.RecordLists.{Entry, shelf_numbers}
 use Rattle.etagere_links.proofs.ListEnds.{times-here}
 use Rattle.shelf_records.specs.AtlasRecords.{along_of, across_of, height_of}
 use Rattle.shelf_records.specs.StandsFor.{AreStacked, height_before}

@@ -1,5 +1,5 @@
 -- Kept records are kept again after a placement was taken, and spell the state of the model.
-use Rattle.shelf_links.proofs.AllLists.LinkedEdits.{around_of}
+use Rattle.shelf_records.proofs.AllLists.LinkedEdits.{around_of}
 use Rattle.std.proofs.Common.{◌≡◌, ℕ, zero, suc, ◌+◌, ◌<◌, ◌≤◌, pos, Some, List, [], ◌∷◌, ◌++◌, length, map, refl, ap, arith, ◌∙◌, sym, subst}
 use Rattle.std.proofs.lemmas.List.{length-append, map-append}
 use Rattle.std.specs.Prelude.{max}
@@ -8,11 +8,11 @@ use Rattle.std.specs.List.{AllByRecursion}
 use Rattle.etagere_base.specs.Lists.{replaced_at, times}
 use Rattle.etagere_base.specs.declared.frames.Frame.{Frame}
 use Rattle.etagere_base.specs.declared.geometry.Size.{Size}
-use Rattle.shelf_links.proofs.AllLists.LinkedItems.{entry_of}
-use Rattle.shelf_links.specs.RecordLists.{Records, Entry, Lists, item_numbers, shelf_numbers, walked_lists}
-use Rattle.shelf_links.specs.RecordUses.{number_used}
-use Rattle.shelf_links.proofs.AllLists.LinkedFrames.{shelf_numbers-append}
-use Rattle.shelf_links.proofs.AllLists.LinkedWalks.{linked-lists, linked-walks}
+use Rattle.shelf_records.proofs.AllLists.LinkedItems.{entry_of}
+use Rattle.shelf_records.specs.RecordLists.{Records, Entry, Lists, item_numbers, shelf_numbers, walked_lists}
+use Rattle.shelf_records.specs.RecordUses.{number_used}
+use Rattle.shelf_records.proofs.AllLists.LinkedFrames.{shelf_numbers-append}
+use Rattle.shelf_records.proofs.AllLists.LinkedWalks.{linked-lists, linked-walks}
 use Rattle.shelf_records.specs.AtlasRecords.{AtlasRecords, spelled_shelf}
 use Rattle.shelf_model.specs.Choice.{Placement, placement_of}
 use Rattle.shelf_model.specs.Places.{allocated_numbers, record_number}

@@ -1,13 +1,13 @@
 -- Records that spell lists, after those for the rests of a placement were put to use and its shelf was split.
-use Rattle.shelf_links.proofs.AllLists.LinkedEdits.{Around, with_entry}
+use Rattle.shelf_records.proofs.AllLists.LinkedEdits.{Around, with_entry}
 use Rattle.std.proofs.Common.{◌≡◌, ℕ, ◌+◌, ◌-◌, ◌≤◌, Bool, true, false, Option, None, Some, List, [], ◌∷◌, ◌++◌, length, refl, arith, subst, sym}
 use Rattle.std.specs.Prelude.{◌/◌, if◌then◌else◌}
 use Rattle.etagere_links.specs.Links.{no_link}
-use Rattle.shelf_links.proofs.AllLists.LinkedItems.{entry_of}
-use Rattle.shelf_links.specs.RecordLists.{Records, Entry, Lists}
-use Rattle.shelf_links.specs.RecordUses.{number_used, item_used, rests_used}
-use Rattle.shelf_links.proofs.AllLists.LinkedUnused.{lists_of}
-use Rattle.shelf_links.proofs.AllLists.LinkedUses.{but_first}
+use Rattle.shelf_records.proofs.AllLists.LinkedItems.{entry_of}
+use Rattle.shelf_records.specs.RecordLists.{Records, Entry, Lists}
+use Rattle.shelf_records.specs.RecordUses.{number_used, item_used, rests_used}
+use Rattle.shelf_records.proofs.AllLists.LinkedUnused.{lists_of}
+use Rattle.shelf_records.proofs.AllLists.LinkedUses.{but_first}
 use Rattle.shelf_records.specs.AtlasRecords.{AtlasRecords, along_of, height_of}
 use Rattle.shelf_model.specs.Choice.{Placement}
 use Rattle.shelf_store.specs.Private.PlacementTaken.{with_shelf_rest}

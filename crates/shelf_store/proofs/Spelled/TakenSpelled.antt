@@ -1,16 +1,16 @@
 -- Records that spell lists, after a placement was taken: they spell the shelves of the model.
-use Rattle.shelf_links.proofs.AllLists.LinkedEdits.{Around, around_of, with_entry}
+use Rattle.shelf_records.proofs.AllLists.LinkedEdits.{Around, around_of, with_entry}
 use Rattle.std.proofs.Common.{◌≡◌, ℕ, ◌+◌, ◌-◌, ◌<◌, ◌≤◌, Bool, true, false, Option, Some, List, [], ◌∷◌, ◌++◌, length, map, refl, ap, arith, ◌∙◌, sym, subst}
 use Rattle.std.specs.Prelude.{if◌then◌else◌}
 use Rattle.etagere_base.proofs.EachLemmas.{Each-middle}
 use Rattle.std.specs.List.{AllByRecursion}
-use Rattle.shelf_links.specs.declared.records.LinkedShelf.{LinkedShelf}
+use Rattle.shelf_records.specs.declared.records.LinkedShelf.{LinkedShelf}
 use Rattle.etagere_links.specs.Links.{no_link}
-use Rattle.shelf_links.specs.RecordEdits.{shelf_changed}
-use Rattle.shelf_links.specs.RecordLists.{Records, Entry, Lists, first_item_of, shelf_numbers, IsEntry}
-use Rattle.shelf_links.specs.RecordUses.{number_used, item_used, rests_used}
-use Rattle.shelf_links.proofs.AllLists.LinkedFrames.{shelf_numbers-append}
-use Rattle.shelf_links.proofs.AllLists.LinkedUnused.{lists_of}
+use Rattle.shelf_records.specs.RecordEdits.{shelf_changed}
+use Rattle.shelf_records.specs.RecordLists.{Records, Entry, Lists, first_item_of, shelf_numbers, IsEntry}
+use Rattle.shelf_records.specs.RecordUses.{number_used, item_used, rests_used}
+use Rattle.shelf_records.proofs.AllLists.LinkedFrames.{shelf_numbers-append}
+use Rattle.shelf_records.proofs.AllLists.LinkedUnused.{lists_of}
 use Rattle.etagere_links.proofs.RecordChanges.{length-changed_by}
 use Rattle.shelf_records.specs.AtlasRecords.{AtlasRecords, height_of, spelled_shelf}
 use Rattle.shelf_model.specs.Choice.{Placement}

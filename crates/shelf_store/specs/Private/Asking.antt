@@ -1,8 +1,8 @@
 -- What passes over the shelves find by records: the widest free item, and counts.
 use Rattle.std.specs.Prelude.{ℕ, ◌+◌, ◌&&◌, max, Bool, List, filter, length, nat_le, nat_lt, ◌==◌, if◌then◌else◌}
 use Rattle.etagere_base.specs.Lists.{total}
-use Rattle.shelf_links.specs.declared.records.LinkedItem.{LinkedItem}
-use Rattle.shelf_links.specs.RecordLists.{Records, free_walk, shelf_walk}
+use Rattle.shelf_records.specs.declared.records.LinkedItem.{LinkedItem}
+use Rattle.shelf_records.specs.RecordLists.{Records, free_walk, shelf_walk}
 use Rattle.shelf_records.specs.AtlasRecords.{height_of, is_empty_at}
 use Rattle.shelf_model.specs.Widest.{greatest}
 use Rattle.shelf_store.specs.Private.Opening.{widest_of}

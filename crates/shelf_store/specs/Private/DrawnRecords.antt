@@ -6,7 +6,7 @@ use Rattle.etagere_base.specs.declared.drawing.Colour.{Colour}
 use Rattle.etagere_base.specs.declared.drawing.Colour.TheVariants.{Allocated, Free}
 use Rattle.etagere_base.specs.declared.drawing.Drawn.{Drawn}
 use Rattle.etagere_base.specs.declared.frames.Frame.{Frame}
-use Rattle.shelf_links.specs.RecordLists.{Records, item_walk, shelf_walk}
+use Rattle.shelf_records.specs.RecordLists.{Records, item_walk, shelf_walk}
 use Rattle.shelf_records.specs.AtlasRecords.{across_of, height_of, is_allocated_at, item_at, item_place_of}
 
 -- the colour of an item, by whether it is allocated

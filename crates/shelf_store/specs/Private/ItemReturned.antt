@@ -1,14 +1,14 @@
 -- A return on linked records, step by step: what merges keeps the record of the earlier place, and
 -- makes the other unused.
 use Rattle.std.specs.Prelude.{◌≡◌, ℕ, ◌+◌, ◌<◌, ◌==◌, Bool, false, ◌&&◌, not, Option, None, Some, is_none, List, length, if◌then◌else◌}
-use Rattle.shelf_links.specs.declared.records.LinkedItem.{LinkedItem}
-use Rattle.shelf_links.specs.declared.records.LinkedShelf.{LinkedShelf}
+use Rattle.shelf_records.specs.declared.records.LinkedItem.{LinkedItem}
+use Rattle.shelf_records.specs.declared.records.LinkedShelf.{LinkedShelf}
 use Rattle.etagere_links.specs.Edits.{link_at}
 use Rattle.etagere_links.specs.Neighbours.{HasNeighbours, NamesOneOf}
-use Rattle.shelf_links.specs.RecordEdits.{shelf_changed}
-use Rattle.shelf_links.specs.RecordLists.{Records, first_free_of, first_item_of}
-use Rattle.shelf_links.specs.RecordMerges.{free_absorbed, allocated_absorbed, item_freed, shelf_absorbed}
-use Rattle.shelf_links.specs.Records.{free_list, item_chain, shelf_chain}
+use Rattle.shelf_records.specs.RecordEdits.{shelf_changed}
+use Rattle.shelf_records.specs.RecordLists.{Records, first_free_of, first_item_of}
+use Rattle.shelf_records.specs.RecordMerges.{free_absorbed, allocated_absorbed, item_freed, shelf_absorbed}
+use Rattle.shelf_records.specs.Records.{free_list, item_chain, shelf_chain}
 use Rattle.shelf_records.specs.AtlasRecords.{along_of, height_of, is_allocated_at, is_empty_at, shelf_of, width_of}
 
 -- records after a step, and how many item records became unused

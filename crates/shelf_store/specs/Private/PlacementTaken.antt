@@ -3,16 +3,16 @@ use Rattle.std.specs.Prelude.{ℕ, ◌+◌, ◌-◌, ◌*◌, ◌<◌, ◌≤◌
 use Rattle.etagere_base.specs.Frames.{longest_side}
 use Rattle.etagere_base.specs.Ids.{index_modulus}
 use Rattle.etagere_base.specs.Lists.{times}
-use Rattle.shelf_links.specs.declared.records.LinkedItem.{LinkedItem}
-use Rattle.shelf_links.specs.declared.records.LinkedShelf.{LinkedShelf}
+use Rattle.shelf_records.specs.declared.records.LinkedItem.{LinkedItem}
+use Rattle.shelf_records.specs.declared.records.LinkedShelf.{LinkedShelf}
 use Rattle.etagere_links.specs.Links.{no_link}
-use Rattle.shelf_links.specs.RecordEdits.{item_changed, shelf_changed}
-use Rattle.shelf_links.specs.RecordLists.{Records}
+use Rattle.shelf_records.specs.RecordEdits.{item_changed, shelf_changed}
+use Rattle.shelf_records.specs.RecordLists.{Records}
 use Rattle.etagere_links.specs.Edits.{field_at}
 use Rattle.etagere_links.specs.Neighbours.{HasNeighbours}
-use Rattle.shelf_links.specs.Records.{free_list, item_chain, shelf_chain}
-use Rattle.shelf_links.specs.RecordMerges.{item_given, front_given, shelf_split}
-use Rattle.shelf_links.specs.RecordUses.{missing, new_item, new_shelf, rests_of, rests_used}
+use Rattle.shelf_records.specs.Records.{free_list, item_chain, shelf_chain}
+use Rattle.shelf_records.specs.RecordMerges.{item_given, front_given, shelf_split}
+use Rattle.shelf_records.specs.RecordUses.{missing, new_item, new_shelf, rests_of, rests_used}
 use Rattle.shelf_model.specs.Choice.{Placement}
 use Rattle.shelf_heights.specs.Private.ByHeight.{AreInOrder, bound_of, put_in, numbers_by_height, taken_out}
 use Rattle.shelf_heights.specs.declared.by_height.BoundedShelf.{BoundedShelf}

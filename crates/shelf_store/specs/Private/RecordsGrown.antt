@@ -4,15 +4,15 @@ use Rattle.std.specs.Prelude.{◌≡◌, ℕ, zero, suc, ◌+◌, ◌-◌, ◌*�
 use Rattle.std.specs.Option.{option_map_or}
 use Rattle.etagere_base.specs.declared.frames.Frame.{Frame}
 use Rattle.etagere_base.specs.Frames.{across_side}
-use Rattle.shelf_links.specs.declared.records.LinkedItem.{LinkedItem}
-use Rattle.shelf_links.specs.declared.records.LinkedShelf.{LinkedShelf}
+use Rattle.shelf_records.specs.declared.records.LinkedItem.{LinkedItem}
+use Rattle.shelf_records.specs.declared.records.LinkedShelf.{LinkedShelf}
 use Rattle.etagere_links.specs.Edits.{link_at}
 use Rattle.etagere_links.specs.Links.{no_link}
-use Rattle.shelf_links.specs.RecordEdits.{free_inserted_front, item_changed, item_inserted_after, shelf_changed, shelf_inserted_after}
-use Rattle.shelf_links.specs.RecordLists.{Records, first_item_of}
-use Rattle.shelf_links.specs.RecordMaking.{item_used_again, records_made, shelf_used_again, started}
-use Rattle.shelf_links.specs.RecordUses.{missing}
-use Rattle.shelf_links.specs.Records.{item_chain, shelf_chain}
+use Rattle.shelf_records.specs.RecordEdits.{free_inserted_front, item_changed, item_inserted_after, shelf_changed, shelf_inserted_after}
+use Rattle.shelf_records.specs.RecordLists.{Records, first_item_of}
+use Rattle.shelf_records.specs.RecordMaking.{item_used_again, records_made, shelf_used_again, started}
+use Rattle.shelf_records.specs.RecordUses.{missing}
+use Rattle.shelf_records.specs.Records.{item_chain, shelf_chain}
 use Rattle.shelf_records.specs.AtlasRecords.{across_of, along_of, height_of, is_allocated_at, is_empty_at, width_of}
 use Rattle.shelf_store.specs.declared.growing.Made.{Made}
 use Rattle.shelf_store.specs.declared.growing.Needed.{Needed}

@@ -2,12 +2,12 @@
 -- free, and of two shelves that merge the later goes and the other stands where its height puts it.
 use Rattle.std.specs.Prelude.{◌≡◌, ◌≢◌, ℕ, ◌+◌, ◌≤◌, Option, None, Some, List, length}
 use Rattle.etagere_base.specs.Lists.{times}
-use Rattle.shelf_links.specs.declared.records.LinkedItem.{LinkedItem}
-use Rattle.shelf_links.specs.declared.records.LinkedShelf.{LinkedShelf}
+use Rattle.shelf_records.specs.declared.records.LinkedItem.{LinkedItem}
+use Rattle.shelf_records.specs.declared.records.LinkedShelf.{LinkedShelf}
 use Rattle.etagere_links.specs.Edits.{link_at}
 use Rattle.etagere_links.specs.Links.{no_link}
-use Rattle.shelf_links.specs.RecordLists.{Records, first_item_of}
-use Rattle.shelf_links.specs.Records.{shelf_chain}
+use Rattle.shelf_records.specs.RecordLists.{Records, first_item_of}
+use Rattle.shelf_records.specs.Records.{shelf_chain}
 use Rattle.shelf_records.specs.AtlasRecords.{shelf_of, width_of}
 use Rattle.shelf_heights.specs.Private.ByHeight.{AreInOrder, bound_of, put_in, raised, numbers_by_height, taken_out}
 use Rattle.shelf_store.specs.Private.ItemReturned.{IsShelfThere, emptiness_said, empty_next, free_next, free_previous, item_merged, merged_width, shelf_merged, shelf_of_item_absorbed}

@@ -6,8 +6,8 @@ use Rattle.std.specs.List.{AllByRecursion}
 use Rattle.etagere_base.specs.declared.frames.Frame.{Frame}
 use Rattle.etagere_base.specs.declared.geometry.Size.{Size}
 use Rattle.etagere_base.specs.declared.sides.Sides.{Sides}
-use Rattle.shelf_links.specs.declared.records.LinkedShelf.{LinkedShelf}
-use Rattle.shelf_links.specs.RecordLists.{Records, free_walk, shelf_walk}
+use Rattle.shelf_records.specs.declared.records.LinkedShelf.{LinkedShelf}
+use Rattle.shelf_records.specs.RecordLists.{Records, free_walk, shelf_walk}
 use Rattle.shelf_records.specs.AtlasRecords.{across_of, height_of, is_empty_at, item_at, item_place_of}
 use Rattle.shelf_model.specs.Choice.{Placement, bad_fit_rank, is_item_split, placement_of, shelf_height, shelf_slack}
 use Rattle.shelf_heights.specs.Private.ByHeight.{chain_order}

@@ -10,8 +10,7 @@ use crate::growing::Made;
 use crate::growing::counting::ends_column;
 use crate::growing::inserting::{NewShelf, insert_shelf};
 use etagere_links::{Chain, next_of};
-use shelf_links::{LinkedShelf, Records};
-use shelf_records::fields;
+use shelf_records::{LinkedShelf, Records, fields};
 
 /// Adds a height at the end of each column.
 pub fn heighten_columns(records: &mut Records, made: &mut Made, width: u16, height: u16)

@@ -9,7 +9,7 @@ ghost use Rattle.shelf_store.specs.Private.RecordsGrown.{CanInsert};
 
 use crate::growing::Made;
 use etagere_links::Link;
-use shelf_links::{LinkedShelf, Records};
+use shelf_records::{LinkedShelf, Records};
 
 /// Where a shelf begins along and across, and how wide and tall it is.
 #[derive(Clone, Copy)]

@@ -10,8 +10,7 @@ use crate::growing::Made;
 use crate::growing::counting::last_item;
 use crate::growing::inserting::use_item;
 use etagere_links::{Chain, next_of};
-use shelf_links::{LinkedShelf, Records};
-use shelf_records::fields;
+use shelf_records::{LinkedShelf, Records, fields};
 
 /// Adds a width at the end of each shelf, which is at this place.
 pub fn widen_shelves(records: &mut Records, made: &mut Made, place: u16, width: u16)

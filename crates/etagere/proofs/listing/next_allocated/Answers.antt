@@ -1,5 +1,5 @@
 use Rattle.std.proofs.Common.{◌≡◌, false, ap, sym, ◌∙◌}
-use Rattle.shelf_links.specs.declared.records.LinkedItem.{LinkedItem}
+use Rattle.shelf_records.specs.declared.records.LinkedItem.{LinkedItem}
 use Rattle.shelf_records.specs.AtlasRecords.{is_allocated_at}
 use Rattle.shelf_store.proofs.Recorded.RecordedListing.{next-passed}
 use Rattle.shelf_records.proofs.Recorded.RecordsOfIds.{field_at-read}

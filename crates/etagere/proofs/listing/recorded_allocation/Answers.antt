@@ -1,7 +1,7 @@
 use Rattle.std.proofs.Common.{◌≡◌, ◌+◌, ◌*◌, ◌<◌, ◌∙◌, ap, arith, get_or, length, sym}
 use Rattle.etagere_base.specs.Ids.{index_modulus}
 use Rattle.etagere_links.specs.Edits.{field_at}
-use Rattle.shelf_links.specs.declared.records.LinkedItem.{LinkedItem}
+use Rattle.shelf_records.specs.declared.records.LinkedItem.{LinkedItem}
 use Rattle.shelf_records.specs.Private.Reading.{recorded_id}
 use Rattle.shelf_records.proofs.Recorded.RecordsOfIds.{field_at-read, marked-within}
 use Rattle.shelf_records.proofs.Spelled.StandsKept.{witnesses}

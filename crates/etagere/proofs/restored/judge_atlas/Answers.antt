@@ -1,6 +1,6 @@
 use Rattle.std.proofs.Common.{ℕ, List, length, ap, arith, refl, ◌∙◌}
 use Rattle.std.proofs.lemmas.List.{length-map}
-use Rattle.shelf_links.specs.RecordLists.{shelf_walk, walked_entry}
+use Rattle.shelf_records.specs.RecordLists.{shelf_walk, walked_entry}
 use Rattle.shelf_records.specs.AtlasRecords.{spelled_shelf, walked_entries}
 use Rattle.shelf_restoring.proofs.Loaded.ChainsWalked.{items-length}
 use Rattle.shelf_restoring.proofs.Loaded.WalksRestore.{walked-count}

@@ -3,8 +3,8 @@ use Rattle.std.specs.Io.KnownBytes.{Appends}
 use Rattle.pictures.specs.Sending.{AppendsBeginning, AppendsPart}
 use Rattle.pictures.proofs.GatheringLemmas.{on-err}
 use Rattle.run_scripts.specs.ReplyText.{line_of}
-use Rattle.run_answers.specs.Private.Tables.{entries_of}
-use Rattle.run_answers.specs.Private.Tied.{IsAnswerOf}
+use Rattle.etagere_run.specs.Answers.Private.Tables.{entries_of}
+use Rattle.etagere_run.specs.Answers.Private.Tied.{IsAnswerOf}
 use Rattle.etagere_run.proofs.StreamsOn.{line-some, stream-ends, stream-goes_on, stream-starts, stream-stops, stream-stops_at}
 use Rattle.etagere_run.proofs.streaming.stream_all.Goals as goal
 

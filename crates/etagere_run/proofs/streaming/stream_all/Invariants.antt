@@ -1,6 +1,6 @@
 use Rattle.std.proofs.Common.{◌≡◌, ◌≤◌, length, take}
 use Rattle.std.specs.Prelude.{vec_capacity, vec_len}
-use Rattle.run_answers.specs.Private.Tables.{entries_of}
+use Rattle.etagere_run.specs.Answers.Private.Tables.{entries_of}
 use Rattle.etagere_run.proofs.StreamsOn.{IsStreaming}
 use Rattle.etagere_run.proofs.streaming.stream_all.Given as goal
 

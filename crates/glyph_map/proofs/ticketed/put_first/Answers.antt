@@ -1,6 +1,6 @@
 use Rattle.std.proofs.Common.{ap, ◌∙◌}
 use Rattle.lru.specs.LruCache.{lru_cache}
-use Rattle.used_keys.proofs.Entries.{put-first}
+use Rattle.glyph_shelf.proofs.UsedKeys.Entries.{put-first}
 use Rattle.glyph_map.proofs.ticketed.put_first.Goals as goal
 
 pub returns-in-Ok-clause-ok : goal.returns-in-Ok-clause-ok

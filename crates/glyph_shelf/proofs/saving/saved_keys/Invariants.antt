@@ -1,5 +1,5 @@
 use Rattle.std.specs.Prelude.{◌≡◌, ◌++◌, length, map}
-use Rattle.used_keys.specs.Private.Stamps.{unstamped}
+use Rattle.glyph_shelf.specs.UsedKeys.Private.Stamps.{unstamped}
 use Rattle.glyph_shelf.specs.Saved.{saved_key}
 use Rattle.glyph_shelf.proofs.saving.saved_keys.Given as goal
 

@@ -1,6 +1,6 @@
 use Rattle.std.proofs.Common.{nat_eq, ap, ◌∙◌}
 use Rattle.lru.specs.LruCache.{lru_cache}
-use Rattle.used_keys.proofs.Entries.{put-first}
+use Rattle.glyph_shelf.proofs.UsedKeys.Entries.{put-first}
 use Rattle.paged_cache.proofs.keyed.put_first.Goals as goal
 
 pub returns-clause-ok : goal.returns-clause-ok

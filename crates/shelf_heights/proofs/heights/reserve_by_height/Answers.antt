@@ -1,6 +1,6 @@
 use Rattle.std.proofs.Common.{rules}
-use Rattle.shelf_links.specs.Records.{shelf_chain}
-use Rattle.shelf_links.proofs.MissingRecords.{missing-le}
+use Rattle.shelf_records.specs.Records.{shelf_chain}
+use Rattle.shelf_records.proofs.MissingRecords.{missing-le}
 use Rattle.shelf_heights.proofs.heights.reserve_by_height.Goals as goal
 
 pub overflow_add-shelves : goal.overflow_add-shelves

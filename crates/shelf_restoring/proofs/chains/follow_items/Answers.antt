@@ -2,9 +2,9 @@ use Rattle.std.proofs.Common.{◌≡◌, ℕ, ◌+◌, List, length, subst, sym,
 use Rattle.std.specs.List.{AllByRecursion}
 use Rattle.etagere_links.specs.Links.{bits_of, link_of}
 use Rattle.etagere_links.specs.Marks.{IsMarkedBy}
-use Rattle.shelf_links.specs.RecordLists.{item_numbers, item_walk, shelf_walk, unused_item_walk}
+use Rattle.shelf_records.specs.RecordLists.{item_numbers, item_walk, shelf_walk, unused_item_walk}
 use Rattle.etagere_links.specs.Lists.{HasEachOnce}
-use Rattle.shelf_links.specs.Records.{item_chain}
+use Rattle.shelf_records.specs.Records.{item_chain}
 use Rattle.etagere_links.specs.Walks.{Walked}
 use Rattle.shelf_records.specs.AtlasRecords.{AtlasRecords}
 use Rattle.shelf_records.specs.Private.Restoring.{HasChain, chain_entry}

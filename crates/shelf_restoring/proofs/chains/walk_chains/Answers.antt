@@ -2,8 +2,8 @@ use Rattle.std.proofs.Common.{◌≡◌, ℕ, ◌+◌, ◌-◌, List, length, ge
 use Rattle.std.proofs.lemmas.List.{length-append}
 use Rattle.etagere_links.specs.Links.{bits_of, link_of}
 use Rattle.etagere_links.specs.Marks.{IsMarkedBy}
-use Rattle.shelf_links.specs.RecordLists.{first_item_of, item_numbers, item_walk, unused_item_walk}
-use Rattle.shelf_links.specs.Records.{item_chain}
+use Rattle.shelf_records.specs.RecordLists.{first_item_of, item_numbers, item_walk, unused_item_walk}
+use Rattle.shelf_records.specs.Records.{item_chain}
 use Rattle.etagere_links.specs.Walks.{Walked, walk}
 use Rattle.etagere_links.proofs.MarkLemmas.{marked-length}
 use Rattle.shelf_records.specs.AtlasRecords.{AtlasRecords}

@@ -1,7 +1,7 @@
 use Rattle.std.proofs.Common.{◌≡◌, ◌+◌, ◌++◌, length, map, take, vec_capacity}
 use Rattle.std.specs.List.{AllByRecursion}
 use Rattle.etagere_links.specs.Marks.{IsMarkedBy}
-use Rattle.shelf_links.specs.RecordLists.{item_numbers, unused_item_walk}
+use Rattle.shelf_records.specs.RecordLists.{item_numbers, unused_item_walk}
 use Rattle.shelf_records.specs.Private.Restoring.{HasChain, chain_entry, items_met}
 use Rattle.shelf_restoring.proofs.chains.walk_chains.Given as goal
 

@@ -3,8 +3,8 @@ use Rattle.std.proofs.lemmas.List.{length-append, take_all}
 use Rattle.std.specs.List.{AllByRecursion}
 use Rattle.etagere_links.specs.Links.{bits_of, link_of}
 use Rattle.etagere_links.specs.Marks.{IsMarkedBy}
-use Rattle.shelf_links.specs.RecordLists.{first_free_of, free_walk, walked_entry}
-use Rattle.shelf_links.specs.Records.{free_list}
+use Rattle.shelf_records.specs.RecordLists.{first_free_of, free_walk, walked_entry}
+use Rattle.shelf_records.specs.Records.{free_list}
 use Rattle.etagere_links.specs.Walks.{Walked, walk}
 use Rattle.etagere_links.proofs.MarkLemmas.{marked-length}
 use Rattle.shelf_records.specs.AtlasRecords.{AtlasRecords}

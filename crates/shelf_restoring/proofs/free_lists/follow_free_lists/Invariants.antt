@@ -1,7 +1,7 @@
 use Rattle.std.proofs.Common.{◌≡◌, ◌+◌, length, map, take, vec_capacity}
 use Rattle.std.specs.List.{AllByRecursion}
 use Rattle.etagere_links.specs.Marks.{IsMarkedBy}
-use Rattle.shelf_links.specs.RecordLists.{walked_entry}
+use Rattle.shelf_records.specs.RecordLists.{walked_entry}
 use Rattle.shelf_records.specs.Private.Restoring.{HasFree, free_numbers, frees_met}
 use Rattle.shelf_restoring.proofs.free_lists.follow_free_lists.Given as goal
 

@@ -6,9 +6,9 @@ use Rattle.etagere_base.proofs.DecidingLemmas.{denied, granted}
 use Rattle.etagere_base.proofs.EachLemmas.{Each-weaken}
 use Rattle.etagere_base.specs.declared.faults.RestoreFault.TheVariants.{Frame, Counts, Link, Shelves, Runs, Neighbours, FreeList, Sharing, Unused, Space, Memory}
 use Rattle.etagere_links.specs.Links.{no_link}
-use Rattle.shelf_links.specs.declared.records.LinkedItem.{LinkedItem}
-use Rattle.shelf_links.specs.declared.records.LinkedShelf.{LinkedShelf}
-use Rattle.shelf_links.specs.RecordLists.{Entry, unused_item_walk}
+use Rattle.shelf_records.specs.declared.records.LinkedItem.{LinkedItem}
+use Rattle.shelf_records.specs.declared.records.LinkedShelf.{LinkedShelf}
+use Rattle.shelf_records.specs.RecordLists.{Entry, unused_item_walk}
 use Rattle.shelf_model.specs.Space.{space_in}
 use Rattle.shelf_records.specs.AtlasRecords.{AtlasRecords, is_allocated_at, spelled_state, state_spelled, walked_entries}
 use Rattle.shelf_records.specs.Private.Judging.{AreOwn, AreUsed, atlas_of_records}

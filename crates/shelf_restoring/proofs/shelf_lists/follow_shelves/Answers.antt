@@ -2,8 +2,8 @@ use Rattle.std.proofs.Common.{◌≡◌, ℕ, ◌+◌, List, append-nil, arith, 
 use Rattle.etagere_links.specs.Links.{bits_of, link_of}
 use Rattle.etagere_links.specs.Marks.{IsMarkedBy}
 use Rattle.etagere_links.specs.Lists.{HasEachOnce}
-use Rattle.shelf_links.specs.RecordLists.{shelf_walk, unused_shelf_walk}
-use Rattle.shelf_links.specs.Records.{shelf_chain}
+use Rattle.shelf_records.specs.RecordLists.{shelf_walk, unused_shelf_walk}
+use Rattle.shelf_records.specs.Records.{shelf_chain}
 use Rattle.etagere_links.specs.Walks.{Walked}
 use Rattle.shelf_records.specs.AtlasRecords.{AtlasRecords}
 use Rattle.shelf_records.specs.Snapshots.{IsBroken}

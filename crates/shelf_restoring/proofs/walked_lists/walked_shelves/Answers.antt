@@ -2,7 +2,7 @@
 use Rattle.std.proofs.Common.{◌≡◌, ℕ, ◌+◌, ◌<◌, ◌≤◌, List, length, get_or, subst, sym, ap, refl, arith, ◌∙◌, [], ◌∷◌, ◌++◌, drop, map, take}
 use Rattle.std.proofs.lemmas.List.{drop-drop, drop_at, drop_more, get_or-map, length-append, length-drop}
 use Rattle.std.proofs.Math.Seq.{take-append_seam}
-use Rattle.shelf_links.specs.RecordLists.{Entry, Records, free_walk, item_numbers, item_walk, walked_entry}
+use Rattle.shelf_records.specs.RecordLists.{Entry, Records, free_walk, item_numbers, item_walk, walked_entry}
 use Rattle.shelf_records.specs.Private.Restoring.{chain_entry, free_numbers, frees_met, items_met}
 use Rattle.shelf_restoring.proofs.Loaded.ChainsWalked.{images-next}
 use Rattle.shelf_restoring.proofs.walked_lists.walked_shelves.Goals as goal

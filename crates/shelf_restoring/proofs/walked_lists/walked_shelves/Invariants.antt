@@ -1,5 +1,5 @@
 use Rattle.std.proofs.Common.{◌≡◌, ◌≤◌, drop, length, map, take, vec_capacity}
-use Rattle.shelf_links.specs.RecordLists.{item_numbers, walked_entry}
+use Rattle.shelf_records.specs.RecordLists.{item_numbers, walked_entry}
 use Rattle.shelf_records.specs.Private.Restoring.{chain_entry, free_numbers}
 use Rattle.shelf_restoring.proofs.walked_lists.walked_shelves.Given as goal
 

@@ -1,6 +1,6 @@
 use Rattle.std.proofs.Common.{map}
-use Rattle.shelf_links.specs.RecordLists.{shelf_walk}
-use Rattle.shelf_links.specs.Records.{shelf_chain}
+use Rattle.shelf_records.specs.RecordLists.{shelf_walk}
+use Rattle.shelf_records.specs.Records.{shelf_chain}
 use Rattle.shelf_store.specs.Private.Searching.{lowest, offered}
 use Rattle.shelf_store.proofs.Searched.PassedWalks.{Passes}
 use Rattle.shelf_store.proofs.asking.first_of_least_rank.Given as goal

@@ -1,7 +1,7 @@
 use Rattle.std.proofs.Common.{length, ap, arith, refl, ◌∙◌}
 use Rattle.etagere_links.specs.Edits.{link_at}
-use Rattle.shelf_links.specs.RecordLists.{shelf_walk}
-use Rattle.shelf_links.specs.Records.{shelf_chain}
+use Rattle.shelf_records.specs.RecordLists.{shelf_walk}
+use Rattle.shelf_records.specs.Records.{shelf_chain}
 use Rattle.shelf_model.specs.Widest.{greatest}
 use Rattle.shelf_store.specs.Private.Asking.{widest_at}
 use Rattle.shelf_store.proofs.Searched.LinkedParts.{shelves-left}

@@ -1,5 +1,5 @@
-use Rattle.shelf_links.specs.RecordLists.{shelf_walk}
-use Rattle.shelf_links.specs.Records.{shelf_chain}
+use Rattle.shelf_records.specs.RecordLists.{shelf_walk}
+use Rattle.shelf_records.specs.Records.{shelf_chain}
 use Rattle.shelf_model.specs.Widest.{greatest}
 use Rattle.shelf_store.specs.Private.Asking.{widest_at}
 use Rattle.shelf_store.proofs.Searched.PassedWalks.{Passes}

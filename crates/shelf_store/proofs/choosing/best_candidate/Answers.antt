@@ -2,7 +2,7 @@ use Rattle.std.proofs.Common.{◌≤◌, ◌<◌, List, Some, ap, arith, drop, l
 use Rattle.std.proofs.lemmas.List.{length-map}
 use Rattle.std.specs.List.{AllByRecursion}
 use Rattle.std.specs.Option.{option_map_or}
-use Rattle.shelf_links.specs.declared.records.LinkedShelf.{LinkedShelf}
+use Rattle.shelf_records.specs.declared.records.LinkedShelf.{LinkedShelf}
 use Rattle.shelf_heights.specs.Private.ByHeight.{IsStart, order_at, order_of, numbers_by_height}
 use Rattle.shelf_heights.specs.Private.ListFields.{ListByHeight}
 use Rattle.shelf_store.specs.Private.Searching.{AreTooTall, earliest, first_by_height, offered}

@@ -1,6 +1,6 @@
 use Rattle.std.proofs.Common.{◌≡◌, None, refl, length, get_or, ap, sym, ◌∙◌, arith}
-use Rattle.shelf_links.specs.RecordLists.{first_free_of}
-use Rattle.shelf_links.specs.declared.records.LinkedShelf.{LinkedShelf}
+use Rattle.shelf_records.specs.RecordLists.{first_free_of}
+use Rattle.shelf_records.specs.declared.records.LinkedShelf.{LinkedShelf}
 use Rattle.shelf_records.proofs.Recorded.RecordsOfIds.{field_at-read}
 use Rattle.shelf_store.proofs.Searched.SearchSteps.{free-begins, free-ends, free-found, free-here, free-nearer, free-passed}
 use Rattle.shelf_store.proofs.choosing.search_free_list.Goals as goal

@@ -1,4 +1,4 @@
-use Rattle.shelf_links.specs.RecordLists.{free_walk}
+use Rattle.shelf_records.specs.RecordLists.{free_walk}
 use Rattle.shelf_store.proofs.Searched.Following.{count_from}
 use Rattle.shelf_store.proofs.Searched.SearchSteps.{SearchesFree}
 use Rattle.shelf_store.proofs.choosing.search_free_list.Given as goal

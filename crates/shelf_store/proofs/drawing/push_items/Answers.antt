@@ -4,8 +4,8 @@ use Rattle.pictures.specs.Gathering.{GathersMore, SendsBeginning}
 use Rattle.etagere_base.specs.declared.drawing.Drawn.{Drawn}
 use Rattle.pictures.proofs.GatheringLemmas.{on-err}
 use Rattle.etagere_links.specs.Edits.{link_at}
-use Rattle.shelf_links.specs.RecordLists.{first_item_of, item_walk}
-use Rattle.shelf_links.specs.Records.{item_chain}
+use Rattle.shelf_records.specs.RecordLists.{first_item_of, item_walk}
+use Rattle.shelf_records.specs.Records.{item_chain}
 use Rattle.shelf_store.specs.Private.DrawnRecords.{item_line}
 use Rattle.shelf_store.proofs.Recorded.DrawnWalks.{walk-begins, walk-begun, walk-ends, walk-out, walk-passed}
 use Rattle.shelf_store.proofs.Searched.LinkedParts.{items-left}

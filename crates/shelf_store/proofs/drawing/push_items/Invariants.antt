@@ -1,5 +1,5 @@
-use Rattle.shelf_links.specs.Records.{item_chain}
-use Rattle.shelf_links.specs.RecordLists.{item_walk}
+use Rattle.shelf_records.specs.Records.{item_chain}
+use Rattle.shelf_records.specs.RecordLists.{item_walk}
 use Rattle.shelf_store.specs.Private.DrawnRecords.{item_line}
 use Rattle.shelf_store.proofs.Recorded.DrawnWalks.{DrawsAlong}
 use Rattle.shelf_store.proofs.drawing.push_items.Given as goal

@@ -2,8 +2,8 @@ use Rattle.std.proofs.Common.{ap, arith, length, subst, ◌∙◌}
 use Rattle.pictures.proofs.GatheringLemmas.{on-err}
 use Rattle.pictures.specs.Gathering.{GathersMore, SendsBeginning}
 use Rattle.etagere_links.specs.Edits.{link_at}
-use Rattle.shelf_links.specs.RecordLists.{shelf_walk}
-use Rattle.shelf_links.specs.Records.{shelf_chain}
+use Rattle.shelf_records.specs.RecordLists.{shelf_walk}
+use Rattle.shelf_records.specs.Records.{shelf_chain}
 use Rattle.shelf_store.specs.Private.DrawnRecords.{shelf_lines}
 use Rattle.shelf_store.proofs.Recorded.DrawnLines.{kept-lines}
 use Rattle.shelf_store.proofs.Recorded.DrawnWalks.{walk-begins, walk-begun, walk-ends, walk-here, walk-out, walk-passed}

@@ -1,5 +1,5 @@
-use Rattle.shelf_links.specs.Records.{shelf_chain}
-use Rattle.shelf_links.specs.RecordLists.{shelf_walk}
+use Rattle.shelf_records.specs.Records.{shelf_chain}
+use Rattle.shelf_records.specs.RecordLists.{shelf_walk}
 use Rattle.shelf_store.specs.Private.DrawnRecords.{shelf_lines}
 use Rattle.shelf_store.proofs.Recorded.DrawnWalks.{DrawsAlong}
 use Rattle.shelf_store.proofs.drawing.push_shelves.Given as goal

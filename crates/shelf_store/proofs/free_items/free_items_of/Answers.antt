@@ -1,7 +1,7 @@
 use Rattle.std.proofs.Common.{length, ap, arith, refl, ◌∙◌}
 use Rattle.etagere_links.specs.Edits.{link_at}
-use Rattle.shelf_links.specs.RecordLists.{first_free_of, free_walk}
-use Rattle.shelf_links.specs.Records.{free_list}
+use Rattle.shelf_records.specs.RecordLists.{first_free_of, free_walk}
+use Rattle.shelf_records.specs.Records.{free_list}
 use Rattle.shelf_records.specs.AtlasRecords.{width_of}
 use Rattle.shelf_store.specs.Private.Asking.{free_items_at}
 use Rattle.shelf_store.specs.declared.free_items.FreeItems.{FreeItems}

@@ -1,5 +1,5 @@
-use Rattle.shelf_links.specs.RecordLists.{free_walk}
-use Rattle.shelf_links.specs.Records.{free_list}
+use Rattle.shelf_records.specs.RecordLists.{free_walk}
+use Rattle.shelf_records.specs.Records.{free_list}
 use Rattle.shelf_store.specs.Private.Asking.{free_items_at}
 use Rattle.shelf_store.proofs.Searched.PassedWalks.{Passes}
 use Rattle.shelf_store.proofs.free_items.free_items_of.Given as goal

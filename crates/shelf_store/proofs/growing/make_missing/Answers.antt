@@ -1,6 +1,6 @@
 use Rattle.std.proofs.Common.{arith}
-use Rattle.shelf_links.specs.Records.{item_chain, shelf_chain}
-use Rattle.shelf_links.proofs.MissingRecords.{missing-le}
+use Rattle.shelf_records.specs.Records.{item_chain, shelf_chain}
+use Rattle.shelf_records.proofs.MissingRecords.{missing-le}
 use Rattle.shelf_store.proofs.growing.make_missing.Goals as goal
 
 pub returns-in_err-make_records-clause-some : goal.returns-in_err-make_records-clause-some

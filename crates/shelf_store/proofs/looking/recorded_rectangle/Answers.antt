@@ -1,6 +1,6 @@
 use Rattle.std.proofs.Common.{◌≡◌, ◌<◌, length, get_or, ap, sym, ◌∙◌, arith}
 use Rattle.etagere_base.specs.Places.{rectangle_at}
-use Rattle.shelf_links.specs.declared.records.LinkedItem.{LinkedItem}
+use Rattle.shelf_records.specs.declared.records.LinkedItem.{LinkedItem}
 use Rattle.shelf_records.specs.AtlasRecords.{shelf_of}
 use Rattle.shelf_records.proofs.Recorded.RecordsOfIds.{field_at-read, kept-shelf, marked-within, rectangle-read}
 use Rattle.shelf_store.proofs.looking.recorded_rectangle.Goals as goal

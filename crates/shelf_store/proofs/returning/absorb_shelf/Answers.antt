@@ -2,8 +2,8 @@ use Rattle.std.proofs.Common.{◌≡◌, ◌+◌, ◌<◌, Some, length, refl, a
 use Rattle.etagere_base.specs.Lists.{times}
 use Rattle.shelf_heights.specs.Private.ByHeight.{AreInOrder, numbers_by_height, taken_out}
 use Rattle.etagere_links.specs.Neighbours.{HasNeighbours}
-use Rattle.shelf_links.specs.RecordLists.{first_item_of}
-use Rattle.shelf_links.specs.Records.{shelf_chain}
+use Rattle.shelf_records.specs.RecordLists.{first_item_of}
+use Rattle.shelf_records.specs.Records.{shelf_chain}
 use Rattle.shelf_heights.proofs.ByHeight.Edited.{in_order-taken_out}
 use Rattle.shelf_store.proofs.ByHeight.MergedByHeight.{absorbed-order, merging-pair, still-there}
 use Rattle.shelf_store.proofs.returning.absorb_shelf.Goals as goal

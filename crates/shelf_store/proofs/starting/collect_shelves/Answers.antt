@@ -1,6 +1,6 @@
 use Rattle.std.proofs.Common.{◌∙◌, ◌∷◌, ◌++◌, [], ap, arith}
 use Rattle.etagere_links.specs.Edits.{link_at}
-use Rattle.shelf_links.specs.Records.{shelf_chain}
+use Rattle.shelf_records.specs.Records.{shelf_chain}
 use Rattle.shelf_store.proofs.ByHeight.CollectedShelves.{collects-begin, collects-end, collects-fewer, collects-here, collects-more}
 use Rattle.shelf_records.proofs.Spelled.StandsKept.{witnesses}
 use Rattle.shelf_store.proofs.starting.collect_shelves.Goals as goal

@@ -1,5 +1,5 @@
 use Rattle.std.proofs.Common.{◌≤◌, length}
-use Rattle.shelf_links.specs.RecordLists.{shelf_walk}
+use Rattle.shelf_records.specs.RecordLists.{shelf_walk}
 use Rattle.shelf_store.proofs.ByHeight.CollectedShelves.{Collects}
 use Rattle.shelf_store.proofs.starting.collect_shelves.Given as goal
 

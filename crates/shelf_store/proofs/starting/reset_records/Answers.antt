@@ -1,8 +1,8 @@
 use Rattle.std.proofs.Common.{◌≡◌, ◌<◌, ◌∙◌, Some, ap, add-one, arith, length}
-use Rattle.shelf_links.specs.declared.records.LinkedItem.{LinkedItem}
-use Rattle.shelf_links.specs.declared.records.LinkedShelf.{LinkedShelf}
+use Rattle.shelf_records.specs.declared.records.LinkedItem.{LinkedItem}
+use Rattle.shelf_records.specs.declared.records.LinkedShelf.{LinkedShelf}
 use Rattle.etagere_links.specs.Edits.{changed_at}
-use Rattle.shelf_links.specs.RecordLists.{Records}
+use Rattle.shelf_records.specs.RecordLists.{Records}
 use Rattle.etagere_links.proofs.RecordChanges.{length-changed_by}
 use Rattle.shelf_store.specs.Private.FreshRecords.{fresh_item, fresh_shelf}
 use Rattle.shelf_store.proofs.Spelled.NumberedLists.{numbered-written}

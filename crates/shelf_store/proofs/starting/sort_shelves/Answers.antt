@@ -1,6 +1,6 @@
 use Rattle.std.proofs.Common.{List, ap, map, subst, ◌∙◌}
 use Rattle.std.specs.List.Sorted.{IsNonDecreasingBy, IsPermutation}
-use Rattle.shelf_links.specs.declared.records.LinkedShelf.{LinkedShelf}
+use Rattle.shelf_records.specs.declared.records.LinkedShelf.{LinkedShelf}
 use Rattle.shelf_heights.specs.Private.ByHeight.{order_of, numbers_by_height}
 use Rattle.shelf_heights.specs.declared.by_height.BoundedShelf.{BoundedShelf}
 use Rattle.shelf_store.proofs.ByHeight.NewByHeight.{sorted-by_height}

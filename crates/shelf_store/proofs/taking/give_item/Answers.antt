@@ -2,10 +2,10 @@ use Rattle.std.proofs.Common.{ℕ, ◌<◌, Option, Some, length, ap, subst}
 use Rattle.std.specs.Prelude.{IfSome}
 use Rattle.etagere_links.specs.Neighbours.{HasNeighbours}
 use Rattle.etagere_links.proofs.RecordChanges.{length-changed_by}
-use Rattle.shelf_links.specs.declared.records.LinkedItem.{LinkedItem}
-use Rattle.shelf_links.specs.RecordLists.{Records}
-use Rattle.shelf_links.specs.Records.{free_list, item_chain}
-use Rattle.shelf_links.proofs.NeighbourFrames.{neighbours-changed}
+use Rattle.shelf_records.specs.declared.records.LinkedItem.{LinkedItem}
+use Rattle.shelf_records.specs.RecordLists.{Records}
+use Rattle.shelf_records.specs.Records.{free_list, item_chain}
+use Rattle.shelf_records.proofs.NeighbourFrames.{neighbours-changed}
 use Rattle.shelf_model.specs.Choice.{Placement}
 use Rattle.shelf_store.specs.Private.PlacementTaken.{item_record, rest_item, with_rest_written}
 use Rattle.shelf_store.proofs.taking.give_item.Goals as goal

@@ -1,7 +1,7 @@
 use Rattle.std.proofs.Common.{◌≡◌, ℕ, ◌+◌, ◌≤◌, Option, ap, arith, length, rules, sym, if◌then◌else◌}
-use Rattle.shelf_links.specs.RecordLists.{Records}
-use Rattle.shelf_links.specs.RecordUses.{missing, rests_of}
-use Rattle.shelf_links.specs.Records.{shelf_chain}
+use Rattle.shelf_records.specs.RecordLists.{Records}
+use Rattle.shelf_records.specs.RecordUses.{missing, rests_of}
+use Rattle.shelf_records.specs.Records.{shelf_chain}
 use Rattle.shelf_model.specs.Choice.{Placement}
 use Rattle.shelf_store.specs.Private.PlacementTaken.{placement_taken, shelf_split_for, with_item_given}
 use Rattle.shelf_store.proofs.ByHeight.RoomByHeight.{taken-count}

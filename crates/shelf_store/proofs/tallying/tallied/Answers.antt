@@ -1,8 +1,8 @@
 use Rattle.std.proofs.Common.{◌≤◌, length, ap, arith, refl, ◌∙◌}
 use Rattle.etagere_base.specs.Lists.{total}
 use Rattle.etagere_links.specs.Edits.{link_at}
-use Rattle.shelf_links.specs.RecordLists.{shelf_walk}
-use Rattle.shelf_links.specs.Records.{shelf_chain}
+use Rattle.shelf_records.specs.RecordLists.{shelf_walk}
+use Rattle.shelf_records.specs.Records.{shelf_chain}
 use Rattle.shelf_records.specs.AtlasRecords.{is_empty_at}
 use Rattle.shelf_store.specs.Private.Asking.{free_of, tally_of, tally_with}
 use Rattle.shelf_store.specs.declared.tallying.Tally.{Tally}

@@ -1,5 +1,5 @@
-use Rattle.shelf_links.specs.RecordLists.{shelf_walk}
-use Rattle.shelf_links.specs.Records.{shelf_chain}
+use Rattle.shelf_records.specs.RecordLists.{shelf_walk}
+use Rattle.shelf_records.specs.Records.{shelf_chain}
 use Rattle.shelf_store.specs.Private.Asking.{tally_of}
 use Rattle.shelf_store.proofs.Searched.PassedWalks.{Passes}
 use Rattle.shelf_store.proofs.tallying.tallied.Given as goal

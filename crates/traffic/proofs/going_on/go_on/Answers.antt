@@ -1,7 +1,7 @@
 use Rattle.std.proofs.Common.{◌≡◌, ℕ, ◌<◌, ◌++◌, [], ◌∷◌, length, arith, rules, subst}
 use Rattle.std.specs.Prelude.{vec_len}
-use Rattle.run_answers.specs.Private.Tables.{entries_of}
-use Rattle.run_answers.specs.Private.Tied.{IsAnswerOf}
+use Rattle.etagere_run.specs.Answers.Private.Tables.{entries_of}
+use Rattle.etagere_run.specs.Answers.Private.Tied.{IsAnswerOf}
 use Rattle.traffic.specs.GoingOn.{with_finding}
 use Rattle.traffic.proofs.Going.{going-more}
 use Rattle.traffic.proofs.going_on.go_on.Goals as goal

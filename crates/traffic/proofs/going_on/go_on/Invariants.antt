@@ -1,6 +1,6 @@
 use Rattle.std.proofs.Common.{◌≡◌, ◌+◌, ◌≤◌, length, take}
 use Rattle.std.specs.Prelude.{vec_capacity, vec_len}
-use Rattle.run_answers.specs.Private.Tables.{entries_of}
+use Rattle.etagere_run.specs.Answers.Private.Tables.{entries_of}
 use Rattle.traffic.proofs.Going.{IsGoing}
 use Rattle.traffic.proofs.going_on.go_on.Given as goal
 

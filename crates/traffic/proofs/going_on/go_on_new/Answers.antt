@@ -1,8 +1,8 @@
 use Rattle.std.proofs.Common.{◌≡◌, List, ap, rules, subst, sym, ◌∙◌}
 use Rattle.std.specs.Prelude.{vec_len}
-use Rattle.run_answers.specs.Live.{Entry}
-use Rattle.run_answers.specs.Private.Tables.{entries_of}
-use Rattle.run_answers.specs.Private.Tied.{IsNew}
+use Rattle.etagere_run.specs.Answers.Live.{Entry}
+use Rattle.etagere_run.specs.Answers.Private.Tables.{entries_of}
+use Rattle.etagere_run.specs.Answers.Private.Tied.{IsNew}
 use Rattle.traffic.proofs.Starting.{starting, starting-live}
 use Rattle.traffic.proofs.going_on.go_on_new.Goals as goal
 

@@ -1,5 +1,5 @@
-use Rattle.run_answers.specs.AtlasRuns.{shelf_atlas}
-use Rattle.run_answers.specs.BucketedRuns.{bucketed_atlas}
+use Rattle.etagere_run.specs.Answers.AtlasRuns.{shelf_atlas}
+use Rattle.etagere_run.specs.Answers.BucketedRuns.{bucketed_atlas}
 use Rattle.traffic.proofs.Cutting.{cut_anywhere}
 use Rattle.traffic.proofs.laws.a_run_is_cut_anywhere.Goals as goal
 

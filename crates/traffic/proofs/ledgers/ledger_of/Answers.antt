@@ -1,7 +1,7 @@
 use Rattle.std.proofs.Common.{◌<◌, Some, List, length, arith, ap, ◌∙◌}
-use Rattle.run_answers.specs.Live.{Entry}
-use Rattle.run_answers.specs.Private.Given.{with_entry}
-use Rattle.run_answers.specs.Private.Tables.{entries_of}
+use Rattle.etagere_run.specs.Answers.Live.{Entry}
+use Rattle.etagere_run.specs.Answers.Private.Given.{with_entry}
+use Rattle.etagere_run.specs.Answers.Private.Tables.{entries_of}
 use Rattle.traffic.proofs.FirstEntries.{entries-more}
 use Rattle.traffic.proofs.ledgers.ledger_of.Goals as goal
 

@@ -1,6 +1,6 @@
 use Rattle.std.proofs.Common.{◌≡◌, ◌+◌, ◌≤◌, length, take}
 use Rattle.std.specs.Prelude.{vec_capacity, vec_len}
-use Rattle.run_answers.specs.Private.Tables.{entries_of}
+use Rattle.etagere_run.specs.Answers.Private.Tables.{entries_of}
 use Rattle.traffic.specs.Ledgers.{entries_from}
 use Rattle.traffic.proofs.ledgers.ledger_of.Given as goal
 

@@ -1,7 +1,7 @@
 use Rattle.std.proofs.Common.{List, rules, subst}
 use Rattle.std.specs.Prelude.{All}
 use Rattle.run_scripts.specs.declared.commands.Reply.{Reply}
-use Rattle.run_answers.specs.Leading.{HasMemory}
+use Rattle.etagere_run.specs.Answers.Leading.{HasMemory}
 use Rattle.traffic.proofs.refusals.explain.Goals as goal
 
 pub returns-clause-told : goal.returns-clause-told

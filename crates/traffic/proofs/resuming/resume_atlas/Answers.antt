@@ -5,8 +5,8 @@ use Rattle.shelf_model.specs.Callers.{AreTied}
 use Rattle.shelf_model.specs.Places.{allocations}
 use Rattle.shelf_records.specs.Snapshots.{snapshot_records}
 use Rattle.shelf_records.specs.StandsFor.{StandsFor}
-use Rattle.run_answers.specs.Live.{Entry, live_allocations}
-use Rattle.run_answers.specs.Private.Tables.{entries_of}
+use Rattle.etagere_run.specs.Answers.Live.{Entry, live_allocations}
+use Rattle.etagere_run.specs.Answers.Private.Tables.{entries_of}
 use Rattle.traffic.specs.Ledgers.{entries_from}
 use Rattle.traffic.specs.Refusals.{atlas_told}
 use Rattle.traffic.proofs.FirstEntries.{live-first}

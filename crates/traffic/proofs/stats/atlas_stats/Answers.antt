@@ -1,8 +1,8 @@
 use Rattle.std.proofs.Common.{List, [], ap, rules, ◌∙◌}
 use Rattle.etagere_base.specs.Frames.{atlas_frame}
 use Rattle.shelf_model.specs.Fresh.{fresh}
-use Rattle.run_answers.specs.AtlasRuns.{shelf_atlas}
-use Rattle.run_answers.specs.Live.{Entry}
+use Rattle.etagere_run.specs.Answers.AtlasRuns.{shelf_atlas}
+use Rattle.etagere_run.specs.Answers.Live.{Entry}
 use Rattle.traffic.specs.Refusals.{atlas_told}
 use Rattle.traffic.specs.Tallies.{asked_space, atlas_asked}
 use Rattle.traffic.proofs.Starting.{going-runs}

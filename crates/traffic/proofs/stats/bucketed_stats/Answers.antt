@@ -1,8 +1,8 @@
 use Rattle.std.proofs.Common.{List, [], ap, rules, ◌∙◌}
 use Rattle.bucketed_model.specs.Frames.{bucketed_frame}
 use Rattle.bucketed_model.specs.State.{fresh}
-use Rattle.run_answers.specs.BucketedRuns.{bucketed_atlas}
-use Rattle.run_answers.specs.Live.{Entry}
+use Rattle.etagere_run.specs.Answers.BucketedRuns.{bucketed_atlas}
+use Rattle.etagere_run.specs.Answers.Live.{Entry}
 use Rattle.traffic.specs.Refusals.{bucketed_told}
 use Rattle.traffic.specs.Tallies.{asked_space, bucketed_asked}
 use Rattle.traffic.proofs.Starting.{going-runs}

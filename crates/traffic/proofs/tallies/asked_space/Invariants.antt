@@ -1,5 +1,5 @@
 use Rattle.std.proofs.Common.{◌≡◌, ◌+◌, ◌*◌, ◌^◌, ◌≤◌, drop}
-use Rattle.run_answers.specs.Private.Tables.{entries_of}
+use Rattle.etagere_run.specs.Answers.Private.Tables.{entries_of}
 use Rattle.traffic.specs.Tallies as spec
 use Rattle.traffic.proofs.tallies.asked_space.Given as goal
 

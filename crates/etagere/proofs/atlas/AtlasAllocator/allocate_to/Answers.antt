@@ -2,7 +2,7 @@ use Rattle.std.specs.Prelude.{◌≡◌, OnErr, Result, Ok, Err, Some}
 use Rattle.std.proofs.Common.{List, ap, sym, subst, arith, ◌∙◌}
 use Rattle.etagere_base.specs.Rectangles.{IsLarge}
 use Rattle.etagere_base.specs.declared.ids.Allocation.{Allocation}
-use Rattle.shelf_links.specs.RecordLists.{Records}
+use Rattle.shelf_records.specs.RecordLists.{Records}
 use Rattle.shelf_model.specs.Atlas.{Adds, Allocates, KeepsPromises, NeedsSplit}
 use Rattle.shelf_model.specs.Choice.{Placement}
 use Rattle.shelf_model.specs.ById.{IsClear, KeepsRectangles}

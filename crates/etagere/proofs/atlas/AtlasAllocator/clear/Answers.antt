@@ -1,5 +1,5 @@
 use Rattle.std.proofs.Common.{◌≡◌, ap, arith, length, sym, subst, ◌∙◌}
-use Rattle.shelf_links.specs.RecordLists.{Records}
+use Rattle.shelf_records.specs.RecordLists.{Records}
 use Rattle.shelf_model.specs.Atlas.{KeepsPromises}
 use Rattle.shelf_model.specs.Fresh.{fresh}
 use Rattle.shelf_model.specs.Places.{allocations}

@@ -2,7 +2,7 @@ use Rattle.std.proofs.Common.{◌≡◌, ◌-◌, ◌≤◌, None, Option, Some,
 use Rattle.std.specs.Prelude.{Err, IfSome, Ok, OnErr, OnOk, Result, is_err}
 use Rattle.etagere_base.specs.declared.frames.Frame.{Frame}
 use Rattle.etagere_base.specs.declared.geometry.Size.{Size}
-use Rattle.shelf_links.specs.RecordLists.{Records}
+use Rattle.shelf_records.specs.RecordLists.{Records}
 use Rattle.etagere.specs.declared.atlas.AtlasAllocator.TheInside.{Inside}
 use Rattle.shelf_store.specs.declared.growing.Needed.{Needed}
 use Rattle.shelf_model.specs.Atlas.{KeepsPromises}

@@ -1,7 +1,7 @@
 use Rattle.std.proofs.Common.{◌≡◌, Some, sym, ◌∙◌}
 use Rattle.lru.specs.LruCache.{last_entry}
 use Rattle.glyph_shelf.specs.Private.Kept.{kept_state}
-use Rattle.used_keys.proofs.Entries.{last-among}
+use Rattle.glyph_shelf.proofs.UsedKeys.Entries.{last-among}
 use Rattle.glyph_shelf.proofs.Keeping.{keeps-last_returned, kept-allocated}
 use Rattle.glyph_shelf.proofs.kept.Kept.drop_last.Goals as goal
 

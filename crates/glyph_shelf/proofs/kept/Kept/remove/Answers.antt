@@ -1,7 +1,7 @@
 use Rattle.std.proofs.Common.{◌≡◌, Some, None, nat_eq, sym, ◌∙◌}
 use Rattle.std.specs.Map.{lookup}
 use Rattle.glyph_shelf.specs.Private.Kept.{kept_state}
-use Rattle.used_keys.proofs.Entries.{found-among}
+use Rattle.glyph_shelf.proofs.UsedKeys.Entries.{found-among}
 use Rattle.glyph_shelf.proofs.FrameUses.{gone-known, gone-unknown}
 use Rattle.glyph_shelf.proofs.Keeping.{keeps-key_returned, kept-allocated, without_key-unknown}
 use Rattle.glyph_shelf.proofs.kept.Kept.remove.Goals as goal

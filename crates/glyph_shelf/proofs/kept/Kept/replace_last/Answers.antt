@@ -5,9 +5,9 @@ use Rattle.lru.specs.LruCache.{last_entry}
 use Rattle.etagere_base.specs.declared.ids.Allocation.{Allocation}
 use Rattle.shelf_model.specs.Atlas.{Allocates}
 use Rattle.shelf_model.specs.State.{AtlasState}
-use Rattle.used_keys.specs.Keys as keys
-use Rattle.used_keys.specs.Keys.{KeysState, uses_left}
-use Rattle.used_keys.proofs.Entries.{last-among, unknown-take}
+use Rattle.glyph_shelf.specs.UsedKeys.Keys as keys
+use Rattle.glyph_shelf.specs.UsedKeys.Keys.{KeysState, uses_left}
+use Rattle.glyph_shelf.proofs.UsedKeys.Entries.{last-among, unknown-take}
 use Rattle.glyph_shelf.specs.Cache.{CacheState, without_last}
 use Rattle.glyph_shelf.specs.Placing.{SameLayout}
 use Rattle.glyph_shelf.specs.Private.Kept.{kept_state}

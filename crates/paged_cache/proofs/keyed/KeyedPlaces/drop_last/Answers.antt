@@ -1,6 +1,6 @@
 use Rattle.std.proofs.Common.{◌≡◌, Some, sym, ◌∙◌}
 use Rattle.lru.specs.LruCache.{last_entry}
-use Rattle.used_keys.proofs.Entries.{last-among}
+use Rattle.glyph_shelf.proofs.UsedKeys.Entries.{last-among}
 use Rattle.paged_cache.proofs.Keeping.{held-one, keeps-last, keyed}
 use Rattle.paged_cache.proofs.keyed.KeyedPlaces.drop_last.Goals as goal
 

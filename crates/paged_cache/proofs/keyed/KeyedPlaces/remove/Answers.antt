@@ -1,6 +1,6 @@
 use Rattle.std.proofs.Common.{◌≡◌, Some, None, nat_eq, sym, ◌∙◌}
 use Rattle.std.specs.Map.{lookup}
-use Rattle.used_keys.proofs.Entries.{found-among, removed-unknown}
+use Rattle.glyph_shelf.proofs.UsedKeys.Entries.{found-among, removed-unknown}
 use Rattle.paged_cache.proofs.Keeping.{held-one, keeps-key, keyed, without_key-unknown}
 use Rattle.paged_cache.proofs.keyed.KeyedPlaces.remove.Goals as goal
 

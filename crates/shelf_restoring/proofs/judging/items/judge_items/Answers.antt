@@ -2,7 +2,7 @@
 use Rattle.std.proofs.Common.{◌≡◌, ◌+◌, ℕ, Bool, false, not, ◌&&◌, List, ◌∷◌, None, Some, drop, get_or, length, map, ap, arith, subst, sym, ◌∙◌}
 use Rattle.std.proofs.lemmas.List.{drop_more}
 use Rattle.etagere_links.specs.Edits.{link_at}
-use Rattle.shelf_links.specs.Records.{item_chain}
+use Rattle.shelf_records.specs.Records.{item_chain}
 use Rattle.shelf_model.specs.Space.{allocated_width}
 use Rattle.shelf_model.specs.State.{total_width}
 use Rattle.shelf_model.specs.Valid.{IsItem}

@@ -4,7 +4,7 @@ use Rattle.std.proofs.Math.Bool.{beq}
 use Rattle.std.specs.Prelude.{◌==◌, Decides}
 use Rattle.etagere_base.proofs.DecidingLemmas.{decides-both, decides-equal, decides-map, decides-no, decides-yes}
 use Rattle.etagere_base.specs.Lists.{NoNeighbours}
-use Rattle.shelf_links.specs.RecordLists.{Entry}
+use Rattle.shelf_records.specs.RecordLists.{Entry}
 use Rattle.shelf_model.specs.Merging.{both_free}
 use Rattle.shelf_model.specs.State as state
 use Rattle.shelf_records.specs.AtlasRecords.{along_of, is_empty_at, item_at}

@@ -5,7 +5,7 @@ use Rattle.std.specs.List.{AllByRecursion}
 use Rattle.std.specs.Prelude.{◌==◌, Decides}
 use Rattle.etagere_base.specs.Lists.{NoNeighbours}
 use Rattle.etagere_base.proofs.DecidingLemmas.{decides-both, decides-map, decides-yes, granted}
-use Rattle.shelf_links.specs.RecordLists.{Entry}
+use Rattle.shelf_records.specs.RecordLists.{Entry}
 use Rattle.shelf_model.specs.Merging.{both_free}
 use Rattle.shelf_model.specs.Space.{space_in}
 use Rattle.shelf_model.specs.State.{is_empty}

@@ -1,6 +1,6 @@
 use Rattle.std.proofs.Common.{◌≡◌, ◌+◌, ◌*◌, ◌%◌, ◌/◌, ◌≤◌, true, false, drop, length, map}
 use Rattle.std.specs.List.{AllByRecursion}
-use Rattle.shelf_links.specs.RecordLists.{Entry}
+use Rattle.shelf_records.specs.RecordLists.{Entry}
 use Rattle.shelf_model.specs.Space as space
 use Rattle.shelf_records.specs.AtlasRecords.{spelled_shelf}
 use Rattle.shelf_records.specs.Private.Judging.{atlas_of_records}

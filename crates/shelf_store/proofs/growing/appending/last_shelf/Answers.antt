@@ -1,6 +1,6 @@
 use Rattle.std.proofs.Common.{◌≡◌, ◌+◌, ◌-◌, Some, length, ap, sym, ◌∙◌, arith}
 use Rattle.etagere_links.specs.Edits.{link_at}
-use Rattle.shelf_links.specs.Records.{shelf_chain}
+use Rattle.shelf_records.specs.Records.{shelf_chain}
 use Rattle.shelf_store.proofs.Grown.GrowSteps.{last-next}
 use Rattle.shelf_store.proofs.growing.appending.last_shelf.Goals as goal
 

@@ -1,6 +1,6 @@
 use Rattle.std.proofs.Common.{◌≡◌, ℕ, ◌+◌, ◌-◌, Bool, cond, length, ap, ◌∙◌, arith}
 use Rattle.etagere_links.specs.Edits.{link_at}
-use Rattle.shelf_links.specs.Records.{shelf_chain}
+use Rattle.shelf_records.specs.Records.{shelf_chain}
 use Rattle.shelf_store.specs.Private.RecordsGrown as spec
 use Rattle.shelf_store.proofs.Grown.GrowSteps.{bit-le, counted-next}
 use Rattle.shelf_store.proofs.growing.counting.filled_ends.Goals as goal

@@ -1,6 +1,6 @@
 use Rattle.std.proofs.Common.{◌≡◌, ◌-◌, ◌<◌, Some, length}
 use Rattle.etagere_links.specs.Links.{no_link}
-use Rattle.shelf_links.specs.Records.{item_chain}
+use Rattle.shelf_records.specs.Records.{item_chain}
 use Rattle.shelf_store.specs.Private.RecordsGrown as spec
 use Rattle.shelf_store.proofs.growing.counting.last_item.Given as goal
 

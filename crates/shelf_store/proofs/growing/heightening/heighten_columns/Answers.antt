@@ -1,6 +1,6 @@
 use Rattle.std.proofs.Common.{◌≡◌, ◌+◌, ◌-◌, length, ap, ◌∙◌, arith}
 use Rattle.etagere_links.specs.Edits.{link_at}
-use Rattle.shelf_links.specs.Records.{shelf_chain}
+use Rattle.shelf_records.specs.Records.{shelf_chain}
 use Rattle.shelf_store.specs.Private.RecordsGrown as spec
 use Rattle.shelf_store.proofs.Grown.GrowSteps.{can-heighten, can-heighten-next, growing-is, heightened-next}
 use Rattle.shelf_store.proofs.growing.heightening.heighten_columns.Goals as goal

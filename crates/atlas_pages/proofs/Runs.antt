@@ -1,0 +1,3 @@
+pub mod PaddedRunsOn
+pub mod RunsOn
+pub mod StepsTold

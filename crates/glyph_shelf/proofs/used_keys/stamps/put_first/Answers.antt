@@ -1,0 +1,9 @@
+use Rattle.std.proofs.Common.{nat_eq, ap, ◌∙◌}
+use Rattle.lru.specs.LruCache.{lru_cache}
+use Rattle.glyph_shelf.proofs.UsedKeys.Entries.{put-new}
+use Rattle.glyph_shelf.proofs.used_keys.stamps.put_first.Goals as goal
+
+pub returns-clause-ok : goal.returns-clause-ok
+returns-clause-ok c =
+    c.in_ok-put.ensures.entries
+    ∙ ap (λ es. lru_cache es c.args.entries.now.cap) (put-new nat_eq c.args.entries.now c.args.key c.args.entry c.requires)

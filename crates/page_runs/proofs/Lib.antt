@@ -1,3 +1,0 @@
-mod PaddedRunsOn
-mod RunsOn
-pub mod StepsTold

@@ -1,9 +1,0 @@
--- Sizes that are packed at once.
-use Rattle.std.specs.Prelude.{List, map}
-use Rattle.etagere_base.specs.declared.geometry.Size.{Size}
-use Rattle.page_runs.specs.declared.commands.PageCommand.{PageCommand}
-use Rattle.page_runs.specs.declared.commands.PageCommand.TheVariants.{Allocate}
-
--- the commands that ask for sizes, one after another
-abbrev pub asked_for : List Size → List PageCommand
-asked_for sizes = map (λ (size : Size). Allocate size) sizes

@@ -1,8 +1,0 @@
-use Rattle.run_answers.proofs.AtlasAnswers.{cleared}
-use Rattle.run_answers.specs.Private.Tables.{entries_of}
-use Rattle.run_answers.proofs.atlas_running.clear.Goals as goal
-
-pub returns-clause-answer : goal.returns-clause-answer
-returns-clause-answer c position =
-    cleared position (entries_of c.args.ledger.now) (entries_of c.clear-2.new.self) c.args.atlas.now
-    c.clear.new.self c.clear.ensures.cleared c.clear.ensures.empty c.clear.ensures.promises c.clear-2.ensures.empty

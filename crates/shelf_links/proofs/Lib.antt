@@ -1,9 +1,0 @@
-pub mod AllLists
-pub mod Families
-pub mod FirstLinks
-mod FirstWrites
-pub mod MadeRecords
-pub mod NeighbourFrames
-pub mod MissingRecords
-pub mod UsedRecords
-mod RecordRows

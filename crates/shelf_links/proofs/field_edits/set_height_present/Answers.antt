@@ -1,7 +1,0 @@
-use Rattle.shelf_links.specs.declared.records.LinkedShelf.{LinkedShelf}
-use Rattle.etagere_links.proofs.EditLemmas.{set-changed}
-use Rattle.shelf_links.proofs.field_edits.set_height_present.Goals as goal
-
-pub returns : goal.returns
-returns c =
-    set-changed (λ (here : LinkedShelf). record here { height = c.args.height }) c.args.shelves.now c.args.shelf c.index-shelves-shelf.result c.requires

@@ -1,8 +1,0 @@
-mod BareEntries
-pub mod Entries
-pub mod KeyCounts
-mod StampLemmas
-mod StateLemmas
-pub mod ToFront
-mod Turning
-mod Uses

@@ -1,9 +1,0 @@
-use Rattle.std.proofs.Common.{nat_eq, ap, ◌∙◌}
-use Rattle.lru.specs.LruCache.{lru_cache}
-use Rattle.used_keys.proofs.Entries.{put-new}
-use Rattle.used_keys.proofs.stamps.put_first.Goals as goal
-
-pub returns-clause-ok : goal.returns-clause-ok
-returns-clause-ok c =
-    c.in_ok-put.ensures.entries
-    ∙ ap (λ es. lru_cache es c.args.entries.now.cap) (put-new nat_eq c.args.entries.now c.args.key c.args.entry c.requires)
