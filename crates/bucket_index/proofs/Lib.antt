@@ -1,5 +1,6 @@
 pub mod KnownBlocks
 pub mod KnownSpans
+pub mod LinkedRecords
 pub mod OtherShelves
 pub mod PassedShelves
 pub mod Searched

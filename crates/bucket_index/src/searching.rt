@@ -3,8 +3,9 @@
 //! Definitions: `Searching`, and `Picking` for what it means. No bucket is looked at of a shelf that one
 //! comparison tells has none that is wanted.
 
-ghost use Rattle.std.specs.Prelude.{◌≡◌, ◌+◌, ◌<◌, ◌≤◌, IfSome, IsTrue, length, map, max, take, drop};
+ghost use Rattle.std.specs.Prelude.{◌≡◌, ◌+◌, ◌<◌, ◌≤◌, IfSome, IsTrue, length, map, max, min, take, drop};
 ghost use Rattle.etagere_base.specs.Least.{first_least};
+ghost use Rattle.etagere_links.specs.Links.{no_link};
 ghost use Rattle.etagere_base.specs.Least as least;
 ghost use Rattle.bucketed_model.specs.Picking.{or_else};
 ghost use Rattle.bucketed_model.specs.State.{most_buckets};
@@ -99,17 +100,24 @@ pub fn first_wanted(
     first_by_links(wanted, buckets, first)
 }
 
+/// The number behind those of the records that links can name. The bits of a link to one of these are below it, and those
+/// of any other link are not.
+fn end_of_linked(buckets: &[LinkedBucket]) -> usize
+    ensures { result ≡ min (length buckets.now) no_link }
+{
+    buckets.len().min(usize::from(u16::MAX))
+}
+
 /// The same, link by link.
 fn first_by_links(wanted: Wanted, buckets: &[LinkedBucket], first: Link) -> Option<usize>
     ensures number { result ≡ spec.first_from most_buckets wanted buckets.now first }
     ensures within { IfSome result (λ number. number < length buckets.now) }
 {
+    let end = end_of_linked(buckets);
     let mut at = first;
     for _step in 0..MOST_BUCKETS {
-        let Some(number) = at.number() else {
-            return None;
-        };
-        if number >= buckets.len() {
+        let number = usize::from(at.bits());
+        if number >= end {
             return None;
         }
         let bucket = &buckets[number];
@@ -175,13 +183,12 @@ fn widest_by_links(buckets: &[LinkedBucket], first: Link, most: u16) -> u16
     requires most { spec.widest_from most_buckets buckets.now first ≤ most }
     ensures { result ≡ spec.widest_from most_buckets buckets.now first }
 {
+    let end = end_of_linked(buckets);
     let mut widest = 0;
     let mut at = first;
     for _step in 0..MOST_BUCKETS {
-        let Some(number) = at.number() else {
-            break;
-        };
-        if number >= buckets.len() {
+        let number = usize::from(at.bits());
+        if number >= end {
             break;
         }
         let bucket = &buckets[number];
@@ -233,12 +240,11 @@ const FEW_BUCKETS: u32 = 4;
 pub fn has_room(room: u16, buckets: &[LinkedBucket], first: Link) -> bool
     ensures { IsTrue result → room ≤ spec.widest_from most_buckets buckets.now first }
 {
+    let end = end_of_linked(buckets);
     let mut at = first;
     for _step in 0..FEW_BUCKETS {
-        let Some(number) = at.number() else {
-            return false;
-        };
-        if number >= buckets.len() {
+        let number = usize::from(at.bits());
+        if number >= end {
             return false;
         }
         let bucket = &buckets[number];
