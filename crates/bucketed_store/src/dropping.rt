@@ -89,6 +89,16 @@ fn make_row_unused(
     end.count
 }
 
+/// Whether there is a last shelf and it holds nothing live.
+pub(crate) fn ends_idle(shelves: &[KeptShelf]) -> bool
+    ensures { result ≡ spec.ends_idle shelves.now }
+{
+    match shelves.last() {
+        Some(last) => last.is_idle(),
+        None => false,
+    }
+}
+
 /// Drops the shelves at the end that hold nothing live, and answers how many buckets became unused.
 pub(crate) fn drop_idle_end(
     shelves: &mut Vec<KeptShelf>,

@@ -62,37 +62,27 @@ pub(crate) fn returned_area(shelves: &[KeptShelf], buckets: &[LinkedBucket], num
     u32::from(shelf.bucket_width - bucket.free_space) * u32::from(shelf.height)
 }
 
-/// A bucket after one of its items was returned, in a shelf whose buckets are this wide.
-fn returned_record(bucket: &LinkedBucket, width: u16) -> LinkedBucket
-    ensures { result ≡ spec.returned_record width bucket.now }
+/// Takes an item out of a bucket, in a shelf whose buckets are this wide.
+fn take_back(bucket: &mut LinkedBucket, width: u16)
+    ensures { bucket.new ≡ spec.returned_record width bucket.old }
 {
     if bucket.refcount > 1 {
-        return LinkedBucket {
-            refcount: bucket.refcount - 1,
-            ..*bucket
-        };
+        bucket.refcount -= 1;
+        return;
     }
-    LinkedBucket {
-        free_space: width,
-        refcount: 0,
-        item_count: 0,
-        generation: bucket.generation.wrapping_add(1),
-        ..*bucket
-    }
+    bucket.free_space = width;
+    bucket.refcount = 0;
+    bucket.item_count = 0;
+    bucket.generation = bucket.generation.wrapping_add(1);
 }
 
-/// What is kept of a shelf after one of its items was returned, which may have emptied a bucket.
-fn returned_kept(kept: &KeptShelf, empties: bool) -> KeptShelf
-    ensures { result ≡ spec.returned_kept empties kept.now }
+/// Counts one live item less in a shelf, which may have emptied a bucket.
+fn count_returned(kept: &mut KeptShelf, empties: bool)
+    ensures { kept.new ≡ spec.returned_kept empties kept.old }
 {
-    KeptShelf {
-        shelf: kept.shelf,
-        widest_room: if empties {
-            kept.shelf.bucket_width
-        } else {
-            kept.widest_room
-        },
-        live_items: kept.live_items.saturating_sub(1),
+    kept.live_items = kept.live_items.saturating_sub(1);
+    if empties {
+        kept.widest_room = kept.shelf.bucket_width;
     }
 }
 
@@ -108,9 +98,8 @@ pub(crate) fn return_item(shelves: &mut [KeptShelf], buckets: &mut [LinkedBucket
         (spec.returned_record (spec.width_of shelves.old (shelf_of buckets.old number)))
         buckets.old }
 {
-    let bucket = buckets[number];
-    let shelf = usize::from(bucket.shelf);
-    let kept = shelves[shelf];
-    shelves[shelf] = returned_kept(&kept, bucket.refcount <= 1);
-    buckets[number] = returned_record(&bucket, kept.shelf.bucket_width);
+    let bucket = &mut buckets[number];
+    let kept = &mut shelves[usize::from(bucket.shelf)];
+    count_returned(kept, bucket.refcount <= 1);
+    take_back(bucket, kept.shelf.bucket_width);
 }

@@ -20,7 +20,7 @@ ghost use Rattle.bucketed_store.specs.Private.Returns as returns;
 ghost use Rattle.bucketed_store.specs.Private.Placing as placing;
 ghost use Rattle.bucketed_store.specs.Private.StoreEdits as spec;
 
-use crate::dropping::{drop_idle_end, next_of};
+use crate::dropping::{drop_idle_end, ends_idle, next_of};
 use crate::growing::{left_after, widen_shelves};
 use crate::making::{NewBuckets, make_buckets, reserve_records};
 use crate::merging::{Group, merge};
@@ -325,6 +325,9 @@ impl Store {
         ensures { returns.dropping_from self.new result
             ≡ returns.end_dropped (length self.old.shelves) (returns.dropping_from self.old 0) }
     {
+        if !ends_idle(&self.shelves) {
+            return 0;
+        }
         drop_idle_end(
             &mut self.shelves,
             &mut self.buckets,

@@ -67,12 +67,17 @@ atlas-end inside consistent =
     ∙ ap (λ (n : ℕ). let sides : Sides = record { along = n; across = available_height inside.frame state.shelves } in sides) (sym consistent.totals.column)
     ∙ ap (λ (n : ℕ). let sides : Sides = record { along = inside.current_column; across = n } in sides) (sym consistent.totals.height)
 
+-- where as many shelves are left none was dropped
+pub none-dropped : (middle new : Stored) (dropped : ℕ) → dropping_from new dropped ≡ end_dropped (length middle.shelves) (dropping_from middle 0) → length new.shelves ≡ length middle.shelves
+    → dropping_from new dropped ≡ dropping_from middle 0
+none-dropped middle new dropped drops same =
+    drops ∙ (leaves-dropped (length middle.shelves) (dropping_from middle 0)).same (sym (ap (λ (d : Dropping). length d.stored.shelves) drops) ∙ same)
+
 -- a return that drops no shelf leaves it
 pub end-returned : (inside : Inside) (middle new : Stored) (number dropped : ℕ) → IsConsistent inside → middle ≡ item_returned number inside.store
     → dropping_from new dropped ≡ end_dropped (length middle.shelves) (dropping_from middle 0) → length new.shelves ≡ length middle.shelves → end_of inside.frame new.shelves ≡ end_in inside
 end-returned inside middle new number dropped consistent returned drops same =
-    let left : new.shelves ≡ (end_dropped (length middle.shelves) (dropping_from middle 0)).stored.shelves = ap (λ (d : Dropping). d.stored.shelves) drops in
-    let all : new.shelves ≡ middle.shelves = left ∙ (leaves-dropped (length middle.shelves) (dropping_from middle 0)).same (sym (ap length left) ∙ same) in
+    let all : new.shelves ≡ middle.shelves = ap (λ (d : Dropping). d.stored.shelves) (none-dropped middle new dropped drops same) in
     ap (end_of inside.frame) (all ∙ ap (λ (s : Stored). s.shelves) returned)
     ∙ end-changed inside.frame (shelf_of inside.store.buckets number) (returned_kept (nat_le (live_of inside.store.buckets number) 1)) inside.store.shelves (λ kept. refl)
     ∙ atlas-end inside consistent

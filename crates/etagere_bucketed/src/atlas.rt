@@ -289,16 +289,13 @@ impl BucketedAtlasAllocator {
         let area = self.store.return_item(bucket_number(id));
         let shelves = self.store.shelf_count();
         let dropped = self.store.drop_idle_end();
-        let is_kept = self.store.shelf_count() == shelves;
-        let kept = Sides {
-            along: self.current_column,
-            across: self.available_height,
-        };
-        let end = self.store.end_unless(&self.frame, is_kept, kept);
-        self.current_column = end.along;
-        self.available_height = end.across;
-        self.buckets_in_use -= dropped;
         self.allocated_space -= area;
+        if self.store.shelf_count() != shelves {
+            let end = self.store.end(&self.frame);
+            self.current_column = end.along;
+            self.available_height = end.across;
+            self.buckets_in_use -= dropped;
+        }
         Ok(())
     }
 

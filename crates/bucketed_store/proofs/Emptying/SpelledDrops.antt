@@ -1,7 +1,7 @@
 -- Records spell the shelves without the last one, where that holds nothing live and its buckets are unused.
 use Rattle.std.proofs.Common.{◌≡◌, ◌≢◌, ℕ, zero, suc, ◌+◌, ◌-◌, ◌<◌, ◌≤◌, Bool, true, false, cond, Option, None, Some, List, [], ◌∷◌, ◌++◌, length, take, refl, ap, arith, subst, sym, ◌∙◌, append_assoc, append-nil, length-append, ◌==◌}
 use Rattle.std.proofs.Math.Seq.{take-append_seam}
-use Rattle.std.proofs.lemmas.Bool.{and_parts, eqb-true}
+use Rattle.std.proofs.lemmas.Bool.{and_parts, eqb-false, eqb-true}
 use Rattle.std.proofs.lemmas.List.{length-map, length-take-le}
 use Rattle.std.proofs.lemmas.Option.{slice_get_within}
 use Rattle.std.specs.List.{AllByRecursion, list_all}
@@ -26,7 +26,7 @@ use Rattle.bucketed_records.specs.declared.records.KeptShelf.{KeptShelf}
 use Rattle.bucketed_records.specs.StandsFor.{live_of}
 use Rattle.bucketed_records.proofs.Spelling.KeptShelves.{kept-append, last-kept}
 use Rattle.bucketed_records.proofs.Spelling.ReadBack.{spelled-pile}
-use Rattle.bucketed_store.specs.Private.Returns.{Dropping, end_dropped, last_dropped, linked_to, row_unused, row_count, row_end, row_from}
+use Rattle.bucketed_store.specs.Private.Returns.{Dropping, end_dropped, ends_idle, last_dropped, linked_to, row_unused, row_count, row_end, row_from}
 use Rattle.bucketed_store.specs.declared.dropping.RowEnd.{RowEnd}
 use Rattle.bucketed_store.proofs.Emptying.SpelledPlaces.{shelf-spelled, shelves-frame, shelves-front-spelled}
 use Rattle.bucketed_store.proofs.Emptying.Splices.{last_of, last_of-stands, spliced}
@@ -161,13 +161,26 @@ end-busy (suc steps) done kept last busy = rw last (by_test (kept.live_items == 
     by_test true e = absurd (omega (arith, busy, eqb-true kept.live_items 0 e))
     by_test false e = refl
 
+-- nothing is dropped unless the shelves end with one that holds nothing live
+pub end-stays : (steps : ℕ) (done : Dropping) → ends_idle done.stored.shelves ≡ false → end_dropped steps done ≡ done
+end-stays steps done stays = by_last (last_kept done.stored.shelves) refl
+  where
+    by_last : (last : Option KeptShelf) → last_kept done.stored.shelves ≡ last → end_dropped steps done ≡ done
+    by_last None e = end-none steps done e
+    by_last (Some kept) e =
+        end-busy steps done kept e
+        (lt_from_eqb (ap (λ (l : Option KeptShelf). option_map_or (λ (one : KeptShelf). one.live_items == 0) l false) (sym e) ∙ stays))
+      where
+        lt_from_eqb : (kept.live_items == 0) ≡ false → 0 < kept.live_items
+        lt_from_eqb h = grind (arith, eqb-false kept.live_items 0 h)
+
 -- no more are left than there were, and all where as many are left
-pub record Leaves (before after : List KeptShelf) : Type 0 where
-  pub few : length after ≤ length before
-  pub same : length after ≡ length before → after ≡ before
+pub record Leaves (before after : Dropping) : Type 0 where
+  pub few : length after.stored.shelves ≤ length before.stored.shelves
+  pub same : length after.stored.shelves ≡ length before.stored.shelves → after ≡ before
 
 -- what is left when shelves at the end were dropped
-pub leaves-dropped : (steps : ℕ) (done : Dropping) → Leaves done.stored.shelves (end_dropped steps done).stored.shelves
+pub leaves-dropped : (steps : ℕ) (done : Dropping) → Leaves done (end_dropped steps done)
 leaves-dropped zero done = record { few = omega arith; same = λ _. refl }
 leaves-dropped (suc steps) done = by_last (λ next. leaves-dropped steps next) (last_kept done.stored.shelves) refl
   where
@@ -177,8 +190,8 @@ leaves-dropped (suc steps) done = by_last (λ next. leaves-dropped steps next) (
     rest : Option KeptShelf → Dropping
     rest last = option_map_or (λ (one : KeptShelf). cond (one.live_items == 0) (end_dropped steps (last_dropped one done)) done) last done
 
-    by_test : ((next : Dropping) → Leaves next.stored.shelves (end_dropped steps next).stored.shelves) → (one : KeptShelf) → last_kept shelves ≡ Some one → (t : Bool)
-        → Leaves shelves (cond t (end_dropped steps (last_dropped one done)) done).stored.shelves
+    by_test : ((next : Dropping) → Leaves next (end_dropped steps next)) → (one : KeptShelf) → last_kept shelves ≡ Some one → (t : Bool)
+        → Leaves done (cond t (end_dropped steps (last_dropped one done)) done)
     by_test later one last true =
         let next = later (last_dropped one done) in
         let within = slice_get_within shelves (length shelves - 1) one last in
@@ -186,7 +199,7 @@ leaves-dropped (suc steps) done = by_last (λ next. leaves-dropped steps next) (
         record { few = omega (arith, next.few, taken); same = λ same. absurd (omega (arith, next.few, within, taken, same)) }
     by_test later one last false = record { few = omega arith; same = λ _. refl }
 
-    by_last : ((next : Dropping) → Leaves next.stored.shelves (end_dropped steps next).stored.shelves) → (last : Option KeptShelf) → last_kept shelves ≡ last → Leaves shelves (rest last).stored.shelves
+    by_last : ((next : Dropping) → Leaves next (end_dropped steps next)) → (last : Option KeptShelf) → last_kept shelves ≡ last → Leaves done (rest last)
     by_last later None last = record { few = omega arith; same = λ _. refl }
     by_last later (Some one) last = by_test later one last (one.live_items == 0)
 

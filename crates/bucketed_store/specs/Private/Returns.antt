@@ -129,6 +129,10 @@ last_dropped kept done =
     (or_else first done.stored.unused)
     (done.count + row_count done.stored.buckets first)
 
+-- there is a last shelf, and it holds nothing live
+abbrev pub ends_idle : List KeptShelf → Bool
+ends_idle shelves = option_map_or (λ (kept : KeptShelf). kept.live_items == 0) (last_kept shelves) false
+
 -- the last shelves were dropped, at most so many, as long as the last one holds nothing live
 abbrev pub end_dropped : ℕ → Dropping → Dropping
 end_dropped zero done = done
