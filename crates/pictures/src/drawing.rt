@@ -99,7 +99,8 @@ fn append_drawn(text: &mut GatheredText, drawn: &Drawn)
     text.append(drawn.colour.text());
 }
 
-/// Adds the line of a rectangle.
+/// Adds the line of a rectangle. Always inlined: the answer of a writer is large, and is seldom asked for.
+#[inline(always)]
 pub fn push_drawn<W: Write>(
     text: &mut GatheredText,
     drawn: &Drawn,

@@ -77,7 +77,20 @@ impl GatheredText {
         if self.length <= CAPACITY - LINE_CAPACITY {
             return Ok(());
         }
-        send_both(self.as_bytes(), &[], writer)?;
+        self.send_all(writer)
+    }
+
+    /// Sends all. After a fault of the writer a beginning of the text has gone out. It is called once in 4096 bytes, and
+    /// lines needn't pay for it.
+    #[inline(never)]
+    fn send_all<W: Write>(&mut self, writer: &mut W) -> io::Result<()>
+        ensures empty { OnOk result (self.new ≡ []) }
+        ensures ok { OnOk result (GathersMore
+            (W.contents writer.old) self.old (W.contents writer.new) self.new []) }
+        ensures err { OnErr result (SendsBeginning
+            (W.contents writer.old) self.old (W.contents writer.new) []) }
+    {
+        send(self.as_bytes(), writer)?;
         self.clear();
         Ok(())
     }
