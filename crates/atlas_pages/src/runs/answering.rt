@@ -5,8 +5,8 @@
 ghost use Rattle.atlas_pages.specs.Promises.{KeepsPagesPromises};
 ghost use Rattle.atlas_pages.specs.Runs.Runs.{PageStep};
 
+use crate::AtlasPages;
 use crate::runs::commands::{PageCommand, PageReply};
-use atlas_pages::AtlasPages;
 use etagere::{AllocId, Size};
 
 /// Answers a command by the call that it names.

@@ -2,7 +2,7 @@
 //!
 //! The definition of runs (`Runs`) matches on them.
 
-use atlas_pages::PagedAllocation;
+use crate::PagedAllocation;
 use etagere::{AllocId, Size};
 
 /// A command of a run on pages.

@@ -1,6 +1,6 @@
 //! Why nothing was run.
 
-use atlas_pages::PagesFault;
+use crate::PagesFault;
 use thiserror::Error;
 
 /// Why commands were not run on pages.

@@ -10,7 +10,7 @@ ghost use Rattle.atlas_pages.specs.Runs.Runs.{PageRunKeepsPromisesThroughout, Re
 use crate::runs::commands::{PageCommand, PageReply};
 use crate::runs::faults::PageRunFault;
 use crate::runs::running::run_pages;
-use atlas_pages::{AtlasPages, PageOptions};
+use crate::{AtlasPages, PageOptions};
 use etagere::Size;
 use std::alloc::{AllocError, Global};
 

@@ -4,8 +4,8 @@
 
 ghost use Rattle.atlas_pages.specs.Runs.PaddedRuns.{EveryRunKeepsPadding, Step};
 
+use crate::PaddedPages;
 use crate::runs::commands::{PageCommand, PageReply};
-use atlas_pages::PaddedPages;
 use etagere::{AllocId, Size};
 
 /// Pages with a padding, new or not, keep their promises after each command, whatever these are and whichever of the

@@ -12,7 +12,7 @@ ghost use Rattle.atlas_pages.specs.Runs.Runs.{PageRunKeepsPromisesThroughout, Re
 use crate::runs::answering::answer_on_pages;
 use crate::runs::commands::{PageCommand, PageReply};
 use crate::runs::faults::PageRunFault;
-use atlas_pages::{AtlasPages, PageOptions};
+use crate::{AtlasPages, PageOptions};
 use std::alloc::Global;
 
 /// Runs the commands in order on new pages of these options, and gives a reply to each.
