@@ -6,10 +6,10 @@ pub mod Keeping
 pub mod KeptBefore
 pub mod PaddedLemmas
 pub mod PageLists
+pub mod PageRuns
 pub mod PageSpaces
 pub mod PictureLemmas
 pub mod Ready
-pub mod Runs
 pub mod SavedLemmas
 pub mod Used
 pub mod WorkedRows

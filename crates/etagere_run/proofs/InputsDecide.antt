@@ -12,7 +12,7 @@ use Rattle.run_scripts.proofs.ShortHeader.{script-short}
 use Rattle.run_scripts.proofs.ShortNumbers.{IsShort}
 use Rattle.etagere_run.specs.Drawing.{IsDrawingOf, ShowsEnd}
 use Rattle.etagere_run.specs.Replaying.{IsRunOf, RepliesTo, longest_asked}
-use Rattle.etagere_run.proofs.Answers.TwoRuns.{atlas-runs-differ, bucketed-runs-differ}
+use Rattle.etagere_run.proofs.RunAnswers.TwoRuns.{atlas-runs-differ, bucketed-runs-differ}
 
 -- an input spells one request
 one-request : (input : List ℕ) (one other : Request) → script_of input ≡ Ok one → script_of input ≡ Ok other → other ≡ one

@@ -14,7 +14,7 @@ use Rattle.run_scripts.specs.ReplyText.{line_of, replies_text, text_of}
 use Rattle.etagere_run.specs.Answers.Runs.{Kind, RunKeepsPromisesThroughout}
 use Rattle.etagere_run.specs.Streaming.{IsTextOfRun, StopsAt, StreamsBeginning}
 use Rattle.etagere_run.specs.Answers.Private.Tied.{IsAnswerOf, SameAlignments, SuitsRuns}
-use Rattle.etagere_run.proofs.Answers.RunsOn.{GoesOn, IsUnderWay, can_go_on, ends, goes_on, starts}
+use Rattle.etagere_run.proofs.RunAnswers.RunsOn.{GoesOn, IsUnderWay, can_go_on, ends, goes_on, starts}
 
 -- the text of a front and a back, and of one reply more
 text-append : (front back : List Reply) → replies_text (front ++ back) ≡ replies_text front ++ replies_text back

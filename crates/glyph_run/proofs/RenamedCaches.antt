@@ -17,8 +17,8 @@ use Rattle.glyph_shelf.specs.Cache.{CacheState, after_dropping, dropped_keys, re
 use Rattle.glyph_shelf.specs.Placing.{has_room}
 use Rattle.glyph_run.proofs.EntriesTold.{held_by, removed-held}
 use Rattle.etagere_run.specs.Answers.Private.Renamed.{renamed, renamed_allocation}
-use Rattle.etagere_run.proofs.Answers.Renamed.RenamedChoice.{map-agree, placement_of-renamed}
-use Rattle.etagere_run.proofs.Answers.Renamed.RenamedReturns.{returned-renamed}
+use Rattle.etagere_run.proofs.RunAnswers.Renamed.RenamedChoice.{map-agree, placement_of-renamed}
+use Rattle.etagere_run.proofs.RunAnswers.Renamed.RenamedReturns.{returned-renamed}
 
 -- entries and a cache whose ids have other numbers
 abbrev pub renamed_entries : (ℕ → ℕ) → List (ℕ × Allocation) → List (ℕ × Allocation)

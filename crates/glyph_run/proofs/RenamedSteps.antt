@@ -37,10 +37,10 @@ use Rattle.glyph_run.proofs.RenamedCaches.{dropped-renamed, dropping-renamed, lo
 use Rattle.run_scripts.specs.Lines.{line_feed}
 use Rattle.run_scripts.specs.ReplyText.{corners_text}
 use Rattle.etagere_run.specs.Answers.Private.Renamed.{renamed, renamed_allocation}
-use Rattle.etagere_run.proofs.Answers.Renamed.NewNames.{HasNewName, new-name}
-use Rattle.etagere_run.proofs.Answers.Renamed.RenamedChoice.{placement_of-renamed}
-use Rattle.etagere_run.proofs.Answers.Renamed.RenamedGrow.{fresh-renamed}
-use Rattle.etagere_run.proofs.Answers.Renamed.RenamedTaking.{taken-renamed}
+use Rattle.etagere_run.proofs.RunAnswers.Renamed.NewNames.{HasNewName, new-name}
+use Rattle.etagere_run.proofs.RunAnswers.Renamed.RenamedChoice.{placement_of-renamed}
+use Rattle.etagere_run.proofs.RunAnswers.Renamed.RenamedGrow.{fresh-renamed}
+use Rattle.etagere_run.proofs.RunAnswers.Renamed.RenamedTaking.{taken-renamed}
 
 -- two caches are the same, but that ids have other numbers
 pub record AreAlike (one other : CacheState) : Type 0 where

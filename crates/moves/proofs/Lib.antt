@@ -1,2 +1,2 @@
-pub mod Caches
-pub mod Pages
+pub mod MovedCaches
+pub mod MovedPages

@@ -5,7 +5,7 @@ use Rattle.run_scripts.specs.declared.commands.Reply.{Reply}
 use Rattle.etagere_run.specs.Answers.Live.{Effect, Entry, live_after, live_from}
 use Rattle.etagere_run.specs.Answers.Runs.{Kind, Runs, effects}
 use Rattle.etagere_run.specs.Answers.Private.Tied.{IsAnswerOf}
-use Rattle.etagere_run.proofs.Answers.LiveEntries.{live_from-more}
+use Rattle.etagere_run.proofs.RunAnswers.LiveEntries.{live_from-more}
 use Rattle.traffic.specs.declared.going_on.Finding.{Finding}
 use Rattle.traffic.specs.declared.going_on.Refused.{Refused}
 use Rattle.traffic.specs.GoingOn.{GoesOn, RunsThrough, findings_in, last_of, with_finding}

@@ -25,9 +25,9 @@ use Rattle.etagere_run.specs.Answers.Live.{Entry, live_after, live_allocations, 
 use Rattle.etagere_run.specs.Answers.Runs.{IsGiven, Kind, Runs, effects, live_in}
 use Rattle.etagere_run.specs.Answers.Private.Given.{given_by}
 use Rattle.etagere_run.specs.Answers.Private.Tied.{IsTied, SuitsRuns}
-use Rattle.etagere_run.proofs.Answers.AtlasAnswered.{atlas-suits}
-use Rattle.etagere_run.proofs.Answers.AtlasAnswers.{tied-cleared}
-use Rattle.etagere_run.proofs.Answers.EveryRun.{every_atlas_run}
+use Rattle.etagere_run.proofs.RunAnswers.AtlasAnswered.{atlas-suits}
+use Rattle.etagere_run.proofs.RunAnswers.AtlasAnswers.{tied-cleared}
+use Rattle.etagere_run.proofs.RunAnswers.EveryRun.{every_atlas_run}
 use Rattle.traffic.specs.Continuing.{renumbered, whole_position}
 use Rattle.traffic.specs.Ledgers.{entries_from}
 use Rattle.traffic.specs.Resuming.{IsRestOfRun}

@@ -1,6 +1,6 @@
 use Rattle.std.proofs.Common.{◌≡◌, ◌≤◌, length, take}
 use Rattle.std.specs.Prelude.{vec_capacity, vec_len}
-use Rattle.atlas_pages.proofs.Runs.RunsOn.{IsUnderWay}
+use Rattle.atlas_pages.proofs.PageRuns.RunsOn.{IsUnderWay}
 use Rattle.atlas_pages.proofs.runs.running.answer_all.Given as goal
 
 -- the replies so far are those of a run of the commands so far, and there is room for those that are left

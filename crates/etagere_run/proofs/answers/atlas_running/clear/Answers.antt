@@ -1,4 +1,4 @@
-use Rattle.etagere_run.proofs.Answers.AtlasAnswers.{cleared}
+use Rattle.etagere_run.proofs.RunAnswers.AtlasAnswers.{cleared}
 use Rattle.etagere_run.specs.Answers.Private.Tables.{entries_of}
 use Rattle.etagere_run.proofs.answers.atlas_running.clear.Goals as goal
 

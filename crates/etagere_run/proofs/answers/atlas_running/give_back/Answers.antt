@@ -1,6 +1,6 @@
 use Rattle.std.proofs.Common.{refl, sym}
-use Rattle.etagere_run.proofs.Answers.AtlasAnswers.{allocated-at, gone_back}
-use Rattle.etagere_run.proofs.Answers.TableEntries.{given-of}
+use Rattle.etagere_run.proofs.RunAnswers.AtlasAnswers.{allocated-at, gone_back}
+use Rattle.etagere_run.proofs.RunAnswers.TableEntries.{given-of}
 use Rattle.etagere_run.specs.Answers.Live.{allocation_at}
 use Rattle.etagere_run.specs.Answers.Private.Tables.{entries_of}
 use Rattle.etagere_run.proofs.answers.atlas_running.give_back.Goals as goal

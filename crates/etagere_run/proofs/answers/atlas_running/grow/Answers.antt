@@ -1,6 +1,6 @@
 use Rattle.std.proofs.Common.{◌≡◌, None, rules}
 use Rattle.shelf_model.specs.Growing.{grow_fault}
-use Rattle.etagere_run.proofs.Answers.AtlasAnswers.{grown}
+use Rattle.etagere_run.proofs.RunAnswers.AtlasAnswers.{grown}
 use Rattle.etagere_run.proofs.answers.atlas_running.grow.Goals as goal
 
 pub returns-in-Ok : goal.returns-in-Ok

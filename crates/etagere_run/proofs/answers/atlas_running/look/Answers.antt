@@ -1,7 +1,7 @@
 use Rattle.std.proofs.Common.{◌≡◌, ◌%◌, None, Some, ap, sym, ◌∙◌}
 use Rattle.etagere_base.specs.Ids.{index_modulus}
-use Rattle.etagere_run.proofs.Answers.AtlasAnswers.{looked, rectangle-at}
-use Rattle.etagere_run.proofs.Answers.TableEntries.{given-of}
+use Rattle.etagere_run.proofs.RunAnswers.AtlasAnswers.{looked, rectangle-at}
+use Rattle.etagere_run.proofs.RunAnswers.TableEntries.{given-of}
 use Rattle.etagere_run.specs.Answers.Live.{allocation_at}
 use Rattle.etagere_run.specs.Answers.Private.Tables.{entries_of}
 use Rattle.etagere_run.proofs.answers.atlas_running.look.Goals as goal

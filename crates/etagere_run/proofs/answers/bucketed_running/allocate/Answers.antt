@@ -1,7 +1,7 @@
 use Rattle.std.proofs.Common.{refl}
 use Rattle.etagere_run.specs.Answers.Private.Given.{with_given}
 use Rattle.run_scripts.specs.declared.commands.Reply.TheVariants.{Placed}
-use Rattle.etagere_run.proofs.Answers.BucketedAnswers.{placed}
+use Rattle.etagere_run.proofs.RunAnswers.BucketedAnswers.{placed}
 use Rattle.etagere_run.proofs.answers.bucketed_running.allocate.Goals as goal
 
 pub returns : goal.returns

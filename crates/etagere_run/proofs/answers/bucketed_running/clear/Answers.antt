@@ -1,4 +1,4 @@
-use Rattle.etagere_run.proofs.Answers.BucketedAnswers.{cleared}
+use Rattle.etagere_run.proofs.RunAnswers.BucketedAnswers.{cleared}
 use Rattle.etagere_run.specs.Answers.Private.Tables.{entries_of}
 use Rattle.etagere_run.proofs.answers.bucketed_running.clear.Goals as goal
 

@@ -1,6 +1,6 @@
 use Rattle.std.proofs.Common.{refl, rules, sym}
-use Rattle.etagere_run.proofs.Answers.BucketedAnswers.{gone_back, known-at}
-use Rattle.etagere_run.proofs.Answers.TableEntries.{given-of}
+use Rattle.etagere_run.proofs.RunAnswers.BucketedAnswers.{gone_back, known-at}
+use Rattle.etagere_run.proofs.RunAnswers.TableEntries.{given-of}
 use Rattle.etagere_run.specs.Answers.Live.{allocation_at}
 use Rattle.etagere_run.specs.Answers.Private.Tables.{entries_of}
 use Rattle.etagere_run.proofs.answers.bucketed_running.give_back.Goals as goal

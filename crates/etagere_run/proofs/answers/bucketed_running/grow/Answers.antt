@@ -1,4 +1,4 @@
-use Rattle.etagere_run.proofs.Answers.BucketedAnswers.{grown}
+use Rattle.etagere_run.proofs.RunAnswers.BucketedAnswers.{grown}
 use Rattle.etagere_run.proofs.answers.bucketed_running.grow.Goals as goal
 
 pub returns-in-Ok : goal.returns-in-Ok

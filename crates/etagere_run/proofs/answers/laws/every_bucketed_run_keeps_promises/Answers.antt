@@ -1,6 +1,6 @@
 use Rattle.std.proofs.Common.{◌^◌, ◌<◌, rules}
 use Rattle.etagere_base.specs.Sides.{side}
-use Rattle.etagere_run.proofs.Answers.EveryRun.{every_bucketed_run}
+use Rattle.etagere_run.proofs.RunAnswers.EveryRun.{every_bucketed_run}
 use Rattle.etagere_run.proofs.answers.laws.every_bucketed_run_keeps_promises.Goals as goal
 
 pub returns-clause-end : goal.returns-clause-end

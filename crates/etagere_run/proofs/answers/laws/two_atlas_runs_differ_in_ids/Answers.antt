@@ -1,6 +1,6 @@
 use Rattle.std.proofs.Common.{◌^◌, ◌<◌, rules}
 use Rattle.etagere_base.specs.Sides.{side}
-use Rattle.etagere_run.proofs.Answers.TwoRuns.{atlas-runs-differ}
+use Rattle.etagere_run.proofs.RunAnswers.TwoRuns.{atlas-runs-differ}
 use Rattle.etagere_run.proofs.answers.laws.two_atlas_runs_differ_in_ids.Goals as goal
 
 pub returns : goal.returns

@@ -1,6 +1,6 @@
 use Rattle.std.proofs.Common.{◌^◌, ◌<◌, rules}
 use Rattle.etagere_base.specs.Sides.{side}
-use Rattle.etagere_run.proofs.Answers.TwoRuns.{bucketed-runs-differ}
+use Rattle.etagere_run.proofs.RunAnswers.TwoRuns.{bucketed-runs-differ}
 use Rattle.etagere_run.proofs.answers.laws.two_bucketed_runs_differ_in_ids.Goals as goal
 
 pub returns : goal.returns

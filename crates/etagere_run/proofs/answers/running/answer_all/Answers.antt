@@ -1,7 +1,7 @@
 use Rattle.std.proofs.Common.{◌≡◌, ℕ, ◌<◌, ◌≤◌, [], ◌∷◌, ◌++◌, length, refl, arith, rules, subst}
 use Rattle.etagere_run.specs.Answers.Private.Tables.{entries_of}
 use Rattle.etagere_run.specs.Answers.Private.Tied.{IsAnswerOf}
-use Rattle.etagere_run.proofs.Answers.RunsOn.{ends, goes_on, starts}
+use Rattle.etagere_run.proofs.RunAnswers.RunsOn.{ends, goes_on, starts}
 use Rattle.etagere_run.proofs.answers.running.answer_all.Goals as goal
 
 pub loop-position-preserved : goal.loop-position-preserved

@@ -2,7 +2,7 @@ use Rattle.std.proofs.Common.{◌≡◌, ◌≤◌, length, take}
 use Rattle.std.specs.Prelude.{vec_capacity, vec_len}
 use Rattle.etagere_run.specs.Answers.Runs.{RunKeepsPromisesThroughout}
 use Rattle.etagere_run.specs.Answers.Private.Tables.{entries_of}
-use Rattle.etagere_run.proofs.Answers.RunsOn.{IsUnderWay}
+use Rattle.etagere_run.proofs.RunAnswers.RunsOn.{IsUnderWay}
 use Rattle.etagere_run.proofs.answers.running.answer_all.Given as goal
 
 -- the replies so far are a run that kept its promises; each command so far has a place, and there is room for those that

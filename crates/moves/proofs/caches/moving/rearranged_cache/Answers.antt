@@ -6,7 +6,7 @@ use Rattle.shelf_model.specs.State.{AtlasState}
 use Rattle.rearranging.specs.Arranging.{moved_from}
 use Rattle.rearranging.specs.declared.moves.Move.{Move}
 use Rattle.moves.specs.Caches.Private.Following.{Follows, IsMovedInto}
-use Rattle.moves.proofs.Caches.Done.{done-each, done-left, done-moved}
+use Rattle.moves.proofs.MovedCaches.Done.{done-each, done-left, done-moved}
 use Rattle.moves.proofs.caches.moving.rearranged_cache.Goals as goal
 
 pub returns-in-Ok-clause-each : goal.returns-in-Ok-clause-each

@@ -6,8 +6,8 @@ use Rattle.glyph_shelf.specs.Promises.{KeepsCachePromises}
 use Rattle.glyph_shelf.specs.declared.saving.SavedKey.{SavedKey}
 use Rattle.moves.specs.Caches.Arranging.{moved_cache}
 use Rattle.moves.specs.Caches.Private.ById.{keys_saved, saved_anew}
-use Rattle.moves.proofs.Caches.Done.{keeps-moved, moved-once, once}
-use Rattle.moves.proofs.Caches.Restored.{left-same, named, placed, stands-moved, told-same}
+use Rattle.moves.proofs.MovedCaches.Done.{keeps-moved, moved-once, once}
+use Rattle.moves.proofs.MovedCaches.Restored.{left-same, named, placed, stands-moved, told-same}
 use Rattle.moves.proofs.caches.moving.with_keys.Goals as goal
 
 pub restored-requires : goal.restored-requires

@@ -6,9 +6,9 @@ use Rattle.atlas_pages.specs.declared.places.PagedAllocation.{PagedAllocation}
 use Rattle.atlas_pages.specs.Pages.{no_pages}
 use Rattle.atlas_pages.specs.Promises.{KeepsPagesPromises}
 use Rattle.rearranging.specs.Private.Sides.{HasSides}
-use Rattle.moves.proofs.Pages.Arranged.{tied-sides}
-use Rattle.moves.proofs.Pages.Done.{IsDone, arranged-done}
-use Rattle.moves.proofs.Pages.TiedLists.{tied-listed, tied-permuted}
+use Rattle.moves.proofs.MovedPages.Arranged.{tied-sides}
+use Rattle.moves.proofs.MovedPages.Done.{IsDone, arranged-done}
+use Rattle.moves.proofs.MovedPages.TiedLists.{tied-listed, tied-permuted}
 use Rattle.moves.specs.Pages.Arranging.{Arranges, HasRoom, IsRearranged, moved_from, moved_to}
 use Rattle.moves.specs.Pages.Order.{AreTallestFirst}
 use Rattle.moves.specs.Pages.Tied.{AreTiedOn}

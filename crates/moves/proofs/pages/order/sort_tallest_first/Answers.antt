@@ -1,5 +1,5 @@
 use Rattle.std.proofs.Common.{rules}
-use Rattle.moves.proofs.Pages.Turns.{sorted-tallest_first}
+use Rattle.moves.proofs.MovedPages.Turns.{sorted-tallest_first}
 use Rattle.moves.proofs.pages.order.sort_tallest_first.Goals as goal
 
 pub returns-clause-ordered : goal.returns-clause-ordered

@@ -1,4 +1,4 @@
-use Rattle.etagere_run.proofs.Answers.AtlasAnswered.{atlas-suits}
+use Rattle.etagere_run.proofs.RunAnswers.AtlasAnswered.{atlas-suits}
 use Rattle.etagere_run.proofs.answers.atlas_running.AtlasAllocatorBeginning.begin.Goals as goal
 
 pub returns-clause-suits : goal.returns-clause-suits

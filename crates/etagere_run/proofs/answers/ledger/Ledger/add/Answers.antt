@@ -1,7 +1,7 @@
 use Rattle.std.proofs.Common.{ℕ, ◌∙◌, ap, arith}
 use Rattle.etagere_run.specs.Answers.Private.Given.{with_entry}
 use Rattle.etagere_run.specs.Answers.Private.Tables.{entries_above, entries_of}
-use Rattle.etagere_run.proofs.Answers.TableEntries.{as-many, more-slots}
+use Rattle.etagere_run.proofs.RunAnswers.TableEntries.{as-many, more-slots}
 use Rattle.etagere_run.proofs.answers.ledger.Ledger.add.Goals as goal
 
 pub returns-clause-added : goal.returns-clause-added

@@ -1,5 +1,5 @@
 use Rattle.std.proofs.Common.{◌∙◌, arith}
-use Rattle.etagere_run.proofs.Answers.TableEntries.{as-many, id_at-none, id_at-slot}
+use Rattle.etagere_run.proofs.RunAnswers.TableEntries.{as-many, id_at-none, id_at-slot}
 use Rattle.etagere_run.proofs.answers.ledger.Ledger.id_at.Goals as goal
 
 pub returns-in_err-slot : goal.returns-in_err-slot

@@ -2,7 +2,7 @@ use Rattle.std.proofs.Common.{◌∙◌, ap, arith, None, refl, sym}
 use Rattle.std.specs.Prelude.{slice_set}
 use Rattle.etagere_run.specs.Answers.Private.Ids.{ids_in}
 use Rattle.etagere_run.specs.Answers.Private.Tables.{entries_above}
-use Rattle.etagere_run.proofs.Answers.TableEntries.{as-many, emptied-none, id_at-none, id_at-slot, ids-emptied, none-taken, some-taken, without-slot}
+use Rattle.etagere_run.proofs.RunAnswers.TableEntries.{as-many, emptied-none, id_at-none, id_at-slot, ids-emptied, none-taken, some-taken, without-slot}
 use Rattle.etagere_run.proofs.answers.ledger.Ledger.take.Goals as goal
 
 pub invariant_of-self-clause-ids : goal.invariant_of-self-clause-ids

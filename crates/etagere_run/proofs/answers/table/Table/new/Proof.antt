@@ -23,7 +23,7 @@ use denote.Triple.Entry.{alive}
 use denote.Triple.Spec.{Meets, triple_of}
 use denote.Triple.Table.{entered}
 use denote.Triple.Walked.{says, Stays, walk_of, ends_at, walk_Meets}
-use Rattle.etagere_run.proofs.Answers.TableWalks.{none, none_made}
+use Rattle.etagere_run.proofs.RunAnswers.TableWalks.{none, none_made}
 use Rattle.etagere_run.specs.contracts.answers.table.Table as Table
 use Rattle.etagere_run.specs.contracts.answers.table.Table.new as F
 use Rattle.etagere_run.specs.contracts.answers.table.Table.new.Key.{name as #self}

@@ -29,13 +29,13 @@ use Rattle.etagere_run.specs.Answers.Live.{Entry, allocation_at, live_after, liv
 use Rattle.etagere_run.specs.Answers.Runs.{Runs}
 use Rattle.etagere_run.specs.Answers.Private.Renamed.{renamed, renamed_allocation, renamed_entry}
 use Rattle.etagere_run.specs.Answers.Private.Tied.{IsTied}
-use Rattle.etagere_run.proofs.Answers.AtlasAnswers.{atlas-steps}
-use Rattle.etagere_run.proofs.Answers.Renamed.NewNames.{HasNewName, new-name}
-use Rattle.etagere_run.proofs.Answers.Renamed.OtherNames.{entries-agree}
-use Rattle.etagere_run.proofs.Answers.Renamed.RenamedChoice.{placement_of-renamed}
-use Rattle.etagere_run.proofs.Answers.Renamed.RenamedGrow.{fault-renamed, fresh-renamed, grown-renamed}
-use Rattle.etagere_run.proofs.Answers.Renamed.RenamedReturns.{returned-renamed}
-use Rattle.etagere_run.proofs.Answers.Renamed.RenamedTaking.{taken-renamed}
+use Rattle.etagere_run.proofs.RunAnswers.AtlasAnswers.{atlas-steps}
+use Rattle.etagere_run.proofs.RunAnswers.Renamed.NewNames.{HasNewName, new-name}
+use Rattle.etagere_run.proofs.RunAnswers.Renamed.OtherNames.{entries-agree}
+use Rattle.etagere_run.proofs.RunAnswers.Renamed.RenamedChoice.{placement_of-renamed}
+use Rattle.etagere_run.proofs.RunAnswers.Renamed.RenamedGrow.{fault-renamed, fresh-renamed, grown-renamed}
+use Rattle.etagere_run.proofs.RunAnswers.Renamed.RenamedReturns.{returned-renamed}
+use Rattle.etagere_run.proofs.RunAnswers.Renamed.RenamedTaking.{taken-renamed}
 
 -- two runs so far are the same, but that ids have other numbers
 pub record AreAlike (ones others : List Entry) (one other : AtlasState) : Type 0 where

@@ -12,7 +12,7 @@ use Rattle.bucketed_model.specs.Returning.{given_of, is_giver, is_known, tag_of}
 use Rattle.bucketed_model.specs.State.{Bucket, BucketShelf, BucketedState, Tag, bucket_numbers, given_unit, tag_numbers}
 use Rattle.etagere_run.specs.Answers.Live.{Entry, live_allocations}
 use Rattle.etagere_run.specs.Answers.Private.Renumbered.{Seen, renumbered, renumbered_bucket, renumbered_shelf, renumbered_tag, seen_entry}
-use Rattle.etagere_run.proofs.Answers.Renamed.OtherNames.{exchanged-apart, exchanged-none, exchanged-one, with_name}
+use Rattle.etagere_run.proofs.RunAnswers.Renamed.OtherNames.{exchanged-apart, exchanged-none, exchanged-one, with_name}
 
 -- a number that stands in a list stands in it under its other number
 stands-map : (name : ℕ → ℕ) (n : ℕ) (ns : List ℕ) → 1 ≤ times n ns → 1 ≤ times (name n) (map name ns)

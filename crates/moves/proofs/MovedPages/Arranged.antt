@@ -20,7 +20,7 @@ use Rattle.atlas_pages.specs.Choosing.{ready_for}
 use Rattle.atlas_pages.specs.Pages.{PagesState, page_frame}
 use Rattle.atlas_pages.specs.Places.{Places}
 use Rattle.atlas_pages.specs.Promises.{IsPage, KeepsPagesPromises}
-use Rattle.moves.proofs.Pages.TiedLists.{tied-added, times_on-append}
+use Rattle.moves.proofs.MovedPages.TiedLists.{tied-added, times_on-append}
 use Rattle.moves.specs.Pages.Arranging.{Arranges, nothing, moved, refused, HasRoom, moved_from, moved_to}
 use Rattle.moves.specs.Pages.Tied.{AreTiedOn, IsFoundOn, times_on}
 use Rattle.moves.specs.declared.pages.moves.PageMove.{PageMove}

@@ -10,7 +10,7 @@ use Rattle.atlas_pages.specs.declared.runs.commands.PageCommand.{PageCommand}
 use Rattle.atlas_pages.specs.declared.runs.commands.PageReply.{PageReply}
 use Rattle.atlas_pages.specs.Runs.Runs.{PageRunKeepsPromises, PageRunKeepsPromisesThroughout, PageRuns, PageStep}
 use Rattle.atlas_pages.specs.Runs.Told.{Told, nothing, told_after, told_from}
-use Rattle.atlas_pages.proofs.Runs.StepsTold.{same-step, told-step}
+use Rattle.atlas_pages.proofs.PageRuns.StepsTold.{same-step, told-step}
 
 -- a run and one more step are a run
 PageRuns-more : (old middle new : PagesState) (commands : List PageCommand) (replies : List PageReply) (command : PageCommand) (reply : PageReply)

@@ -23,8 +23,8 @@ use Rattle.etagere_run.specs.Answers.BucketedRuns.{BucketedLiveKeepsPromises, Bu
 use Rattle.etagere_run.specs.Answers.Live as effects
 use Rattle.etagere_run.specs.Answers.Live.{Entry, allocation_at, live_after, live_allocations, without}
 use Rattle.etagere_run.specs.Answers.Private.Tied.{IsAsked, IsBucketedAnswer, IsInBuckets, SameAlignments}
-use Rattle.etagere_run.proofs.Answers.KeptSteps.{alignments-same, kept}
-use Rattle.etagere_run.proofs.Answers.LiveEntries.{without-adds}
+use Rattle.etagere_run.proofs.RunAnswers.KeptSteps.{alignments-same, kept}
+use Rattle.etagere_run.proofs.RunAnswers.LiveEntries.{without-adds}
 
 -- an allocation is aligned in a frame
 abbrev IsAlignedIn : Frame → Allocation → Type 0

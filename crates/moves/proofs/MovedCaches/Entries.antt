@@ -12,7 +12,7 @@ use Rattle.shelf_model.specs.Callers.{AreTied, IsFound}
 use Rattle.rearranging.specs.Arranging.{moved_from, moved_to}
 use Rattle.rearranging.specs.declared.moves.Move.{Move}
 use Rattle.moves.specs.Caches.Arranging.{moved_entry, new_place}
-use Rattle.moves.proofs.Caches.Found.{found-total, under, under-absent, under-each, weigh}
+use Rattle.moves.proofs.MovedCaches.Found.{found-total, under, under-absent, under-each, weigh}
 
 abbrev pub Entries : Type 0
 Entries = List (ℕ × Allocation)

@@ -31,10 +31,10 @@ use Rattle.etagere_run.specs.Answers.Live.{Entry, live_after, live_allocations, 
 use Rattle.etagere_run.specs.Answers.Runs.{Runs}
 use Rattle.etagere_run.specs.Answers.Private.Renumbered.{Seen, renumbered, renumbered_bucket, renumbered_place, renumbered_placement, renumbered_shelf, renumbered_spot, renumbered_tag, seen_entry}
 use Rattle.etagere_run.specs.Answers.Private.Tied.{IsInBuckets}
-use Rattle.etagere_run.proofs.Answers.BucketedAnswered.{bucketed-suits}
-use Rattle.etagere_run.proofs.Answers.Renumbered.RenumberedChanges.{changed-renumbered, ends-renumbered, grow_counts-renumbered, grown-renumbered, plain_bucket, plain_shelf, prepared-renumbered, rectangle-renumbered, returned-plain, spot_of-renumbered}
-use Rattle.etagere_run.proofs.Answers.Renumbered.RenumberedNames.{HasNewTags, new-tags, seen-agree}
-use Rattle.etagere_run.proofs.Answers.Renumbered.RenumberedPlaces.{placement-renumbered}
+use Rattle.etagere_run.proofs.RunAnswers.BucketedAnswered.{bucketed-suits}
+use Rattle.etagere_run.proofs.RunAnswers.Renumbered.RenumberedChanges.{changed-renumbered, ends-renumbered, grow_counts-renumbered, grown-renumbered, plain_bucket, plain_shelf, prepared-renumbered, rectangle-renumbered, returned-plain, spot_of-renumbered}
+use Rattle.etagere_run.proofs.RunAnswers.Renumbered.RenumberedNames.{HasNewTags, new-tags, seen-agree}
+use Rattle.etagere_run.proofs.RunAnswers.Renumbered.RenumberedPlaces.{placement-renumbered}
 
 -- numbers as they are
 abbrev own : ℕ → ℕ

@@ -22,7 +22,7 @@ use Rattle.run_scripts.specs.declared.commands.Reply.TheVariants.{Placed, Refuse
 use Rattle.etagere_run.specs.Answers.AtlasRuns.{AtlasStep, StaysWithin, atlas_effect}
 use Rattle.etagere_run.specs.Answers.Live.{Entry, allocation_at, live_after, live_allocations, peak_after}
 use Rattle.etagere_run.specs.Answers.Private.Tied.{IsAnswer, IsTied}
-use Rattle.etagere_run.proofs.Answers.LiveEntries.{without-adds}
+use Rattle.etagere_run.proofs.RunAnswers.LiveEntries.{without-adds}
 
 -- the items of an atlas are few for what is live
 few-live : (entries : List Entry) (state : AtlasState) → IsTied entries state

@@ -15,12 +15,12 @@ use Rattle.shelf_model.proofs.Callers.{fresh-allocated, promises-new}
 use Rattle.etagere_run.specs.Answers.AtlasRuns.{shelf_atlas}
 use Rattle.etagere_run.specs.Answers.BucketedRuns.{bucketed_atlas}
 use Rattle.etagere_run.specs.Answers.Laws.{DifferInIds}
-use Rattle.etagere_run.proofs.Answers.AtlasAnswers.{tied-cleared}
-use Rattle.etagere_run.proofs.Answers.BucketedAnswers.{in_buckets-fresh}
-use Rattle.etagere_run.proofs.Answers.Renamed.RenamedPicture.{svg-renamed}
-use Rattle.etagere_run.proofs.Answers.Renamed.RenamedRuns as renamed
-use Rattle.etagere_run.proofs.Answers.Renumbered.RenumberedChanges.{svg-renumbered}
-use Rattle.etagere_run.proofs.Answers.Renumbered.RenumberedRuns as renumbered
+use Rattle.etagere_run.proofs.RunAnswers.AtlasAnswers.{tied-cleared}
+use Rattle.etagere_run.proofs.RunAnswers.BucketedAnswers.{in_buckets-fresh}
+use Rattle.etagere_run.proofs.RunAnswers.Renamed.RenamedPicture.{svg-renamed}
+use Rattle.etagere_run.proofs.RunAnswers.Renamed.RenamedRuns as renamed
+use Rattle.etagere_run.proofs.RunAnswers.Renumbered.RenumberedChanges.{svg-renumbered}
+use Rattle.etagere_run.proofs.RunAnswers.Renumbered.RenumberedRuns as renumbered
 
 -- on a shelf atlas
 pub atlas-runs-differ : (size : Size) (options : AllocatorOptions) → IsAccepted longest_side size options

@@ -21,11 +21,11 @@ use Rattle.etagere_run.specs.Answers.BucketedRuns.{bucketed_atlas}
 use Rattle.etagere_run.specs.Answers.Live.{Entry, live_after}
 use Rattle.etagere_run.specs.Answers.Runs.{KeepsPromisesIn, Kind, Runs, RunKeepsPromisesThroughout}
 use Rattle.etagere_run.specs.Answers.Private.Tied.{IsAnswerOf, IsInBuckets, IsTied, SuitsRuns}
-use Rattle.etagere_run.proofs.Answers.AtlasAnswered.{atlas-suits}
-use Rattle.etagere_run.proofs.Answers.AtlasAnswers.{tied-cleared}
-use Rattle.etagere_run.proofs.Answers.BucketedAnswered.{bucketed-suits}
-use Rattle.etagere_run.proofs.Answers.BucketedAnswers.{in_buckets-fresh}
-use Rattle.etagere_run.proofs.Answers.RunsOn.{IsUnderWay, goes_further, starts, way-promises}
+use Rattle.etagere_run.proofs.RunAnswers.AtlasAnswered.{atlas-suits}
+use Rattle.etagere_run.proofs.RunAnswers.AtlasAnswers.{tied-cleared}
+use Rattle.etagere_run.proofs.RunAnswers.BucketedAnswered.{bucketed-suits}
+use Rattle.etagere_run.proofs.RunAnswers.BucketedAnswers.{in_buckets-fresh}
+use Rattle.etagere_run.proofs.RunAnswers.RunsOn.{IsUnderWay, goes_further, starts, way-promises}
 
 -- a run to this state has kept its promises at each moment, and keeps them here
 pub record HasKept {S C : Type 0} (kind : Kind S C) (frame : Frame) (commands : List C) (replies : List Reply) (last : S) : Type 0 where

@@ -19,8 +19,8 @@ use Rattle.rearranging.specs.Arranging.{moved_from}
 use Rattle.rearranging.specs.declared.moves.Move.{Move}
 use Rattle.moves.specs.Caches.Arranging.{key_at, key_left, key_move, moved_cache, new_place}
 use Rattle.moves.specs.Caches.Private.ById.{ids_moved, keyed_left, keyed_move, keys_saved, saved_anew}
-use Rattle.moves.proofs.Caches.Entries.{Entries, ids_of, moved, names, names-ids}
-use Rattle.moves.proofs.Caches.Found.{filter_map-same, once-distinct, under}
+use Rattle.moves.proofs.MovedCaches.Entries.{Entries, ids_of, moved, names, names-ids}
+use Rattle.moves.proofs.MovedCaches.Found.{filter_map-same, once-distinct, under}
 
 -- a table that pairs with different ids went into has what stands under an id
 tabled : (pairs : List (ℕ × ℕ)) (get : ℕ → Option ℕ) → ((q : ℕ) → get q ≡ update_all nat_eq (λ _. None) pairs q)

@@ -29,7 +29,7 @@ use Rattle.atlas_pages.specs.Listing.{listed_places, on_page, places_from}
 use Rattle.atlas_pages.specs.Pages.{PagesState, page_frame}
 use Rattle.atlas_pages.specs.Places.{Places, is_allocated_on, rectangle_on}
 use Rattle.atlas_pages.specs.Promises.{IsPage, KeepsPagesPromises}
-use Rattle.atlas_pages.proofs.Runs.StepsTold.{among-ready, told-step}
+use Rattle.atlas_pages.proofs.PageRuns.StepsTold.{among-ready, told-step}
 use Rattle.atlas_pages.specs.declared.runs.commands.PageCommand.TheVariants.{Allocate}
 use Rattle.atlas_pages.specs.declared.runs.commands.PageReply.TheVariants.{Placed}
 use Rattle.atlas_pages.specs.Runs.Told.{are}

@@ -20,7 +20,7 @@ use Rattle.bucketed_model.specs.State.{Bucket, BucketShelf, BucketedState, Tag, 
 use Rattle.bucketed_model.specs.Svg.{drawn_after, drawn_along, drawn_bucket, svg}
 use Rattle.bucketed_model.specs.Taking.{allocation_in, first_bucket, prepared, spot_of}
 use Rattle.etagere_run.specs.Answers.Private.Renumbered.{renumbered, renumbered_bucket, renumbered_place, renumbered_shelf, renumbered_spot, renumbered_tag}
-use Rattle.etagere_run.proofs.Answers.Renumbered.RenumberedPlaces.{height-renumbered, idle-renumbered, in_use-renumbered, spot-renumbered, total-renumbered}
+use Rattle.etagere_run.proofs.RunAnswers.Renumbered.RenumberedPlaces.{height-renumbered, idle-renumbered, in_use-renumbered, spot-renumbered, total-renumbered}
 
 -- a bucket without its generation
 abbrev pub plain_bucket : Bucket → Bucket

@@ -10,7 +10,7 @@ use Rattle.shelf_model.specs.Places.{column_height, column_place}
 use Rattle.shelf_model.specs.State.{Item, Shelf, AtlasState}
 use Rattle.shelf_model.specs.Svg.{drawn_after, drawn_along, svg}
 use Rattle.etagere_run.specs.Answers.Private.Renamed.{renamed, renamed_item, renamed_shelf}
-use Rattle.etagere_run.proofs.Answers.Renamed.RenamedChoice.{column_height-renamed, free-renamed}
+use Rattle.etagere_run.proofs.RunAnswers.Renamed.RenamedChoice.{column_height-renamed, free-renamed}
 
 module _ (name : ℕ → ℕ) where
   -- a shelf is drawn alike

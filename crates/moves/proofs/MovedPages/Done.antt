@@ -7,8 +7,8 @@ use Rattle.atlas_pages.specs.declared.places.PagedAllocation.{PagedAllocation}
 use Rattle.atlas_pages.specs.Listing.{listed_places}
 use Rattle.atlas_pages.specs.Pages.{PagesState, no_pages}
 use Rattle.atlas_pages.specs.Promises.{KeepsPagesPromises}
-use Rattle.moves.proofs.Pages.Arranged.{arranges-kept, arranges-once, arranges-options, arranges-room, arranges-tied}
-use Rattle.moves.proofs.Pages.TiedLists.{tied-listed, tied-permuted}
+use Rattle.moves.proofs.MovedPages.Arranged.{arranges-kept, arranges-once, arranges-options, arranges-room, arranges-tied}
+use Rattle.moves.proofs.MovedPages.TiedLists.{tied-listed, tied-permuted}
 use Rattle.moves.specs.Pages.Arranging.{Arranges, HasRoom, IsRearranged, moved_from, moved_to}
 use Rattle.moves.specs.Pages.Order.{AreTallestFirst}
 use Rattle.moves.specs.Pages.Tied.{AreTiedOn}

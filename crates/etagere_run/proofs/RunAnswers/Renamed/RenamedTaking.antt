@@ -8,7 +8,7 @@ use Rattle.shelf_model.specs.Choice.{Placement}
 use Rattle.shelf_model.specs.State.{Item, Shelf, AtlasState, empty_shelf, items_in_use}
 use Rattle.shelf_model.specs.Taking.{item_pieces, shelf_pieces, taken, taken_shelf, taken_free_list}
 use Rattle.etagere_run.specs.Answers.Private.Renamed.{renamed, renamed_item, renamed_shelf}
-use Rattle.etagere_run.proofs.Answers.Renamed.RenamedChoice.{in_use-renamed}
+use Rattle.etagere_run.proofs.RunAnswers.Renamed.RenamedChoice.{in_use-renamed}
 
 -- what is replaced and then changed is what is changed and then replaced
 replaced-renamed : {X : Type 0} (change : X → X) (pieces others : X → List X) → ((x : X) → map change (pieces x) ≡ others (change x))

@@ -11,7 +11,7 @@ use Rattle.shelf_model.specs.Places.{column_place}
 use Rattle.shelf_model.specs.Returning.{freed, freed_in, freed_shelf, has_id, is_free_at, is_free_before, number_of, place_at, returned, returned_free_list}
 use Rattle.shelf_model.specs.State.{Item, Shelf, AtlasState, is_free, total_width}
 use Rattle.etagere_run.specs.Answers.Private.Renamed.{renamed, renamed_item, renamed_shelf}
-use Rattle.etagere_run.proofs.Answers.Renamed.RenamedChoice.{empty-renamed, free-renamed}
+use Rattle.etagere_run.proofs.RunAnswers.Renamed.RenamedChoice.{empty-renamed, free-renamed}
 
 -- a change that goes through a function goes through a list
 pub map-through : {X : Type 0} (change one other : X → X) → ((x : X) → change (one x) ≡ other (change x)) → (xs : List X)

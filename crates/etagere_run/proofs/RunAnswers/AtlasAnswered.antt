@@ -19,9 +19,9 @@ use Rattle.etagere_run.specs.Answers.AtlasRuns.{AtlasStep, atlas_effect, shelf_a
 use Rattle.etagere_run.specs.Answers.Live as effects
 use Rattle.etagere_run.specs.Answers.Live.{Entry, allocation_at, without}
 use Rattle.etagere_run.specs.Answers.Private.Tied.{HasAnswer, IsTied, SuitsRuns}
-use Rattle.etagere_run.proofs.Answers.BoundedRecords.{bounded-fresh, bounded-more}
-use Rattle.etagere_run.proofs.Answers.KeptSteps.{kept}
-use Rattle.etagere_run.proofs.Answers.AtlasAnswers.{AtlasStep-adds, atlas-steps, cleared, gone_back, grown, live-promises, looked, placed}
+use Rattle.etagere_run.proofs.RunAnswers.BoundedRecords.{bounded-fresh, bounded-more}
+use Rattle.etagere_run.proofs.RunAnswers.KeptSteps.{kept}
+use Rattle.etagere_run.proofs.RunAnswers.AtlasAnswers.{AtlasStep-adds, atlas-steps, cleared, gone_back, grown, live-promises, looked, placed}
 
 -- an answer of a shelf atlas
 abbrev Answers : ℕ → AtlasCommand → List Entry → AtlasState → Type 0

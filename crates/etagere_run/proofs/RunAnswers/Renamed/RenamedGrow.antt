@@ -11,8 +11,8 @@ use Rattle.shelf_model.specs.Growing.{added_columns, added_height, added_width, 
 use Rattle.shelf_model.specs.Merging.{merged}
 use Rattle.shelf_model.specs.State.{Item, Shelf, AtlasState, empty_shelf, is_empty, items_in_use}
 use Rattle.etagere_run.specs.Answers.Private.Renamed.{renamed, renamed_item, renamed_shelf}
-use Rattle.etagere_run.proofs.Answers.Renamed.RenamedChoice.{empty-renamed, free-renamed, in_use-renamed}
-use Rattle.etagere_run.proofs.Answers.Renamed.RenamedReturns.{map-through, merged-renamed}
+use Rattle.etagere_run.proofs.RunAnswers.Renamed.RenamedChoice.{empty-renamed, free-renamed, in_use-renamed}
+use Rattle.etagere_run.proofs.RunAnswers.Renamed.RenamedReturns.{map-through, merged-renamed}
 
 module _ (name : ℕ → ℕ) where
   -- what a new shelf and a new column have is free

@@ -19,8 +19,8 @@ use Rattle.etagere_run.specs.Answers.BucketedRuns.{BucketedStep, bucketed_atlas,
 use Rattle.etagere_run.specs.Answers.Live as effects
 use Rattle.etagere_run.specs.Answers.Live.{Entry, allocation_at, without}
 use Rattle.etagere_run.specs.Answers.Private.Tied.{HasAnswer, IsInBuckets, SuitsRuns}
-use Rattle.etagere_run.proofs.Answers.KeptSteps.{kept}
-use Rattle.etagere_run.proofs.Answers.BucketedAnswers.{BucketedStep-adds, bucketed-steps, cleared, gone_back, grown as has_grown, live-promises, placed}
+use Rattle.etagere_run.proofs.RunAnswers.KeptSteps.{kept}
+use Rattle.etagere_run.proofs.RunAnswers.BucketedAnswers.{BucketedStep-adds, bucketed-steps, cleared, gone_back, grown as has_grown, live-promises, placed}
 
 -- an answer of a bucketed atlas
 abbrev Answers : ℕ → BucketedCommand → List Entry → BucketedState → Type 0

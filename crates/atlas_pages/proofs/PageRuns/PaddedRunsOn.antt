@@ -17,7 +17,7 @@ use Rattle.atlas_pages.specs.declared.runs.commands.PageReply.{PageReply}
 use Rattle.atlas_pages.specs.declared.runs.commands.PageReply.TheVariants.{Placed, Refused, NoMemory, Returned, Unknown, Cleared, Grown, Fewer, Closed}
 use Rattle.atlas_pages.specs.Runs.PaddedRuns.{EveryRunKeepsPadding, MayAnswer, PaddedRuns, Step}
 use Rattle.atlas_pages.specs.Runs.Told.{Told, are, but_for, told_after, told_from, with_place}
-use Rattle.atlas_pages.proofs.Runs.StepsTold.{told-placed, told-step}
+use Rattle.atlas_pages.proofs.PageRuns.StepsTold.{told-placed, told-step}
 
 -- what was given trimmed is trimmed of what has the padding
 there-back : (place : ℤ) (pixels : ℕ) → (place -ℤ pos pixels) +ℤ pos pixels ≡ place

@@ -15,7 +15,7 @@ use Rattle.run_scripts.specs.declared.commands.Reply.TheVariants.{Placed}
 use Rattle.etagere_run.specs.Answers.Live.{Effect, Entry, live_after, live_allocations, live_from, peak, peak_after}
 use Rattle.etagere_run.specs.Answers.Runs.{IsGiven, KeepsPromisesIn, Kind, Runs, RunKeepsPromises, RunKeepsPromisesThroughout, Throughout, effects, live_in}
 use Rattle.etagere_run.specs.Answers.Private.Tied.{IsAnswerOf, IsAsked, SameAlignments, SuitsRuns}
-use Rattle.etagere_run.proofs.Answers.LiveEntries.{Each-after, live_from-more, peak_from-more}
+use Rattle.etagere_run.proofs.RunAnswers.LiveEntries.{Each-after, live_from-more, peak_from-more}
 
 -- an element of the front is one of the whole
 slice_get-front : {X : Type 0} (xs ys : List X) (n : ℕ) (x : X) → slice_get xs n ≡ Some x → slice_get (xs ++ ys) n ≡ Some x

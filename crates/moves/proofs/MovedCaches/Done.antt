@@ -23,8 +23,8 @@ use Rattle.moves.specs.Caches.Arranging.{HasMoved, IsLeftOut, key_at, key_left, 
 use Rattle.moves.specs.Caches.Private.Following.{Follows, IsMovedInto}
 use Rattle.moves.specs.declared.caches.moves.KeyMove.{KeyMove}
 use Rattle.moves.specs.declared.caches.moves.UnplacedKey.{UnplacedKey}
-use Rattle.moves.proofs.Caches.Entries.{Entries, ids_of, left-found, moved, moved-found, moved-keys, moved-length, moved-tied, name-found, names, names-ids, places, places-ids}
-use Rattle.moves.proofs.Caches.Found.{each-filter_map, each-map, found-total, mapped-some, present, under, under-absent, under-own, weigh}
+use Rattle.moves.proofs.MovedCaches.Entries.{Entries, ids_of, left-found, moved, moved-found, moved-keys, moved-length, moved-tied, name-found, names, names-ids, places, places-ids}
+use Rattle.moves.proofs.MovedCaches.Found.{each-filter_map, each-map, found-total, mapped-some, present, under, under-absent, under-own, weigh}
 
 -- the keys that are told for what moved, and for what was left
 told-moves : (old : CacheState) (key : ℕ) (moves : List Move)

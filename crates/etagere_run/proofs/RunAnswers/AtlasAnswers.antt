@@ -23,8 +23,8 @@ use Rattle.etagere_run.specs.Answers.AtlasRuns.{AtlasStep, LiveKeepsPromises, at
 use Rattle.etagere_run.specs.Answers.Live as effects
 use Rattle.etagere_run.specs.Answers.Live.{Entry, allocation_at, live_after, live_allocations, without}
 use Rattle.etagere_run.specs.Answers.Private.Tied.{IsAnswer, IsAsked, IsTied, SameAlignments}
-use Rattle.etagere_run.proofs.Answers.KeptSteps.{alignments-same, kept}
-use Rattle.etagere_run.proofs.Answers.LiveEntries.{last-adds, without-adds}
+use Rattle.etagere_run.proofs.RunAnswers.KeptSteps.{alignments-same, kept}
+use Rattle.etagere_run.proofs.RunAnswers.LiveEntries.{last-adds, without-adds}
 
 -- what is live at a position is found under its id
 found-at : (entries : List Entry) (state : AtlasState) (position : ℕ) (allocation : Allocation)

@@ -6,7 +6,7 @@ use Rattle.shelf_model.specs.State.{Shelf, AtlasState}
 use Rattle.shelf_model.proofs.Allocations.AllocatedIds.{times-not_allocated}
 use Rattle.shelf_model.proofs.Allocations.IdLists.{ids}
 use Rattle.etagere_run.specs.Answers.Private.Renamed.{renamed, renamed_shelf}
-use Rattle.etagere_run.proofs.Answers.Renamed.OtherNames.{allocated-renamed, exchanged-apart, exchanged-none, exchanged-one, shelves-agree, with_name}
+use Rattle.etagere_run.proofs.RunAnswers.Renamed.OtherNames.{allocated-renamed, exchanged-apart, exchanged-none, exchanged-one, shelves-agree, with_name}
 
 -- numbers for ids that agree with others on what is allocated, and give a new id this one
 pub record HasNewName (name : ℕ → ℕ) (one other : AtlasState) (id number : ℕ) : Type 0 where
