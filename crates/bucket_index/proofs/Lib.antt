@@ -1,5 +1,6 @@
 pub mod KnownBlocks
 pub mod KnownSpans
+pub mod LimitedWaste
 pub mod LinkedRecords
 pub mod OtherShelves
 pub mod PassedShelves

@@ -3,10 +3,9 @@
 //! Definitions: `Searching`, and `Picking` for what it means. No bucket is looked at of a shelf that one
 //! comparison tells has none that is wanted.
 
-ghost use Rattle.std.specs.Prelude.{◌≡◌, ◌+◌, ◌<◌, ◌≤◌, IfSome, IsTrue, length, map, max, min, take, drop};
+ghost use Rattle.std.specs.Prelude.{◌≡◌, ◌+◌, ◌^◌, ◌<◌, ◌≤◌, IfSome, IsTrue, length, map, max, min, take, drop};
 ghost use Rattle.etagere_base.specs.Least.{first_least};
 ghost use Rattle.etagere_links.specs.Links.{no_link};
-ghost use Rattle.etagere_base.specs.Least as least;
 ghost use Rattle.bucketed_model.specs.Picking.{or_else};
 ghost use Rattle.bucketed_model.specs.State.{most_buckets};
 ghost use Rattle.bucket_index.specs.Private.Blocks.{AreKnown};
@@ -256,19 +255,36 @@ pub fn has_room(room: u16, buckets: &[LinkedBucket], first: Link) -> bool
     false
 }
 
-/// The height that a shelf wastes where it is eligible and has room.
-fn waste(adds: bool, sides: &Sides, kept: &KeptShelf) -> Option<u32>
-    ensures { result ≡ spec.kept_waste adds sides.now kept.now }
+/// The height that a shelf wastes where it has room and that is below a limit.
+fn waste_below(limit: u32, sides: &Sides, kept: &KeptShelf) -> Option<u32>
+    ensures value { result ≡ spec.waste_below limit sides.now kept.now }
+    ensures small { kept.now.shelf.height < 2 ^ 16 }
 {
     let height = u32::from(kept.shelf.height);
-    if u32::from(kept.widest_room) < sides.along || height < sides.across {
+    if height < sides.across || limit <= height - sides.across {
         return None;
     }
-    let waste = height - sides.across;
-    if (adds && sides.across < waste) || u32::from(kept.shelf.bucket_width) < sides.along {
+    if u32::from(kept.widest_room) < sides.along
+        || u32::from(kept.shelf.bucket_width) < sides.along
+    {
         return None;
     }
-    Some(waste)
+    Some(height - sides.across)
+}
+
+/// A shelf has to waste less height than this to be chosen, where this was found before it.
+fn limit_beside(adds: bool, sides: &Sides, best: &Option<Least>) -> u32
+    ensures { result ≡ spec.limit_beside adds sides.now best.now }
+{
+    let limit = if adds {
+        sides.across.saturating_add(1)
+    } else {
+        u32::MAX
+    };
+    match best {
+        Some(least) => least.rank.min(limit),
+        None => limit,
+    }
 }
 
 /// The shelf that wastes the least height, the first of such. Blocks in which none has room are passed over, and the
@@ -310,11 +326,13 @@ fn least_in(
         ≡ first_least (map (spec.kept_waste adds sides.now) (take (from + 8) shelves.now)) }
 {
     let mut best = best;
+    let mut limit = limit_beside(adds, sides, &best);
     for number in from..shelves.len().min(from + SHELVES_OF_BLOCK) {
-        let Some(rank) = waste(adds, sides, &shelves[number]) else {
+        let Some(rank) = waste_below(limit, sides, &shelves[number]) else {
             continue;
         };
-        best = better(best, number, rank);
+        best = Some(Least { number, rank });
+        limit = rank;
         if rank == 0 {
             break;
         }
@@ -329,16 +347,6 @@ fn wastes_nothing(best: &Option<Least>) -> bool
     match best {
         Some(least) => least.rank == 0,
         None => false,
-    }
-}
-
-/// What was found before, unless the next shelf, which wastes so much, wastes less.
-fn better(best: Option<Least>, number: usize, rank: u32) -> Option<Least>
-    ensures { result ≡ least.better best (Some (record { number = number; rank = rank })) }
-{
-    match best {
-        Some(found) if found.rank <= rank => Some(found),
-        _ => Some(Least { number, rank }),
     }
 }
 

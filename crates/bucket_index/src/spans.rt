@@ -442,10 +442,11 @@ impl Spans {
 
     /// Whether something is known of the small block of the record that a link names.
     pub fn knows(&self, link: Link) -> bool {
-        match link.number() {
-            Some(number) => self.knows_block(number),
-            None => false,
-        }
+        self.are_learned
+            && match link.number() {
+                Some(number) => self.knows_block(number),
+                None => false,
+            }
     }
 
     /// Whether a span begins with the record that a link names.

@@ -1,5 +1,5 @@
 -- Searching among records: what is found, by the links that are followed.
-use Rattle.std.specs.Prelude.{ℕ, zero, suc, ◌-◌, max, Bool, false, ◌&&◌, not, Option, None, Some, option_map, option_and_then, unwrap_or, List, [], ◌∷◌, map, drop, slice_get, nat_le, nat_lt, ◌==◌, if◌then◌else◌}
+use Rattle.std.specs.Prelude.{ℕ, zero, suc, ◌-◌, ◌+◌, ◌^◌, max, min, Bool, false, ◌&&◌, not, Option, None, Some, option_map, option_and_then, unwrap_or, List, [], ◌∷◌, map, drop, slice_get, nat_le, nat_lt, ◌==◌, if◌then◌else◌}
 use Rattle.std.specs.Option.{option_map_or}
 use Rattle.etagere_base.specs.declared.sides.Sides.{Sides}
 use Rattle.etagere_base.specs.Least.{first_least, Found as Least}
@@ -60,6 +60,25 @@ kept_waste adds sides kept =
     && nat_le sides.along kept.widest_room
     then Some (kept.shelf.height - sides.across)
     else None
+
+-- the height that a shelf wastes where it has room and that is below a limit
+abbrev pub waste_below : ℕ → Sides → KeptShelf → Option ℕ
+waste_below limit sides kept =
+    if (nat_le sides.across kept.shelf.height
+    && (nat_le sides.along kept.shelf.bucket_width && nat_le sides.along kept.widest_room))
+    && nat_lt (kept.shelf.height - sides.across) limit
+    then Some (kept.shelf.height - sides.across)
+    else None
+
+-- a shelf that may be chosen wastes less height than this
+abbrev pub most_waste : Bool → Sides → ℕ
+most_waste adds sides = if adds then min (sides.across + 1) (2 ^ 32 - 1) else 2 ^ 32 - 1
+
+-- the same where something was found before it, that it has to be better than
+abbrev pub limit_beside : Bool → Sides → Option Least → ℕ
+limit_beside adds sides best =
+    option_map_or (λ (least : Least). min least.rank (most_waste adds sides)) best
+    (most_waste adds sides)
 
 -- a shelf was found that wastes nothing
 abbrev pub wastes_nothing : Option Least → Bool

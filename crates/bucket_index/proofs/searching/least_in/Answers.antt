@@ -1,12 +1,14 @@
-use Rattle.std.proofs.Common.{◌≡◌, ℕ, suc, ◌+◌, ◌-◌, ◌<◌, add-one, Bool, true, false, nat_lt, Option, None, Some, List, length, get_or, map, take, refl, ap, sym, ◌∙◌, arith}
+use Rattle.std.proofs.Common.{◌≡◌, ℕ, suc, ◌+◌, ◌-◌, ◌<◌, add-one, Bool, true, Option, None, Some, List, length, get_or, map, take, refl, ap, sym, ◌∙◌, arith}
 use Rattle.std.proofs.lemmas.Option.{slice_get-get_or, slice_get_read}
-use Rattle.std.proofs.lemmas.Bool.Decides.{nat_tests}
-use Rattle.std.specs.Prelude.{option_map, slice_get}
+use Rattle.std.specs.Option.{option_map_or}
+use Rattle.std.specs.Prelude.{option_map, slice_get, ◌^◌}
+use Rattle.etagere_base.specs.declared.sides.Sides.{Sides}
 use Rattle.etagere_base.specs.Least.{Found, better, first_least}
 use Rattle.etagere_base.proofs.Least.{best-more}
 use Rattle.bucketed_records.specs.declared.records.KeptShelf.{KeptShelf}
-use Rattle.bucket_index.specs.Private.Searching.{kept_waste, wastes_nothing}
-use Rattle.bucket_index.proofs.Searched.{best-done, better-same}
+use Rattle.bucket_index.specs.Private.Searching.{kept_waste, limit_beside, waste_below, wastes_nothing}
+use Rattle.bucket_index.proofs.LimitedWaste.{at_rank, limit-next, limited}
+use Rattle.bucket_index.proofs.Searched.{best-done}
 use Rattle.bucket_index.proofs.searching.least_in.Goals as goal
 
 -- the best with one shelf more, of which this is the rank
@@ -26,50 +28,57 @@ ranked rank shelves number kept best r within at is so_far =
     ap (λ (o : Option Found). better o (option_map (λ n. record { number = number; rank = n }) r)) so_far
     ∙ sym (more-ranked rank shelves number kept r within at is)
 
+-- one shelf more, whose height fits 16 bits, by the limit that the best so far makes
+stepped : (adds : Bool) (sides : Sides) (shelves : List KeptShelf) (number limit : ℕ) (kept : KeptShelf) (best : Option Found) (below : Option ℕ) → number < length shelves
+    → slice_get shelves number ≡ Some kept → kept.shelf.height < 2 ^ 16 → best ≡ first_least (map (kept_waste adds sides) (take number shelves)) → limit ≡ limit_beside adds sides best
+    → below ≡ waste_below limit sides kept
+    → option_map_or (λ rank. Some (at_rank number rank)) below best ≡ first_least (map (kept_waste adds sides) (take (suc number) shelves))
+stepped adds sides shelves number limit kept best below within at small so_far limits is =
+    ap (λ (o : Option ℕ). option_map_or (λ rank. Some (at_rank number rank)) o best) (is ∙ ap (λ (n : ℕ). waste_below n sides kept) limits)
+    ∙ sym (limited adds sides kept best number small)
+    ∙ ranked (kept_waste adds sides) shelves number kept best (kept_waste adds sides kept) within at refl so_far
+
 pub loop-number-preserved-in_default : goal.loop-number-preserved-in_default
 loop-number-preserved-in_default c =
     let shelves = c.args.shelves.now in
     let number = c.loop-number.number in
+    let kept = c.index-shelves-number.result in
     let within : number < length shelves = omega (arith, c.loop-number-test.true, c.min-number-end.ensures) in
-    rw add-one
-    (sym (better-same c.loop-number.best)
-    ∙ ranked (kept_waste c.args.adds c.args.sides.now) shelves number c.index-shelves-number.result c.loop-number.best None within
-    (slice_get_read shelves (length shelves) number c.index-shelves-number.result refl within c.index-shelves-number.is)
-    (sym c.waste.ensures ∙ c.in_default.is) c.loop-number.invariant)
+    record {
+      best = rw add-one
+          (stepped c.args.adds c.args.sides.now shelves number c.loop-number.limit kept c.loop-number.best None within
+          (slice_get_read shelves (length shelves) number kept refl within c.index-shelves-number.is) c.waste_below.ensures.small c.loop-number.invariant.best c.loop-number.invariant.limit
+          (sym c.in_default.is ∙ c.waste_below.ensures.value));
+      limit = c.loop-number.invariant.limit;
+    }
 
 pub loop-number-preserved : goal.loop-number-preserved
 loop-number-preserved c =
     let shelves = c.args.shelves.now in
     let number = c.loop-number.number in
+    let kept = c.index-shelves-number.result in
     let within : number < length shelves = omega (arith, c.loop-number-test.true, c.min-number-end.ensures) in
-    rw add-one
-    (c.better-best.ensures
-    ∙ ranked (kept_waste c.args.adds c.args.sides.now) shelves number c.index-shelves-number.result c.loop-number.best (Some c.in-Some.rank) within
-    (slice_get_read shelves (length shelves) number c.index-shelves-number.result refl within c.index-shelves-number.is)
-    (sym c.waste.ensures ∙ c.in-Some.is) c.loop-number.invariant)
-
--- what wastes nothing is not wasted less
-no-waste : (best : Option Found) (number rank : ℕ) → rank ≡ 0 → wastes_nothing (better best (Some (record { number = number; rank = rank }))) ≡ true
-no-waste None number rank none = rw none refl
-no-waste (Some found) number rank none = by_test (nat_lt rank found.rank) refl
-  where
-    by_test : (t : Bool) → nat_lt rank found.rank ≡ t → wastes_nothing (better (Some found) (Some (record { number = number; rank = rank }))) ≡ true
-    by_test true e = rw (e, none) refl
-    by_test false e =
-        let lowest : found.rank ≡ 0 = grind (arith, nat_tests) in
-        rw (e, lowest) refl
+    let below = sym c.in-Some.is ∙ c.waste_below.ensures.value in
+    record {
+      best = rw add-one
+          (stepped c.args.adds c.args.sides.now shelves number c.loop-number.limit kept c.loop-number.best (Some c.in-Some.rank) within
+          (slice_get_read shelves (length shelves) number kept refl within c.index-shelves-number.is) c.waste_below.ensures.small c.loop-number.invariant.best c.loop-number.invariant.limit below);
+      limit = sym (limit-next c.args.adds c.args.sides.now kept c.loop-number.best number c.in-Some.rank
+          (ap (λ (n : ℕ). waste_below n c.args.sides.now kept) (sym c.loop-number.invariant.limit) ∙ sym below));
+    }
 
 pub returns-then-rank-eq0 : goal.returns-then-rank-eq0
 returns-then-rank-eq0 c =
     let shelves = c.args.shelves.now in
     let number = c.loop-number.number in
+    let kept = c.index-shelves-number.result in
     let rank = kept_waste c.args.adds c.args.sides.now in
     let within : number < length shelves = omega (arith, c.loop-number-test.true, c.min-number-end.ensures) in
     let end : suc number + (c.args.from + 8 - suc number) ≡ c.args.from + 8 = omega (arith, c.loop-number-test.true, c.min-number-end.ensures) in
-    let best : c.better-best.result ≡ first_least (map rank (take (suc number) shelves)) =
-    c.better-best.ensures
-    ∙ ranked rank shelves number c.index-shelves-number.result c.loop-number.best (Some c.in-Some.rank) within
-    (slice_get_read shelves (length shelves) number c.index-shelves-number.result refl within c.index-shelves-number.is)
-    (sym c.waste.ensures ∙ c.in-Some.is) c.loop-number.invariant in
-    let done : wastes_nothing c.better-best.result ≡ true = ap wastes_nothing c.better-best.ensures ∙ no-waste c.loop-number.best number c.in-Some.rank c.if-rank-eq0.true in
-    sym (ap (λ (k : ℕ). first_least (map rank (take k shelves))) (sym end) ∙ best-done rank shelves c.better-best.result (suc number) (c.args.from + 8 - suc number) (sym best) done)
+    let best : Some (at_rank number c.in-Some.rank) ≡ first_least (map rank (take (suc number) shelves)) =
+    stepped c.args.adds c.args.sides.now shelves number c.loop-number.limit kept c.loop-number.best (Some c.in-Some.rank) within
+    (slice_get_read shelves (length shelves) number kept refl within c.index-shelves-number.is) c.waste_below.ensures.small c.loop-number.invariant.best c.loop-number.invariant.limit
+    (sym c.in-Some.is ∙ c.waste_below.ensures.value) in
+    let done : wastes_nothing (Some (at_rank number c.in-Some.rank)) ≡ true = rw c.if-rank-eq0.true refl in
+    sym (ap (λ (k : ℕ). first_least (map rank (take k shelves))) (sym end)
+    ∙ best-done rank shelves (Some (at_rank number c.in-Some.rank)) (suc number) (c.args.from + 8 - suc number) (sym best) done)
