@@ -56,57 +56,21 @@ module _ (a k : ℕ) (xs ys : List ℕ) (starts : a ≤ length xs) where
         within,
       )
 
--- a stretch of 64 behind which all stand one further moves up by one too
-module _ (end : ℕ) (old xs ys : List ℕ) (long : 64 ≤ end) (within : end < length xs) (same : length xs ≡ length old)
-    (below : (n : ℕ) → n ≤ end → get_or xs n 0 ≡ get_or old n 0)
-    (above : (n : ℕ) → end ≤ n → n + 1 < length old → get_or xs (n + 1) 0 ≡ get_or old n 0)
-    (size : length ys ≡ end + 1 - (end - 64))
-    (first : get_or ys 0 0 ≡ get_or (mid_of (end - 64) (end + 1 - (end - 64)) xs) 0 0)
-    (moved : (n : ℕ) → n < 64 → get_or ys (n + 1) 0 ≡ get_or (mid_of (end - 64) (end + 1 - (end - 64)) xs) n 0) where
-  abbrev pub a : ℕ
-  a = end - 64
-
-  abbrev pub k : ℕ
-  k = end + 1 - a
-
-  abbrev pub new : List ℕ
-  new = put_mid a k xs ys
-
-  pub moved-below : (n : ℕ) → n ≤ a → get_or new n 0 ≡ get_or old n 0
-  moved-below n before = by_cases (nat_lt n a) refl
-    where
-      by_cases : (b : Bool) → nat_lt n a ≡ b → get_or new n 0 ≡ get_or old n 0
-      by_cases true e = put-before a k xs ys (omega arith) n (grind (arith, nat_tests)) ∙ below n (omega (arith, before))
-      by_cases false e =
-          let here : n ≡ a + 0 = grind (arith, nat_tests) in
-          ap (λ m. get_or new m 0) here
-          ∙ put-within a k xs ys (omega arith) 0 (omega (arith, size))
-          ∙ first
-          ∙ mid-at a k 0 xs (omega arith)
-          ∙ ap (λ m. get_or xs m 0) (sym here)
-          ∙ below n (omega (arith, before))
-
-  pub moved-above : (n : ℕ) → a ≤ n → n + 1 < length old → get_or new (n + 1) 0 ≡ get_or old n 0
-  moved-above n after fits = by_cases (nat_lt n end) refl
-    where
-      by_cases : (b : Bool) → nat_lt n end ≡ b → get_or new (n + 1) 0 ≡ get_or old n 0
-      by_cases true e =
-          let less : n < end = grind (arith, nat_tests) in
-          let next : n + 1 ≡ a + (n - a + 1) = omega (arith, after) in
-          let here : a + (n - a) ≡ n = omega (arith, after) in
-          ap (λ m. get_or new m 0) next
-          ∙ put-within a k xs ys (omega arith) (n - a + 1) (omega (arith, size, less, after))
-          ∙ moved (n - a) (omega (arith, less, after))
-          ∙ mid-at a k (n - a) xs (omega (arith, less, after))
-          ∙ ap (λ m. get_or xs m 0) here
-          ∙ below n (omega (arith, less))
-      by_cases false e =
-          let more : end ≤ n = grind (arith, nat_tests) in
-          put-behind a k xs ys (omega arith) (n + 1) size (omega (arith, more)) ∙ above n more fits
+  -- where those in the part moved up by one, each stands one position behind where it stood
+  pub put-risen : (n : ℕ) → length ys ≡ k → ((m : ℕ) → m + 1 < k → get_or ys (m + 1) 0 ≡ get_or (mid_of a k xs) m 0)
+      → a ≤ n → n + 1 < a + k → get_or (put_mid a k xs ys) (n + 1) 0 ≡ get_or xs n 0
+  put-risen n same moved after before =
+      let next : n + 1 ≡ a + (n - a + 1) = omega (arith, after) in
+      let here : a + (n - a) ≡ n = omega (arith, after) in
+      ap (λ m. get_or (put_mid a k xs ys) m 0) next
+      ∙ put-within (n - a + 1) (omega (arith, same, before, after))
+      ∙ moved (n - a) (omega (arith, before, after))
+      ∙ mid-at a k (n - a) xs (omega (arith, before, after))
+      ∙ ap (λ m. get_or xs m 0) here
 
 -- where all from a position on moved up by one behind a list that was longer by one, a number that is written there was put in
 pub shifted-insert : (old shifted : List ℕ) (index number : ℕ) → index ≤ length old → length shifted ≡ length old + 1
-    → ((n : ℕ) → n ≤ index → get_or shifted n 0 ≡ get_or (old ++ number ∷ []) n 0)
+    → ((n : ℕ) → n < index → get_or shifted n 0 ≡ get_or (old ++ number ∷ []) n 0)
     → ((n : ℕ) → index ≤ n → n < length old → get_or shifted (n + 1) 0 ≡ get_or (old ++ number ∷ []) n 0)
     → set shifted index number ≡ insert old index number
 shifted-insert old shifted index number within longer below above =
@@ -121,7 +85,7 @@ shifted-insert old shifted index number within longer below above =
             let less : n < index = grind (arith, nat_tests) in
             let other : n ≢ index = λ same. omega (arith, less, same) in
             get_or-set_other shifted index n number 0 other
-            ∙ below n (omega (arith, less))
+            ∙ below n less
             ∙ get_or_append_left old (number ∷ []) 0 n (omega (arith, less, within))
             ∙ sym (get_or-insert_below old index number 0 n less within)
         by_cases false false e f =
