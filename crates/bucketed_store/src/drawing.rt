@@ -135,7 +135,8 @@ fn push_buckets<W: Write>(
     Ok(())
 }
 
-/// Adds the lines of every bucket.
+/// Adds the lines of every bucket. Never inlined: it is called once for a picture, and what draws one is long.
+#[inline(never)]
 fn push_shelves<W: Write>(
     text: &mut GatheredText,
     frame: &Frame,
