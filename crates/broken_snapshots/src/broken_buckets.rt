@@ -5,8 +5,8 @@ ghost use Rattle.std.specs.Prelude.{◌≤◌};
 use crate::axes::{lengths, step};
 use crate::broken_records::{Breach, breach_at};
 use crate::record_walks::{End, Record};
-use snapshot_records::buckets::BucketedSnapshot;
 use etagere_base::RestoreFault;
+use snapshot_records::buckets::BucketedSnapshot;
 use std::alloc::{AllocError, Global};
 
 /// What a walk along a list of buckets meets, what leads to the first, and how it ends.

@@ -34,9 +34,9 @@ use bucketed_records::records::{
     KeptShelf, LinkedBucket, LinkedBucketShelf, MOST_BUCKETS, record_room,
 };
 use bucketed_records::saving::{saved_buckets, saved_shelves};
-use snapshot_records::buckets::{BucketRecord, BucketShelfRecord};
 use etagere_base::{AllocId, Allocation, Frame, Sides, rectangle_at};
 use etagere_links::Link;
+use snapshot_records::buckets::{BucketRecord, BucketShelfRecord};
 use std::alloc::{AllocError, Global};
 use std::marker::Model;
 

@@ -40,7 +40,6 @@ use bucketed_records::records::MOST_BUCKETS;
 use bucketed_records::saving::LinkedSnapshot;
 use bucketed_records::snapshots::{Totals, snapshot_of};
 use bucketed_restoring::restoring::JudgedSnapshot;
-use snapshot_records::buckets::BucketedSnapshot;
 use bucketed_store::drawing::push_store;
 use bucketed_store::placing::placement_of;
 use bucketed_store::refusing::place_refusal;
@@ -52,6 +51,7 @@ use etagere_base::{
     RestoreFault, Sides, Size, UnknownId, asked, grown_frame, options_fault,
 };
 use pictures::{GatheredText, Pictured, send_document, send_into};
+use snapshot_records::buckets::BucketedSnapshot;
 use std::alloc::{AllocError, Global};
 use std::io::{self, Write};
 use std::marker::Model;

@@ -12,8 +12,8 @@ ghost use Rattle.bucketed_restoring.specs.RestoringSteps.{IsRead, links_of_all};
 use crate::atlas::BucketedAtlasAllocator;
 use bucketed_records::saving::LinkedSnapshot;
 use bucketed_restoring::restoring::judged_snapshot;
-use snapshot_records::buckets::BucketedSnapshot;
 use etagere_base::RestoreFault;
+use snapshot_records::buckets::BucketedSnapshot;
 use std::alloc::Global;
 
 /// Makes an atlas from a snapshot, as `BucketedAtlasAllocator::restore` does, and counts the links that it reads. It is
