@@ -7,8 +7,6 @@
 #
 # They are kept in out/, or in the user's cache where the checkout can't be written to. Where `rt` isn't in the path, a
 # program that was kept of these sources is run, whichever toolchain made it; else the one that was released in dist/.
-#
-# `etagere_run`, `etagere_draw` and `glyph_run` are one program, which does what the name asks for that it is called by.
 
 # The checkout, and where programs are kept if that can't be written to: all that the functions share.
 root=$(dirname -- "$(dirname -- "$(readlink -f -- "${BASH_SOURCE[0]}")")")
@@ -83,20 +81,11 @@ kept() {
     done
 }
 
-# Prints the crate of the program $1.
-crate_of() {
-    case $1 in
-    etagere) echo etagere_cli ;;
-    etagere_run | etagere_draw | glyph_run) echo etagere_run_cli ;;
-    *) echo "$1" ;;
-    esac
-}
-
-# Prints the path of the released program $1, and says which version it is and whether of these sources.
+# Prints the path of the released program of the crate $1, and says which version it is and whether of these sources.
 released() {
-    local name=bin/$1 made=$root/dist/MADE_OF sources=other
+    local name=bin/${1%_cli} made=$root/dist/MADE_OF sources=other
     [[ -x $root/dist/$name && -f $made ]] || return 0
-    ! grep -qxF -- "$name $(sources_sum "$(crate_of "$1")")" "$made" || sources=these
+    ! grep -qxF -- "$name $(sources_sum "$1")" "$made" || sources=these
     say "runs the released program, $(head -n 1 -- "$made"), made of $sources sources: rt isn't in PATH"
     echo "$root/dist/$name"
 }
@@ -203,11 +192,10 @@ build() (
     keep "$room/program" "$2" "$1"
 )
 
-# Prints the path of the program $1: the proved one if it is there, else an unproved one, which is built where it has to
-# be, or the released one where that can't be.
+# Prints the path of the program of the crate $1: the proved one if it is there, else an unproved one, which is built
+# where it has to be, or the released one where that can't be.
 program_of() {
-    local crate name program
-    crate=$(crate_of "$1")
+    local crate=$1 name program
     name=$(name_of "$crate")
     program=$(kept "$name-proved")
     if [[ -z $program ]] && is_left_by_run "$crate"; then
@@ -216,24 +204,11 @@ program_of() {
     fi
     program=${program:-$(kept "$name")}
     if [[ -z $program ]] && ! has_toolchain; then
-        program=$(released "$1")
+        program=$(released "$crate")
         [[ -n $program ]] || give_up "no program is kept of these sources or released, and the toolchain's rt isn't in PATH"
     elif [[ -z $program ]]; then
         build "$crate" "$name" || exit
         program=$(kept "$name")
-    fi
-    echo "$program"
-}
-
-# Prints a path by which the program $1 is called by its name, which some go by: a link, where it is kept under another.
-named_program() {
-    local program folder
-    program=$(program_of "$1") || return
-    folder=$(dirname -- "$program")/named/$(basename -- "$program")
-    if [[ ${program##*/} != "$1" ]]; then
-        mkdir -p -- "$folder"
-        ln -sfn -- "$program" "$folder/$1"
-        program=$folder/$1
     fi
     echo "$program"
 }
@@ -254,11 +229,11 @@ library_folder() {
     fi
 }
 
-# Runs the program $1 with the other arguments, in place of this script and under that name.
+# Runs the program of the crate $1 with the other arguments, in place of this script and under its name.
 run_program() {
-    local name=$1 program
+    local crate=$1 program
     shift
-    program=$(program_of "$name") || exit
+    program=$(program_of "$crate") || exit
     [[ ! -t 0 || ($# != 0 && $* != check) ]] || say "reads standard input, up to its end"
-    exec -a "$name" "$program" "$@"
+    exec -a "$0" "$program" "$@"
 }

@@ -32,9 +32,9 @@ def shell(command):
     return done.stdout.strip()
 
 
-def path_of(name):
-    """The path of the program of a name: the proved one, where it was kept, else one that is built unproved."""
-    return shell(f"source tool/programs.bash; named_program {name}")
+def path_of(crate):
+    """The path of the program of a crate: the proved one, where it was kept, else one that is built unproved."""
+    return shell(f"source tool/programs.bash; program_of {crate}")
 
 
 def make_library(room):
@@ -45,8 +45,8 @@ def make_library(room):
 
 
 class Program:
-    def __init__(self, name, library, *arguments):
-        self.command = [path_of(name), *arguments]
+    def __init__(self, crate, library, *arguments):
+        self.command = [path_of(crate), *arguments]
         self.library = library
 
     def run(self, text, number=0, from_there=False):

@@ -1,90 +1,72 @@
-//! One program under three names: called as `etagere_draw` it draws what standard input has, as `glyph_run` it replays
-//! that on a cache of glyph places, and under any other name it replays it on an atlas, or checks the snapshot that it is.
-//! Statuses and words are the libraries': only what the name and the arguments ask for is decided here.
+//! Replays the script of standard input to standard output, or checks the snapshot that it has.
+//! Statuses and words are the library's: only what the arguments ask for is decided here.
 #![tactic(auto)]
 
-mod drawing;
-mod ending;
-mod replaying;
-
-use drawing::draw_input;
-use ending::{say, say_fault};
-use etagere_run::ReplayFault;
-use replaying::{Replayed, check_input, replay_input};
+use etagere_run::{ReplayFault, check, replay};
+use std::io::{BufWriter, Write};
 use std::process::ExitCode;
 use std::rt::Env;
 use std::{env, io};
 
 fn main(rt: HostRuntime) -> ExitCode {
     match asked(&rt) {
-        Ok(Task::Replay(replayed)) => replay_input(&rt, replayed),
-        Ok(Task::Check) => check_input(&rt),
-        Ok(Task::Draw) => draw_input(&rt),
-        Ok(Task::TellUsage(program)) => say(&rt, program.usage(), 2),
-        Err(_) => say_fault(&rt, ReplayFault::Read),
+        Ok(Some(Task::Replay)) => ended(&rt, replay_input(&rt)),
+        Ok(Some(Task::Check)) => ended(&rt, check_input(&rt)),
+        Ok(None) => {
+            let _ = rt.eprintln("usage: etagere_run [check]");
+            ExitCode::from(2)
+        }
+        Err(_) => ended(&rt, Err(ReplayFault::Read)),
     }
 }
 
 /// What the program is to do.
 #[derive(Clone, Copy, Debug)]
 enum Task {
-    Replay(Replayed),
+    Replay,
     Check,
-    Draw,
-    TellUsage(Program),
 }
 
-/// What the name and the arguments ask for.
-fn asked(rt: &(impl Env + AllocGlobal)) -> io::Result<Task> {
-    let mut arguments = env::args(rt)?;
-    let program = match arguments.next() {
-        Some(name) => Program::of(name.as_str()),
-        None => Program::Run,
-    };
+/// What the arguments ask for, if anything.
+fn asked(rt: &(impl Env + AllocGlobal)) -> io::Result<Option<Task>> {
+    let mut arguments = env::args(rt)?.skip(1);
     let Some(word) = arguments.next() else {
-        return Ok(program.task());
+        return Ok(Some(Task::Replay));
     };
     let is_check = word.as_str() == "check" && arguments.next().is_none();
-    Ok(match program {
-        Program::Run if is_check => Task::Check,
-        _ => Task::TellUsage(program),
-    })
+    Ok(is_check.then_some(Task::Check))
 }
 
-/// The program that is meant by a name.
-#[derive(Clone, Copy, Debug)]
-enum Program {
-    Run,
-    Draw,
-    Glyphs,
+/// The status of a replay that wrote its text. The library writes line by line, and here lines are gathered.
+fn replay_input(rt: &(impl Input + Print + AllocGlobal)) -> Result<u8, ReplayFault> {
+    let gathering = BufWriter::new(rt.alloc(), io::writer(rt));
+    let mut writer = gathering.map_err(|_| ReplayFault::Memory)?;
+    let ended = replay_to(rt, &mut writer);
+    // Dropped as it is, it would try once more to write what a failed write left.
+    let _ = writer.into_parts();
+    ended
 }
 
-impl Program {
-    /// The program of the name, or of the path, that it is called by.
-    fn of(name: &str) -> Program {
-        if name.ends_with("etagere_draw") {
-            Program::Draw
-        } else if name.ends_with("glyph_run") {
-            Program::Glyphs
-        } else {
-            Program::Run
-        }
-    }
+/// The status of a replay that wrote its text to this writer, which was then flushed.
+fn replay_to(rt: &(impl Input + AllocGlobal), writer: &mut impl Write) -> Result<u8, ReplayFault> {
+    let outcome = replay(rt.alloc(), &mut rt.reader(), writer)?;
+    writer.flush().map_err(|_| ReplayFault::Write)?;
+    Ok(outcome.status())
+}
 
-    /// What it does without arguments.
-    fn task(self) -> Task {
-        match self {
-            Program::Run => Task::Replay(Replayed::OnAtlas),
-            Program::Draw => Task::Draw,
-            Program::Glyphs => Task::Replay(Replayed::OnCache),
-        }
-    }
+/// The status of a check that wrote its line.
+fn check_input(rt: &(impl Input + Print + AllocGlobal)) -> Result<u8, ReplayFault> {
+    let checked = check(rt.alloc(), &mut rt.reader(), &mut io::writer(rt))?;
+    Ok(checked.status())
+}
 
-    fn usage(self) -> &'static str {
-        match self {
-            Program::Run => "usage: etagere_run [check]",
-            Program::Draw => "usage: etagere_draw",
-            Program::Glyphs => "usage: glyph_run",
+/// Says why nothing more was written, if so.
+fn ended(rt: &impl Eprint, status: Result<u8, ReplayFault>) -> ExitCode {
+    match status {
+        Ok(status) => ExitCode::from(status),
+        Err(why) => {
+            let _ = rt.eprintln(why.words());
+            ExitCode::from(why.status())
         }
     }
 }
