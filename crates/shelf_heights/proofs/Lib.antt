@@ -1,1 +1,3 @@
 pub mod ByHeight
+pub mod Followed
+pub mod Noted

@@ -3,3 +3,4 @@ pub mod ByHeight
 pub mod FrontRoom
 pub mod ListFields
 pub mod OneBound
+pub mod Pending
