@@ -1,3 +1,4 @@
 pub mod ByHeight
 pub mod Followed
 pub mod Noted
+pub mod NotedShelves

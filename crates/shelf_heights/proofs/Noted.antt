@@ -28,7 +28,12 @@ known-within [] k so = absurd (cc)
 known-within (x ∷ xs) zero so = omega arith
 known-within (x ∷ xs) (suc k) so = omega (arith, known-within xs k so)
 
-once-le : (so : Bool) → once_where so ≤ 1
+pub in_use-within : (standing : List Standing) (k : ℕ) → (standing_at standing k).in_use ≡ true → k < length standing
+in_use-within [] k so = absurd (cc)
+in_use-within (x ∷ xs) zero so = omega arith
+in_use-within (x ∷ xs) (suc k) so = omega (arith, in_use-within xs k so)
+
+pub once-le : (so : Bool) → once_where so ≤ 1
 once-le true = omega arith
 once-le false = omega arith
 
@@ -136,9 +141,9 @@ pub entry-in : (inside : Inside) (value : RoomyNotes) (shelf : ℕ) → notes_in
 entry-in inside value shelf same below = omega (arith, below, ap (λ (v : RoomyNotes). length v.notes.standing) same)
 
 -- a number that was read of those that have changed
-pub number-within : (standing : List Standing) (noted : List ℕ) (index number : ℕ) → AreCounted standing noted → index < length noted → number ≡ get_or noted index number → number < length standing
-number-within standing noted index number counts below read =
-    noted-within standing noted number counts (read-stands noted index number below read)
+pub number-noted : (standing : List Standing) (noted : List ℕ) (index number : ℕ) → AreCounted standing noted → index < length noted → number ≡ get_or noted index number → (standing_at standing number).noted ≡ true
+number-noted standing noted index number counts below read =
+    once-true (standing_at standing number).noted (omega (arith, counts.tied number, read-stands noted index number below read))
   where
     read-stands : (ns : List ℕ) (index number : ℕ) → index < length ns → number ≡ get_or ns index number → 1 ≤ times number ns
     read-stands [] index number below read = absurd (omega (arith, below))

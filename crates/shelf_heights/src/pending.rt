@@ -3,7 +3,7 @@
 //!
 //! Definitions: `Pending` of `Private`. A note takes no memory: there is room for the number of each shelf.
 
-ghost use Rattle.std.specs.Prelude.{◌≡◌, ℕ, ◌+◌, ◌<◌, ◌≤◌, ◌++◌, ◌∷◌, [], IfOk, IfSome, OnOk, false, get_or, length, replicate, vec_capacity, if◌then◌else◌};
+ghost use Rattle.std.specs.Prelude.{◌≡◌, ℕ, ◌+◌, ◌<◌, ◌≤◌, ◌++◌, ◌∷◌, [], IfOk, IfSome, OnOk, false, true, get_or, length, replicate, vec_capacity, if◌then◌else◌};
 ghost use Rattle.etagere_links.specs.Links.{no_link};
 ghost use Rattle.shelf_heights.specs.Private.ByHeight.{AreInOrder};
 ghost use Rattle.shelf_heights.specs.Private.Pending as spec;
@@ -114,6 +114,7 @@ impl PendingShelves {
     pub fn noted_at(&self, index: usize) -> usize
         requires { index < length self.now.notes.noted }
         ensures value { result ≡ get_or self.now.notes.noted index 0 }
+        ensures noted { is_noted self.now.notes result ≡ true }
         ensures within { result < length self.now.notes.standing }
     {
         usize::from(self.noted[index])
@@ -178,6 +179,7 @@ impl PendingShelves {
     pub fn list(&mut self, shelf: usize, one: LinkedShelf)
         requires { shelf < length self.old.notes.standing }
         ensures notes { self.new.notes ≡ spec.listed_as shelf one self.old.notes }
+        ensures entries { length self.old.notes.kept ≡ length self.old.notes.standing }
         ensures room { self.new.room ≡ self.old.room }
     {
         self.kept[shelf] = one;

@@ -6,7 +6,6 @@ pub mod EarliestShelves
 pub mod EmptyShelves
 pub mod FreedBounds
 pub mod FreedByHeight
-pub mod KeptByHeight
 pub mod LeastOffers
 pub mod MergedByHeight
 pub mod MetShelves
@@ -18,6 +17,7 @@ pub mod RoomByHeight
 pub mod RisingNumbers
 pub mod SearchableShelves
 pub mod SearchedOnes
+pub mod SettledShelves
 pub mod Searches
 pub mod SplitOrders
 pub mod SplitByHeight

@@ -5,6 +5,7 @@ pub mod FreshRecords
 pub mod ItemReturned
 pub mod Opening
 pub mod PlacementTaken
-pub mod ReturnedByHeight
+pub mod ReturnedNotes
 pub mod RecordsGrown
 pub mod Searching
+pub mod Settling

@@ -422,7 +422,7 @@ fn behind_height(shelves: &[LinkedShelf], by_height: &ShelvesByHeight, index: us
 }
 
 /// Where a shelf begins, as one number.
-fn chain_order_of(shelves: &[LinkedShelf], shelf: usize) -> u32
+pub(crate) fn chain_order_of(shelves: &[LinkedShelf], shelf: usize) -> u32
     requires { shelf < length shelves.now }
     ensures { result ≡ heights.chain_order shelves.now shelf }
 {

@@ -1,17 +1,20 @@
 //! Gives an item back: frees it, and merges it and its shelf with what is free beside them.
 //!
-//! Definitions: `ItemReturned`, and `ReturnedByHeight` for the shelves by height. What merges keeps the record of the
-//! earlier place. It looks only at the neighbours of the item and of its shelf, and takes no memory: both have to
-//! stay so.
+//! Definitions: `ItemReturned`, and `ReturnedNotes` for what is noted beside the shelves by height. What merges keeps the
+//! record of the earlier place. It looks only at the neighbours of the item and of its shelf, moves none in the list by
+//! height, and takes no memory: all have to stay so.
 
-ghost use Rattle.std.specs.Prelude.{◌≡◌, ℕ, ◌<◌, ◌≤◌, Some, IfSome, length};
+ghost use Rattle.std.specs.Prelude.{◌≡◌, ℕ, ◌<◌, ◌≤◌, false, Some, IfSome, length};
+ghost use Rattle.etagere_base.specs.Lists.{times};
 ghost use Rattle.shelf_records.specs.RecordLists.{first_item_of};
 ghost use Rattle.shelf_records.specs.AtlasRecords as spec;
 ghost use Rattle.shelf_records.specs.AtlasRecords.{shelf_of};
 ghost use Rattle.shelf_store.specs.Private.ItemReturned as returned;
 ghost use Rattle.shelf_store.specs.Private.ItemReturned.{CanMergeItem, CanMergeShelves, CanReturn, FreeNextIsThere, HeightsFit, AreThere, WidthsFit};
-ghost use Rattle.shelf_store.specs.Private.ReturnedByHeight as lists;
-ghost use Rattle.shelf_store.specs.Private.ReturnedByHeight.{CanMergeNamedByHeight, CanMergeByHeight, CanMergeAllByHeight, CanReturnByHeight};
+ghost use Rattle.shelf_heights.specs.Private.ByHeight.{AreInOrder, numbers_by_height};
+ghost use Rattle.shelf_heights.specs.Private.Pending.{is_noted};
+ghost use Rattle.shelf_store.specs.Private.ReturnedNotes as noting;
+ghost use Rattle.shelf_store.specs.Private.ReturnedNotes.{CanMergeAllNotes, CanMergeNamedNotes, CanMergeNotes, CanReturnByHeight};
 ghost use Rattle.etagere_links.specs.Edits.{link_at};
 ghost use Rattle.etagere_links.specs.Links.{no_link};
 ghost use Rattle.etagere_links.specs.Neighbours.{HasNeighbours, NamesOneOf};
@@ -19,7 +22,8 @@ ghost use Rattle.shelf_records.specs.Records.{shelf_chain};
 
 use etagere_links::{Chain, Link, previous_of};
 use shelf_heights::by_height::ShelvesByHeight;
-use shelf_heights::heights::{position_of, raise, settle, take_out};
+use shelf_heights::heights::raise;
+use shelf_heights::pending::PendingShelves;
 use shelf_records::{LinkedItem, LinkedShelf, Records};
 
 /// The item that remains where one was freed, and how many item records became unused.
@@ -34,6 +38,7 @@ struct Merged {
 pub fn return_item(
     records: &mut Records,
     by_height: &mut ShelvesByHeight,
+    pending: &mut PendingShelves,
     shelf: usize,
     number: usize,
 ) -> u32
@@ -41,22 +46,47 @@ pub fn return_item(
     requires number { number < no_link }
     requires fits { CanReturn number records.old }
     requires by_height { CanReturnByHeight (shelf_of records.old.items number) number records.old
-        by_height.old.items }
+        pending.old.notes by_height.old.items }
     ensures records { records.new ≡ returned.item_returned number records.old }
     ensures by_height { by_height.new.items
-        ≡ lists.returned_by_height number records.old by_height.old.items }
+        ≡ noting.raised_unless (is_noted pending.old.notes (shelf_of records.old.items number))
+        (shelf_of records.old.items number) (noting.freed_width records.old.items number)
+        by_height.old.items }
+    ensures notes { pending.new.notes ≡ noting.returned_notes number records.old pending.old.notes }
+    ensures room { pending.new.room ≡ pending.old.room }
     ensures made_unused { result ≡ returned.unused_by number records.old }
     ensures few { result < 5 }
     ensures capacity { by_height.old.capacity ≤ by_height.new.capacity }
 {
     let merged = merge_item(records, shelf, number);
     let width = width_of(records.items(), merged.item);
-    raise(records.shelves(), by_height, shelf, width);
+    raise_unless_noted(by_height, pending, shelf, width);
     if is_alone(records.items(), merged.item) {
         records.set_empty_present(shelf, true);
-        merged.made_unused + merge_shelves(records, by_height, shelf)
+        merged.made_unused + merge_shelves(records, pending, shelf)
     } else {
         merged.made_unused
+    }
+}
+
+/// Raises the bound of a shelf to this width, where it is less. One that has changed is put in anew, with a bound of its
+/// own.
+fn raise_unless_noted(
+    by_height: &mut ShelvesByHeight,
+    pending: &PendingShelves,
+    shelf: usize,
+    width: u16,
+)
+    requires known { shelf < length pending.now.notes.standing }
+    requires order { AreInOrder pending.now.notes.kept by_height.old.items }
+    requires stands { is_noted pending.now.notes shelf ≡ false
+        → 1 ≤ times shelf (numbers_by_height by_height.old.items) }
+    ensures by_height { by_height.new.items
+        ≡ noting.raised_unless (is_noted pending.now.notes shelf) shelf width by_height.old.items }
+    ensures capacity { by_height.old.capacity ≤ by_height.new.capacity }
+{
+    if !pending.is_noted(shelf) {
+        raise(pending.kept(), by_height, shelf, width);
     }
 }
 
@@ -163,52 +193,52 @@ fn free_after(records: &mut Records, shelf: usize, number: usize) -> Merged
 }
 
 /// Merges a shelf with its neighbours, where it and they are empty and stand in one column.
-fn merge_shelves(records: &mut Records, by_height: &mut ShelvesByHeight, shelf: usize) -> u32
+fn merge_shelves(records: &mut Records, pending: &mut PendingShelves, shelf: usize) -> u32
     requires fits { CanMergeShelves shelf records.old }
-    requires by_height { CanMergeAllByHeight shelf records.old by_height.old.items }
+    requires notes { CanMergeAllNotes shelf records.old pending.old.notes }
     ensures records { records.new ≡ (returned.shelves_merged shelf records.old).records }
-    ensures by_height { by_height.new.items
-        ≡ lists.shelves_merged_by_height shelf records.old by_height.old.items }
+    ensures notes { pending.new.notes
+        ≡ noting.shelves_merged_notes shelf records.old pending.old.notes }
     ensures made_unused { result ≡ (returned.shelves_merged shelf records.old).made_unused }
     ensures few { result < 3 }
-    ensures capacity { by_height.old.capacity ≤ by_height.new.capacity }
+    ensures room { pending.new.room ≡ pending.old.room }
 {
-    let one = merge_shelf(records, by_height, shelf);
+    let one = merge_shelf(records, pending, shelf);
     let previous = previous_of::<Chain, LinkedShelf>(records.shelves(), shelf);
-    one + merge_named_shelf(records, by_height, previous)
+    one + merge_named_shelf(records, pending, previous)
 }
 
 /// Merges the shelf that a link names with the next one, where both are empty and stand in one column.
-fn merge_named_shelf(records: &mut Records, by_height: &mut ShelvesByHeight, link: Link) -> u32
+fn merge_named_shelf(records: &mut Records, pending: &mut PendingShelves, link: Link) -> u32
     requires fits { (n : ℕ) → link ≡ Some n → HeightsFit n records.old.shelves }
-    requires by_height { CanMergeNamedByHeight link records.old by_height.old.items }
+    requires notes { CanMergeNamedNotes link records.old pending.old.notes }
     ensures records { records.new ≡ (returned.named_shelf_merged link records.old).records }
-    ensures by_height { by_height.new.items
-        ≡ lists.named_shelf_merged_by_height link records.old by_height.old.items }
+    ensures notes { pending.new.notes
+        ≡ noting.named_shelf_merged_notes link records.old pending.old.notes }
     ensures made_unused { result ≡ (returned.named_shelf_merged link records.old).made_unused }
     ensures few { result < 2 }
-    ensures capacity { by_height.old.capacity ≤ by_height.new.capacity }
+    ensures room { pending.new.room ≡ pending.old.room }
 {
     match link.number() {
         None => 0,
-        Some(shelf) => merge_shelf(records, by_height, shelf),
+        Some(shelf) => merge_shelf(records, pending, shelf),
     }
 }
 
 /// Merges a shelf with the next one, where both are empty and stand in one column.
-fn merge_shelf(records: &mut Records, by_height: &mut ShelvesByHeight, shelf: usize) -> u32
+fn merge_shelf(records: &mut Records, pending: &mut PendingShelves, shelf: usize) -> u32
     requires fits { HeightsFit shelf records.old.shelves }
-    requires by_height { CanMergeByHeight shelf records.old by_height.old.items }
+    requires notes { CanMergeNotes shelf records.old pending.old.notes }
     ensures records { records.new ≡ (returned.shelf_merged shelf records.old).records }
-    ensures by_height { by_height.new.items
-        ≡ lists.shelf_merged_by_height shelf records.old by_height.old.items }
+    ensures notes { pending.new.notes
+        ≡ noting.shelf_merged_notes shelf records.old pending.old.notes }
     ensures made_unused { result ≡ (returned.shelf_merged shelf records.old).made_unused }
     ensures few { result < 2 }
-    ensures capacity { by_height.old.capacity ≤ by_height.new.capacity }
+    ensures room { pending.new.room ≡ pending.old.room }
 {
     match empty_next(records.shelves(), shelf) {
         None => 0,
-        Some(next) => absorb_shelf(records, by_height, shelf, next),
+        Some(next) => absorb_shelf(records, pending, shelf, next),
     }
 }
 
@@ -217,29 +247,28 @@ fn merge_shelf(records: &mut Records, by_height: &mut ShelvesByHeight, shelf: us
 #[inline(never)]
 fn absorb_shelf(
     records: &mut Records,
-    by_height: &mut ShelvesByHeight,
+    pending: &mut PendingShelves,
     shelf: usize,
     next: usize,
 ) -> u32
     requires next { returned.empty_next records.old.shelves shelf ≡ Some next }
     requires small { next < no_link }
     requires fits { HeightsFit shelf records.old.shelves }
-    requires by_height { CanMergeByHeight shelf records.old by_height.old.items }
+    requires notes { CanMergeNotes shelf records.old pending.old.notes }
     ensures records { records.new ≡ (returned.shelf_merged shelf records.old).records }
-    ensures by_height { by_height.new.items
-        ≡ lists.shelf_merged_by_height shelf records.old by_height.old.items }
+    ensures notes { pending.new.notes
+        ≡ noting.shelf_merged_notes shelf records.old pending.old.notes }
     ensures made_unused { result ≡ (returned.shelf_merged shelf records.old).made_unused }
     ensures few { result < 2 }
-    ensures capacity { by_height.old.capacity ≤ by_height.new.capacity }
+    ensures room { pending.new.room ≡ pending.old.room }
 {
     let Some(item) = first_item(records.shelves(), next) else {
         return 0;
     };
     let height = height_of(records.shelves(), shelf) + height_of(records.shelves(), next);
-    take_out(records.shelves(), by_height, next);
-    let index = position_of(records.shelves(), by_height, shelf);
     records.absorb_shelf(shelf, next, item, height);
-    settle(records.shelves(), by_height, shelf, index);
+    pending.note(next, false);
+    pending.note(shelf, true);
     1
 }
 

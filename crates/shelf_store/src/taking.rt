@@ -1,7 +1,8 @@
 //! Takes a placement: splits its shelf where that is due, and the item in it.
 //!
 //! Definitions: `PlacementTaken` of `Private`, and `Taking` for what it means. All memory is taken before
-//! the first change, so an `Err` changes nothing; this has to stay so.
+//! the first change, so an `Err` changes nothing; this has to stay so. In the list by height no shelf is moved: that they
+//! have changed is noted.
 
 ghost use Rattle.std.specs.Prelude.{◌≡◌, ◌+◌, ◌<◌, ◌≤◌, Some, IfOk, OnOk, OnErr, IfSome, length};
 ghost use Rattle.etagere_base.specs.Frames.{longest_side};
@@ -9,12 +10,13 @@ ghost use Rattle.etagere_links.specs.Links.{no_link};
 ghost use Rattle.shelf_records.specs.RecordUses.{rests_missing};
 ghost use Rattle.shelf_model.specs.Choice.{splits};
 ghost use Rattle.shelf_store.specs.Private.PlacementTaken as spec;
-ghost use Rattle.shelf_store.specs.Private.PlacementTaken.{AreRestsThere, CanTakeByHeight, CanTakeFrom, HasSpare, IsItemSplittable, IsItemThere, CanPutRestIn, CanPutShelfIn, IsShelfSplittable, placement_taken, taken_by_height};
+ghost use Rattle.shelf_store.specs.Private.PlacementTaken.{AreRestsThere, CanTakeFrom, IsItemSplittable, IsItemThere, IsShelfSplittable, placement_taken, taken_notes};
 
 use etagere_base::{AllocId, INDEX_MODULUS};
 use etagere_links::Link;
 use shelf_heights::by_height::ShelvesByHeight;
-use shelf_heights::heights::{bounded, position_of, put_in, reserve_by_height, settle};
+use shelf_heights::pending::PendingShelves;
+use crate::settling::reserve_shelves;
 use shelf_model::placements::Placement;
 use shelf_records::{LinkedItem, LinkedShelf, Records};
 use std::alloc::AllocError;
@@ -24,33 +26,36 @@ use std::alloc::AllocError;
 pub fn take_placement(
     records: &mut Records,
     by_height: &mut ShelvesByHeight,
+    pending: &mut PendingShelves,
     found: &Placement,
     column_width: u16,
 ) -> Result<AllocId, AllocError>
     requires takes { CanTakeFrom column_width found.now records.old }
-    requires by_height { CanTakeByHeight column_width found.now records.old by_height.old.items }
+    requires there { found.now.shelf < length records.old.shelves }
+    requires known { length records.old.shelves ≤ length pending.old.notes.standing }
     requires room { length records.old.shelves ≤ by_height.old.capacity }
-    requires spare { HasSpare records.old by_height.old.items }
+    requires room_to_note { length records.old.shelves ≤ pending.old.room }
     ensures ok { OnOk result (records.new ≡ placement_taken column_width found.now records.old) }
     ensures id { IfOk result (λ id. id ≡ spec.id_of records.old.items found.now.item) }
     ensures err { OnErr result (records.new ≡ records.old) }
-    ensures by_height { OnOk result
-        (by_height.new.items
-        ≡ taken_by_height column_width found.now records.old by_height.old.items) }
-    ensures by_height_err { OnErr result (by_height.new.items ≡ by_height.old.items) }
+    ensures by_height { by_height.new.items ≡ by_height.old.items }
+    ensures notes { OnOk result
+        (pending.new.notes ≡ taken_notes found.now records.old pending.old.notes) }
+    ensures notes_err { OnErr result (pending.new.notes ≡ pending.old.notes) }
     ensures room { length records.new.shelves ≤ by_height.new.capacity }
+    ensures room_to_note { length records.new.shelves ≤ pending.new.room }
     ensures split { OnErr result (0 < splits found.now) }
     ensures short { OnErr result
         (0 < rests_missing found.now.splits_shelf found.now.splits_item records.old) }
 {
     let id = id_of(records.items(), found.item);
     if found.splits_shelf {
-        reserve_by_height(records, by_height, 1)?;
+        reserve_shelves(records, by_height, pending, 1)?;
     }
     let rests = records.use_rests(found.splits_shelf, found.splits_item)?;
     make_shelf_rest(
         records,
-        by_height,
+        pending,
         found,
         column_width,
         rests.shelf,
@@ -64,7 +69,7 @@ pub fn take_placement(
 /// Splits the shelf of a placement, where these are the numbers of the records of the rest and of its item.
 fn make_shelf_rest(
     records: &mut Records,
-    by_height: &mut ShelvesByHeight,
+    pending: &mut PendingShelves,
     found: &Placement,
     column_width: u16,
     shelf: Option<usize>,
@@ -74,14 +79,15 @@ fn make_shelf_rest(
     requires shelf { IfSome shelf (λ number. number < no_link) }
     requires item { IfSome item (λ number. number < no_link) }
     requires there { AreRestsThere shelf item records.old }
-    requires by_height { CanPutRestIn column_width found.now shelf item records.old by_height.old.items }
-    requires room { IfSome shelf (λ number. length by_height.old.items < by_height.old.capacity) }
-    ensures capacity { by_height.old.capacity ≤ by_height.new.capacity }
+    requires known { found.now.shelf < length pending.old.notes.standing }
+    requires next { IfSome shelf (λ number. number ≤ length pending.old.notes.standing) }
+    requires room { IfSome shelf (λ number. number < pending.old.room) }
+    ensures room { pending.new.room ≡ pending.old.room }
     ensures records { records.new
         ≡ spec.with_shelf_rest column_width found.now shelf item records.old }
-    ensures by_height { by_height.new.items
-        ≡ spec.with_rest_by_height column_width found.now.shelf shelf item records.new.shelves
-        by_height.old.items }
+    ensures notes { pending.new.notes
+        ≡ spec.with_rest_notes found.now.shelf shelf item (spec.shelf_record records.old.shelves found.now.shelf)
+        pending.old.notes }
 {
     let Some(shelf) = shelf else {
         return;
@@ -89,14 +95,14 @@ fn make_shelf_rest(
     let Some(item) = item else {
         return;
     };
-    split_shelf(records, by_height, found, column_width, shelf, item);
+    split_shelf(records, pending, found, column_width, shelf, item);
 }
 
-/// Splits the shelf of a placement, where these are the numbers of the records of the rest and of its item. The list
-/// of shelves by height has room for one more.
+/// Splits the shelf of a placement, where these are the numbers of the records of the rest and of its item. There is room
+/// for a note of the rest.
 fn split_shelf(
     records: &mut Records,
-    by_height: &mut ShelvesByHeight,
+    pending: &mut PendingShelves,
     found: &Placement,
     column_width: u16,
     shelf: usize,
@@ -106,27 +112,25 @@ fn split_shelf(
     requires shelf { shelf < no_link }
     requires item { item < no_link }
     requires there { AreRestsThere (Some shelf) (Some item) records.old }
-    requires by_height { CanPutShelfIn found.now.shelf shelf records.old.shelves
-        (spec.with_shelf_rest column_width found.now (Some shelf) (Some item) records.old).shelves
-        by_height.old.items }
-    requires room { length by_height.old.items < by_height.old.capacity }
-    ensures capacity { by_height.old.capacity ≤ by_height.new.capacity }
+    requires known { found.now.shelf < length pending.old.notes.standing }
+    requires next { shelf ≤ length pending.old.notes.standing }
+    requires room { shelf < pending.old.room }
+    ensures room { pending.new.room ≡ pending.old.room }
     ensures records { records.new
         ≡ spec.with_shelf_rest column_width found.now (Some shelf) (Some item) records.old }
-    ensures by_height { by_height.new.items
-        ≡ spec.with_rest_by_height column_width found.now.shelf (Some shelf) (Some item)
-        records.new.shelves by_height.old.items }
+    ensures notes { pending.new.notes
+        ≡ spec.with_rest_notes found.now.shelf (Some shelf) (Some item)
+        (spec.shelf_record records.old.shelves found.now.shelf) pending.old.notes }
 {
-    let index = position_of(records.shelves(), by_height, found.shelf);
     let whole = records.shelves()[found.shelf];
     let height = found.height as u16;
     let rest = rest_shelf(&whole, height, item);
     let generation = present_item(records.items(), item).generation;
     let free = free_item(whole.x, column_width, shelf as u16, generation);
     records.split_shelf_present(found.shelf, height, shelf, rest, item, free);
-    settle(records.shelves(), by_height, found.shelf, index);
-    let left = bounded(shelf, column_width);
-    put_in(records.shelves(), by_height, left, index);
+    pending.note(found.shelf, true);
+    pending.add(shelf, whole);
+    pending.note(shelf, true);
 }
 
 /// Gives the item of a placement: its front, where this is the number of the rest's record, else all of it.

@@ -210,6 +210,17 @@ in_order-kept shelves new by_height longer same order =
       rising = subst (RiseFrom 0) (sym (map-agrees (order_of new) (order_of shelves) (numbers_by_height by_height) same)) order.rising;
     }
 
+-- and by records of which those of each of them alone are known
+pub in_order-among : (shelves new : List LinkedShelf) (by_height : List BoundedShelf)
+    → ((k : ℕ) → 1 ≤ times k (numbers_by_height by_height) → k < length new)
+    → ((k : ℕ) → 1 ≤ times k (numbers_by_height by_height) → order_of new k ≡ order_of shelves k)
+    → AreInOrder shelves by_height → AreInOrder new by_height
+in_order-among shelves new by_height within same order =
+    record {
+      within = Each-times (λ k. k < length new) (numbers_by_height by_height) within;
+      rising = subst (RiseFrom 0) (sym (map-agrees (order_of new) (order_of shelves) (numbers_by_height by_height) same)) order.rising;
+    }
+
 -- the others stand in their order once a shelf was taken out
 pub in_order-taken_out : (shelves : List LinkedShelf) (shelf : ℕ) (by_height : List BoundedShelf)
     → AreInOrder shelves by_height → AreInOrder shelves (taken_out shelf by_height)

@@ -2,12 +2,13 @@
 use Rattle.std.specs.Prelude.{◌≡◌, ℕ, ◌≤◌, Bool, true, false, List, [], ◌∷◌, ◌++◌, get_or, length, min, set, vec_capacity, ◌==◌, if◌then◌else◌}
 use Rattle.std.specs.List.{AllByRecursion}
 use Rattle.etagere_base.specs.Lists.{times, total}
+use Rattle.etagere_links.specs.Links.{no_link}
 use Rattle.shelf_records.specs.declared.records.LinkedShelf.{LinkedShelf}
-use Rattle.shelf_records.specs.AtlasRecords.{AtlasRecords, spelled_shelf}
+use Rattle.shelf_records.specs.AtlasRecords.{AtlasRecords, height_of, spelled_shelf}
 use Rattle.shelf_records.specs.Private.Kept.{bare}
 use Rattle.shelf_records.specs.RecordLists.{Entry, Records, shelf_numbers, walked_lists}
 use Rattle.etagere_base.specs.declared.frames.Frame.{Frame}
-use Rattle.shelf_heights.specs.Private.ByHeight.{AreInOrder, IsBound, numbers_by_height, order_of}
+use Rattle.shelf_heights.specs.Private.ByHeight.{AreInOrder, IsBound, chain_order, numbers_by_height}
 use Rattle.shelf_heights.specs.declared.by_height.BoundedShelf.{BoundedShelf}
 use Rattle.shelf_heights.specs.declared.pending.PendingShelves.TheInside.{Inside}
 use Rattle.shelf_heights.specs.declared.pending.Standing.{Standing}
@@ -133,7 +134,8 @@ pub record Follows (shelves : List LinkedShelf) (by_height : List BoundedShelf) 
 -- a shelf is listed if it is in use, and then where its record puts it
 pub record IsSettled (shelves : List LinkedShelf) (notes : Notes) (shelf : ℕ) : Type 0 where
   pub listed : is_listed notes shelf ≡ is_in_use notes shelf
-  pub order : is_listed notes shelf ≡ true → order_of notes.kept shelf ≡ order_of shelves shelf
+  pub place : is_listed notes shelf ≡ true → chain_order notes.kept shelf ≡ chain_order shelves shelf
+  pub height : is_listed notes shelf ≡ true → height_of notes.kept shelf ≡ height_of shelves shelf
 
 -- a width that none of the free items of a shelf passes, whichever of the entries it is
 abbrev pub IsBoundIn : AtlasRecords → List Entry → BoundedShelf → Type 0
@@ -150,6 +152,7 @@ pub record HoldsButNoted (atlas : AtlasRecords) (entries : List Entry) (notes : 
   pub settled : (k : ℕ) → is_noted notes k ≡ false → IsSettled atlas.records.shelves notes k
   pub bounds : AllByRecursion (λ one. is_noted notes one.shelf ≡ false → IsBoundIn atlas entries one) by_height
   pub known : length atlas.records.shelves ≤ length notes.standing
+  pub few : length atlas.records.shelves ≤ no_link
 
 -- the same of the shelves in use of these records
 abbrev pub AreByHeightButNoted : Frame → Records → Notes → List BoundedShelf → Type 0

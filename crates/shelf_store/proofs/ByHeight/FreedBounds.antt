@@ -17,7 +17,7 @@ use Rattle.etagere_links.proofs.ListEnds.{last-append}
 use Rattle.shelf_records.specs.AtlasRecords.{AtlasRecords, is_allocated_at, item_at, width_of}
 use Rattle.shelf_model.specs.Merging.{both_free, combined_items, merged_items}
 use Rattle.shelf_store.specs.Private.ItemReturned.{free_named}
-use Rattle.shelf_store.specs.Private.ReturnedByHeight.{freed_width, named_width}
+use Rattle.shelf_store.specs.Private.ReturnedNotes.{freed_width, named_width}
 use Rattle.shelf_model.specs.Returning.{freed}
 use Rattle.shelf_model.specs.State.{Item, is_free}
 use Rattle.shelf_model.proofs.Returned.MergedNear.{merged_items-freed}

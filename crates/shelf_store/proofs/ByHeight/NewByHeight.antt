@@ -44,16 +44,22 @@ widths-within : (width : ℕ) (items : List Item) → total_width items ≤ widt
 widths-within width [] low = tt
 widths-within width (item ∷ items) low = (λ _. omega (arith, low), widths-within width items (omega (arith, low)))
 
+-- a width that is no less than that of a column is a bound of each shelf
+pub wide-bound : (frame : Frame) (records : Records) (one : BoundedShelf) → AreKept frame records → frame.column_width ≤ one.widest
+    → AllByRecursion (λ (entry : Entry). entry.number ≡ one.shelf → IsBound one.widest (spelled_shelf (bare frame records) entry)) (walked_lists records).entries
+wide-bound frame records one kept wide =
+    Each-weaken (λ (entry : Entry). IsShelf frame (spelled_shelf (bare frame records) entry))
+    (λ (entry : Entry). entry.number ≡ one.shelf → IsBound one.widest (spelled_shelf (bare frame records) entry)) (walked_lists records).entries
+    (λ entry is _. widths-within one.widest (spelled_shelf (bare frame records) entry).items (omega (arith, is.width, wide)))
+    (Each-unmap (IsShelf frame) (spelled_shelf (bare frame records)) (walked_lists records).entries (witnesses kept).valid.shelves)
+
 -- the width of a column is a bound of each shelf
 pub column-bounds : (frame : Frame) (records : Records) (by_height : List BoundedShelf) → AreKept frame records → AllByRecursion (λ (one : BoundedShelf). one.widest ≡ frame.column_width) by_height
     → AreBounds (bare frame records) (walked_lists records).entries by_height
 column-bounds frame records by_height kept wide =
     Each-weaken (λ (one : BoundedShelf). one.widest ≡ frame.column_width)
     (λ (one : BoundedShelf). AllByRecursion (λ (entry : Entry). entry.number ≡ one.shelf → IsBound one.widest (spelled_shelf (bare frame records) entry)) entries) by_height
-    (λ one width. Each-weaken (λ (entry : Entry). IsShelf frame (spelled_shelf (bare frame records) entry))
-    (λ (entry : Entry). entry.number ≡ one.shelf → IsBound one.widest (spelled_shelf (bare frame records) entry)) entries
-    (λ entry is _. widths-within one.widest (spelled_shelf (bare frame records) entry).items (omega (arith, is.width, width)))
-    (Each-unmap (IsShelf frame) (spelled_shelf (bare frame records)) entries (witnesses kept).valid.shelves)) wide
+    (λ one width. wide-bound frame records one kept (omega (arith, width))) wide
   where
     entries : List Entry
     entries = (walked_lists records).entries

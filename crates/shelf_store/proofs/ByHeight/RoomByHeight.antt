@@ -1,15 +1,16 @@
 -- The room that a split has: among the shelves by height for each shelf record, and in the records for what is unused.
-use Rattle.std.proofs.Common.{◌≡◌, ℕ, ◌+◌, ◌<◌, ◌≤◌, Bool, true, false, Option, None, Some, List, [], ◌∷◌, ◌++◌, length, refl, arith, if◌then◌else◌}
+use Rattle.std.proofs.Common.{◌≡◌, ℕ, ◌+◌, ◌<◌, ◌≤◌, Bool, true, false, Option, None, Some, List, [], ◌∷◌, ◌++◌, length, refl, arith, subst, if◌then◌else◌}
 use Rattle.std.proofs.lemmas.List.{length-append, length-map}
+use Rattle.std.specs.Prelude.{IfSome}
 use Rattle.etagere_base.specs.declared.frames.Frame.{Frame}
 use Rattle.shelf_records.specs.RecordLists.{Records, shelf_numbers, walked_lists}
-use Rattle.shelf_records.specs.RecordUses.{missing, new_shelf, rests_missing, rests_of, rests_used, shelves_used}
+use Rattle.shelf_records.specs.RecordUses.{missing, new_shelf, number_used, rests_missing, rests_of, rests_used, shelves_used}
 use Rattle.shelf_records.specs.Records.{item_chain, shelf_chain}
 use Rattle.shelf_heights.specs.declared.by_height.BoundedShelf.{BoundedShelf}
 use Rattle.shelf_model.specs.Choice.{Placement}
 use Rattle.shelf_heights.specs.Private.ByHeight.{AreByHeight, numbers_by_height}
 use Rattle.shelf_records.specs.Private.Kept.{AreKept, bare, state_of}
-use Rattle.shelf_store.specs.Private.PlacementTaken.{HasSpare, free_item, item_record, placement_taken, rest_shelf, shelf_record, with_shelf_rest}
+use Rattle.shelf_store.specs.Private.PlacementTaken.{free_item, item_record, placement_taken, rest_shelf, shelf_record, with_shelf_rest}
 use Rattle.shelf_model.specs.State.{items_in_use}
 use Rattle.shelf_store.proofs.ByHeight.SplitOrders.{length-split, length-taken}
 use Rattle.shelf_records.proofs.MissingRecords.{missing-counted}
@@ -75,16 +76,19 @@ shelves-count frame records kept =
       length-append numbers unused,
     )
 
--- so there is one more than stand by height, or one is missing
-pub by_height-spare : (frame : Frame) (records : Records) (by_height : List BoundedShelf) → AreKept frame records → AreByHeight frame records by_height → HasSpare records by_height
-by_height-spare frame records by_height kept are =
-    let unused : List ℕ = (walked_lists records).unused_shelves in
-    omega (
-      arith,
-      by_height-count frame records by_height are,
-      shelves-count frame records kept,
-      missing-counted shelf_chain 1 records.unused_shelves records.shelves unused (witnesses kept).linked.unused_shelves,
-    )
+-- the record of the rest of a shelf is one that is there, or the next
+pub rest-next : (found : Placement) (records : Records) (rest : ℕ) → number_used found.splits_shelf records.unused_shelves records.shelves ≡ Some rest
+    → IfSome (rests_of found.splits_shelf found.splits_item records).shelf (λ number. number < length (rests_used found.splits_shelf found.splits_item records).shelves)
+    → rest ≤ length records.shelves
+rest-next found records rest names there =
+    let below : rest < length (rests_used found.splits_shelf found.splits_item records).shelves =
+    subst (λ (o : Option ℕ). IfSome o (λ number. number < length (rests_used found.splits_shelf found.splits_item records).shelves)) names there in
+    omega (arith, below, used-count found.splits_shelf found.splits_item records, one-missing (if found.splits_shelf then 1 else 0) found.splits_shelf refl records.unused_shelves)
+  where
+    one-missing : (wanted : ℕ) (b : Bool) → wanted ≡ (if b then 1 else 0) → (unused : Option ℕ) → missing shelf_chain wanted unused records.shelves ≤ 1
+    one-missing wanted true e None = rw e (omega arith)
+    one-missing wanted true e (Some number) = rw e (omega arith)
+    one-missing wanted false e unused = rw e (omega arith)
 
 -- where records are missing and no shelf is split, all item records are in use
 pub items-short : (frame : Frame) (records : Records) (of_shelf of_item : Bool) → AreKept frame records → 0 < rests_missing of_shelf of_item records → of_shelf ≡ false

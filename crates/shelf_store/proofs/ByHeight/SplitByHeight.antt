@@ -1,22 +1,27 @@
--- The shelves in use stay by height when a placement is taken, and what putting in the rest of a shelf needs is there.
-use Rattle.std.proofs.Common.{◌≡◌, ◌≢◌, ℕ, ◌+◌, ◌<◌, ◌≤◌, Bool, true, false, cond, List, [], ◌∷◌, ◌++◌, length, map, refl, ap, arith, ◌∙◌, sym, subst}
-use Rattle.std.specs.Prelude.{nat_lt}
-use Rattle.etagere_base.proofs.EachLemmas.{Each-both}
-use Rattle.etagere_base.proofs.TimesLemmas.{hit, times-append, times-remove_place}
+-- The list of shelves by height holds but for those that have changed once a shelf was split.
+use Rattle.std.proofs.Common.{◌≡◌, ◌≢◌, ℕ, zero, suc, ◌+◌, ◌*◌, ◌<◌, ◌≤◌, Bool, true, false, cond, List, [], ◌∷◌, ◌++◌, length, map, max, refl, ap, arith, ◌∙◌, sym, subst}
+use Rattle.std.proofs.lemmas.List.{length-append}
+use Rattle.std.specs.Prelude.{nat_lt, ◌==◌}
+use Rattle.etagere_base.proofs.EachLemmas.{Each-weaken}
+use Rattle.etagere_base.proofs.TimesLemmas.{hit, times-append}
 use Rattle.etagere_base.specs.Lists.{times}
 use Rattle.etagere_base.specs.declared.frames.Frame.{Frame}
-use Rattle.shelf_records.specs.RecordLists.{Records, shelf_numbers, shelf_walk, walked_lists}
+use Rattle.etagere_links.specs.Edits.{field_at}
+use Rattle.shelf_records.specs.RecordLists.{Records, shelf_numbers, walked_lists}
 use Rattle.shelf_records.specs.declared.records.LinkedShelf.{LinkedShelf}
-use Rattle.shelf_records.proofs.AllLists.LinkedWalks.{walked-numbers}
-use Rattle.shelf_records.specs.AtlasRecords.{spelled_shelf}
-use Rattle.shelf_heights.specs.Private.ByHeight.{AreInOrder, AreByHeight, IsBound, bound_of, order_of, put_in, numbers_by_height, taken_out}
+use Rattle.shelf_records.specs.AtlasRecords.{height_of, spelled_shelf}
+use Rattle.shelf_heights.specs.Private.ByHeight.{AreByHeight, AreInOrder, IsBound, chain_order, numbers_by_height, order_of}
+use Rattle.shelf_heights.specs.Private.Pending.{AreByHeightButNoted, IsSettled, Notes, is_in_use, is_listed, is_noted, noted_as, once_where, with_entry}
 use Rattle.shelf_records.specs.Private.Kept.{AreKept, bare}
-use Rattle.shelf_store.specs.Private.PlacementTaken.{CanPutShelfIn, put_back}
+use Rattle.shelf_store.specs.Private.Settling.{AreSettled}
 use Rattle.shelf_model.specs.State.{Shelf}
 use Rattle.shelf_heights.specs.declared.by_height.BoundedShelf.{BoundedShelf}
-use Rattle.shelf_heights.proofs.ByHeight.Edited.{Each-put_in, Each-taken_out, bound_of-each, in_order-kept, in_order-put_in, in_order-taken_out, numbers-taken_out, by_height-in_order, bounded_as, times-put_in}
-use Rattle.shelf_store.proofs.ByHeight.NumberedBounds.{BoundsIn, IsBoundOf, bounds-none, bounds-numbered, bounds-split, numbered-bounds, by_height-other}
-use Rattle.shelf_store.proofs.ByHeight.SplitOrders.{orders-apart}
+use Rattle.shelf_heights.specs.declared.pending.Standing.{Standing}
+use Rattle.shelf_heights.proofs.ByHeight.Edited.{by_height-in_order, in_order-among}
+use Rattle.shelf_heights.proofs.Noted.{in_use-within, once-true}
+use Rattle.shelf_heights.proofs.NotedShelves.{entry-known, entry-longer, entry-standing, noted-in_use, noted-known, noted-listed, noted-other, unnoted-before, unnoted-differs}
+use Rattle.shelf_store.proofs.ByHeight.NumberedBounds.{BoundsIn, IsBoundOf, bounds-numbered, bounds-split, numbered-bounds}
+use Rattle.shelf_store.proofs.ByHeight.SplitOrders.{StandsSame, order-stands}
 use Rattle.shelf_records.proofs.Spelled.StandsKept.{witnesses}
 
 -- the numbers of the shelves in use of kept records stand once each, and are those of records
@@ -48,23 +53,85 @@ used-once frame records kept =
     below true k count e some = grind arith
     below false k count e some = absurd (omega (arith, some))
 
--- a shelf of ones by height was split, by the numbers of the shelves and the places in the order
-pub record IsSplitByHeight (frame : Frame) (records new split : Records) (by_height : List BoundedShelf) (shelf rest : ℕ) (front back : List ℕ) : Type 0 where
+-- a shelf in use stands by height as it is listed
+listed-once : (frame : Frame) (records : Records) (notes : Notes) (by_height : List BoundedShelf) (k : ℕ) → AreByHeight frame records by_height → AreSettled records notes → times k (numbers_by_height by_height) ≡ once_where (is_listed notes k)
+listed-once frame records notes by_height k are settled = are.once k ∙ settled.in_use k ∙ sym (ap once_where (settled.settled k).listed)
+
+-- the list stands in order by the records as they were when it followed them
+order-settled : (frame : Frame) (records : Records) (notes : Notes) (by_height : List BoundedShelf) → AreKept frame records → AreByHeight frame records by_height → AreSettled records notes → AreInOrder notes.kept by_height
+order-settled frame records notes by_height kept are settled =
+    let so : (k : ℕ) → 1 ≤ times k (numbers_by_height by_height) → is_listed notes k ≡ true = λ k stands. once-true (is_listed notes k) (omega (arith, stands, listed-once frame records notes by_height k are settled)) in
+    in_order-among records.shelves notes.kept by_height
+    (λ k stands. settled.within k (so k stands))
+    (λ k stands. ap (λ (h : ℕ). h * (65536 * 65536) + chain_order notes.kept k) ((settled.settled k).height (so k stands)) ∙ ap (λ (place : ℕ). height_of records.shelves k * (65536 * 65536) + place) ((settled.settled k).place (so k stands)))
+    (by_height-in_order frame records by_height kept are)
+
+-- what holds of a list that follows the records holds but for those that have changed, of which there are none
+pub settled-holds : (frame : Frame) (records : Records) (notes : Notes) (by_height : List BoundedShelf) → AreKept frame records → AreByHeight frame records by_height → AreSettled records notes → AreByHeightButNoted frame records notes by_height
+settled-holds frame records notes by_height kept are settled =
+    record {
+      listed = λ k. listed-once frame records notes by_height k are settled;
+      in_use = settled.in_use;
+      order = order-settled frame records notes by_height kept are settled;
+      settled = λ k unnoted. settled.settled k;
+      bounds = Each-weaken (IsBoundOf (bare frame records) (walked_lists records).entries) (λ one. is_noted notes one.shelf ≡ false → IsBoundOf (bare frame records) (walked_lists records).entries one) by_height (λ one bounds unnoted. bounds) are.bounds;
+      known = settled.known;
+      few = (witnesses kept).counts.shelves.1;
+    }
+
+-- a field of a record before one that was added
+field-before : {X : Type 0} (field : LinkedShelf → X) (other : X) (shelves : List LinkedShelf) (any : LinkedShelf) (k : ℕ) → k < length shelves → field_at field other (shelves ++ any ∷ []) k ≡ field_at field other shelves k
+field-before field other [] any k below = absurd (omega (arith, below))
+field-before field other (x ∷ xs) any zero below = refl
+field-before field other (x ∷ xs) any (suc k) below = field-before field other xs any k (omega (arith, below))
+
+-- no record is lost as an entry is added
+entry-kept : (notes : Notes) (rest : ℕ) (any : LinkedShelf) → length notes.kept ≤ length (with_entry rest any notes).kept
+entry-kept notes rest any = by_test (rest == length notes.standing) refl
+  where
+    by_test : (b : Bool) → (rest == length notes.standing) ≡ b → length notes.kept ≤ length (with_entry rest any notes).kept
+    by_test true e = rw e (omega (arith, length-append notes.kept (any ∷ [])))
+    by_test false e = rw e (omega arith)
+
+-- a shelf with an entry stands where it stood once one was added
+entry-stands : (notes : Notes) (rest : ℕ) (any : LinkedShelf) (k : ℕ) → k < length notes.kept → StandsSame notes.kept (with_entry rest any notes).kept k
+entry-stands notes rest any k below = by_test (rest == length notes.standing) refl
+  where
+    by_test : (b : Bool) → (rest == length notes.standing) ≡ b → StandsSame notes.kept (with_entry rest any notes).kept k
+    by_test true e =
+        rw e
+        (record {
+          place = omega (arith, field-before (λ (s : LinkedShelf). s.x) 0 notes.kept any k below, field-before (λ (s : LinkedShelf). s.y) 0 notes.kept any k below);
+          height = field-before (λ (s : LinkedShelf). s.height) 0 notes.kept any k below;
+        })
+    by_test false e = rw e (record { place = refl; height = refl })
+
+-- a shelf was split, by the numbers of the shelves and where they begin
+pub record IsSplitByHeight (frame : Frame) (records new : Records) (notes : Notes) (by_height : List BoundedShelf) (shelf rest : ℕ) (front back : List ℕ) : Type 0 where
   pub kept : AreKept frame records
   pub new_kept : AreKept frame new
   pub are : AreByHeight frame records by_height
+  pub settled : AreSettled records notes
   pub numbers : shelf_numbers (walked_lists records).entries ≡ front ++ shelf ∷ back
   pub new_numbers : shelf_numbers (walked_lists new).entries ≡ front ++ shelf ∷ rest ∷ back
-  pub orders : (k : ℕ) → order_of new.shelves k ≡ order_of split.shelves k
-  pub others : (k : ℕ) → shelf ≢ k → rest ≢ k → order_of split.shelves k ≡ order_of records.shelves k
-  pub longer : length records.shelves ≤ length split.shelves
-  pub long : length new.shelves ≡ length split.shelves
+  pub others : (k : ℕ) → shelf ≢ k → rest ≢ k → StandsSame records.shelves new.shelves k
+  pub next : rest ≤ length notes.standing
+  pub few : length new.shelves ≤ max (length records.shelves) (rest + 1)
 
-module _ (frame : Frame) (records new split : Records) (by_height : List BoundedShelf) (shelf rest column_width : ℕ) (front back : List ℕ)
-    (is : IsSplitByHeight frame records new split by_height shelf rest front back) where
+module _ (frame : Frame) (records new : Records) (notes : Notes) (by_height : List BoundedShelf) (shelf rest column_width : ℕ) (any : LinkedShelf) (front back : List ℕ)
+    (is : IsSplitByHeight frame records new notes by_height shelf rest front back) where
+  abbrev one : Notes
+  one = noted_as shelf true notes
+
+  abbrev two : Notes
+  two = with_entry rest any one
+
+  abbrev three : Notes
+  three = noted_as rest true two
+
   -- how often a number stands before and after
-  count-old : (k : ℕ) → times k (numbers_by_height by_height) ≡ times k front + (hit shelf k + times k back)
-  count-old k = is.are.once k ∙ ap (times k) is.numbers ∙ times-append k front (shelf ∷ back)
+  count-old : (k : ℕ) → once_where (is_in_use notes k) ≡ times k front + (hit shelf k + times k back)
+  count-old k = sym (is.settled.in_use k) ∙ ap (times k) is.numbers ∙ times-append k front (shelf ∷ back)
 
   count-new : (k : ℕ) → times k (shelf_numbers (walked_lists new).entries) ≡ times k front + (hit shelf k + (hit rest k + times k back))
   count-new k = ap (times k) is.new_numbers ∙ times-append k front (shelf ∷ rest ∷ back)
@@ -73,139 +140,136 @@ module _ (frame : Frame) (records new split : Records) (by_height : List Bounded
   own-hit : (n : ℕ) → hit n n ≡ 1
   own-hit n = grind arith
 
-  -- the shelf stands among the ones by height once, and the rest doesn't
-  pub shelf-once : times shelf (numbers_by_height by_height) ≡ 1
-  shelf-once = omega (arith, is.are.once shelf, (used-once frame records is.kept).once shelf, count-old shelf, own-hit shelf)
+  -- the shelves have entries
+  known : shelf < length notes.standing
+  known = in_use-within notes.standing shelf (once-true (is_in_use notes shelf) (omega (arith, count-old shelf, own-hit shelf)))
 
-  pub rest-none : times rest (numbers_by_height by_height) ≡ 0
-  rest-none = omega (arith, count-old rest, count-new rest, (used-once frame new is.new_kept).once rest, own-hit rest)
+  next : rest ≤ length one.standing
+  next = omega (arith, is.next, noted-known notes shelf true known)
 
-  -- how often a number stands among the others
-  pub count-others : (k : ℕ) → times k (numbers_by_height (taken_out shelf by_height)) + hit shelf k ≡ times k (numbers_by_height by_height)
-  count-others k =
-      ap (λ (ns : List ℕ). times k ns + hit shelf k) (numbers-taken_out shelf by_height)
-      ∙ times-remove_place k shelf (numbers_by_height by_height) shelf-once
+  rest-known : rest < length two.standing
+  rest-known = entry-known one rest any next
 
-  -- an other one is neither the shelf nor the rest
-  other-shelf : (k : ℕ) → 1 ≤ times k (numbers_by_height (taken_out shelf by_height)) → shelf ≢ k
-  other-shelf k stands e =
-      let none : times shelf (numbers_by_height (taken_out shelf by_height)) ≡ 0 = omega (arith, count-others shelf, own-hit shelf, shelf-once) in
-      let again : times k (numbers_by_height (taken_out shelf by_height)) ≡ 0 = subst (λ (n : ℕ). times n (numbers_by_height (taken_out shelf by_height)) ≡ 0) e none in
-      omega (arith, stands, again)
+  -- what is known of each
+  standing-other : (k : ℕ) → k ≢ rest → k ≢ shelf → is_in_use three k ≡ is_in_use notes k
+  standing-other k other other_too =
+      ap (λ (s : Standing). s.in_use) (noted-other two rest true rest-known k other)
+      ∙ ap (λ (s : Standing). s.in_use) (entry-standing one rest any next k)
+      ∙ ap (λ (s : Standing). s.in_use) (noted-other notes shelf true known k other_too)
 
-  other-rest : (k : ℕ) → 1 ≤ times k (numbers_by_height (taken_out shelf by_height)) → rest ≢ k
-  other-rest k stands e =
-      let none : times rest (numbers_by_height (taken_out shelf by_height)) ≡ 0 = omega (arith, count-others rest, rest-none) in
-      let again : times k (numbers_by_height (taken_out shelf by_height)) ≡ 0 = subst (λ (n : ℕ). times n (numbers_by_height (taken_out shelf by_height)) ≡ 0) e none in
-      omega (arith, stands, again)
+  listed-same : (k : ℕ) → is_listed three k ≡ is_listed notes k
+  listed-same k =
+      noted-listed two rest true rest-known k
+      ∙ ap (λ (s : Standing). s.listed) (entry-standing one rest any next k)
+      ∙ noted-listed notes shelf true known k
 
-  -- two shelves in use afterwards have different places in the order
-  split-apart : (k other : ℕ) → 1 ≤ times k (shelf_numbers (walked_lists new).entries) → 1 ≤ times other (shelf_numbers (walked_lists new).entries) → k ≢ other
-      → order_of split.shelves k ≢ order_of split.shelves other
-  split-apart k other stands other_stands differ same =
-      orders-apart frame new k other is.new_kept
-      (subst (λ (ns : List ℕ). 1 ≤ times k ns) (walked-numbers new (shelf_walk new).met) stands)
-      (subst (λ (ns : List ℕ). 1 ≤ times other ns) (walked-numbers new (shelf_walk new).met) other_stands) differ
-      (is.orders k ∙ same ∙ sym (is.orders other))
-
-  -- the shelves in use afterwards have records
-  new-within : (k : ℕ) → 1 ≤ times k (shelf_numbers (walked_lists new).entries) → k < length split.shelves
-  new-within k stands = omega (arith, (used-once frame new is.new_kept).within k stands, is.long)
-
-  -- one of the others is in use afterwards
-  other-new : (k : ℕ) → 1 ≤ times k (numbers_by_height (taken_out shelf by_height)) → 1 ≤ times k (shelf_numbers (walked_lists new).entries)
-  other-new k stands = omega (arith, stands, count-others k, count-old k, count-new k)
-
-  -- the others stand in their order
-  pub others-in_order : AreInOrder split.shelves (taken_out shelf by_height)
-  others-in_order =
-      in_order-kept records.shelves split.shelves (taken_out shelf by_height) is.longer
-      (λ k stands. is.others k (other-shelf k stands) (other-rest k stands))
-      (in_order-taken_out records.shelves shelf by_height (by_height-in_order frame records by_height is.kept is.are))
-
-  -- and so they do with the shelf in its new place
-  pub lower-in_order : AreInOrder split.shelves (put_back shelf split.shelves by_height)
-  lower-in_order =
-      in_order-put_in split.shelves (bounded_as shelf (bound_of shelf by_height)) (taken_out shelf by_height)
-      (new-within shelf (omega (arith, count-new shelf, own-hit shelf)))
-      (λ k stands. split-apart k shelf (other-new k stands) (omega (arith, count-new shelf, own-hit shelf)) (λ e. other-shelf k stands (sym e)))
-      others-in_order
-
-  -- how often a number stands there then
-  count-lower : (k : ℕ) → times k (numbers_by_height (put_back shelf split.shelves by_height)) ≡ times k (numbers_by_height by_height)
-  count-lower k = omega (arith, times-put_in k split.shelves (bounded_as shelf (bound_of shelf by_height)) (taken_out shelf by_height), count-others k)
-
-  -- and with the rest
-  all-in_order : AreInOrder split.shelves (put_in split.shelves (bounded_as rest column_width) (put_back shelf split.shelves by_height))
-  all-in_order =
-      in_order-put_in split.shelves (bounded_as rest column_width) (put_back shelf split.shelves by_height)
-      (new-within rest (omega (arith, count-new rest, own-hit rest)))
-      (λ k stands. split-apart k rest (omega (arith, stands, count-lower k, count-old k, count-new k)) (omega (arith, count-new rest, own-hit rest)) (differs k stands))
-      lower-in_order
+  in_use-after : (k : ℕ) → times k (shelf_numbers (walked_lists new).entries) ≡ once_where (is_in_use three k)
+  in_use-after k = by_test (k == rest) (k == shelf) refl refl
     where
-      differs : (k : ℕ) → 1 ≤ times k (numbers_by_height (put_back shelf split.shelves by_height)) → k ≢ rest
-      differs k stands e =
-          let again : times k (numbers_by_height by_height) ≡ 0 = subst (λ (n : ℕ). times n (numbers_by_height by_height) ≡ 0) (sym e) rest-none in
-          omega (arith, stands, again, count-lower k)
+      once : times k (shelf_numbers (walked_lists new).entries) ≤ 1
+      once = (used-once frame new is.new_kept).once k
 
-  -- what putting in the rest of the shelf needs, where the records before the split have the places of the old ones
-  pub split-can_put : (used : List LinkedShelf) → length records.shelves ≤ length used → ((k : ℕ) → order_of used k ≡ order_of records.shelves k)
-      → CanPutShelfIn shelf rest used split.shelves by_height
-  split-can_put used longer same =
+      by_test : (b c : Bool) → (k == rest) ≡ b → (k == shelf) ≡ c → times k (shelf_numbers (walked_lists new).entries) ≡ once_where (is_in_use three k)
+      by_test true c e f =
+          let own : k ≡ rest = grind arith in
+          let here : hit rest k ≡ 1 = grind (arith, own) in
+          let so : once_where (is_in_use three k) ≡ 1 = rw own (ap once_where (noted-in_use two rest true rest-known)) in
+          omega (arith, once, count-new k, here, so)
+      by_test false true e f =
+          let other : k ≢ rest = grind arith in
+          let own : k ≡ shelf = grind arith in
+          let here : hit shelf k ≡ 1 = grind (arith, own) in
+          let so : once_where (is_in_use three k) ≡ 1 =
+          ap (λ (s : Standing). once_where s.in_use) (noted-other two rest true rest-known k other)
+          ∙ ap (λ (s : Standing). once_where s.in_use) (entry-standing one rest any next k)
+          ∙ rw own (ap once_where (noted-in_use notes shelf true known)) in
+          omega (arith, once, count-new k, here, so)
+      by_test false false e f =
+          let other : k ≢ rest = grind arith in
+          let other_too : k ≢ shelf = grind arith in
+          let none : hit rest k ≡ 0 = grind (arith, other) in
+          omega (arith, count-new k, count-old k, none, ap once_where (standing-other k other other_too))
+
+  -- one that has not changed is another one
+  unnoted-one : (k : ℕ) → is_noted three k ≡ false → is_noted one k ≡ false
+  unnoted-one k unnoted = sym (ap (λ (s : Standing). s.noted) (entry-standing one rest any next k)) ∙ unnoted-before two rest true rest-known k unnoted
+
+  not-rest : (k : ℕ) → is_noted three k ≡ false → k ≢ rest
+  not-rest k unnoted = unnoted-differs two rest true rest-known k unnoted
+
+  not-shelf : (k : ℕ) → is_noted three k ≡ false → k ≢ shelf
+  not-shelf k unnoted = unnoted-differs notes shelf true known k (unnoted-one k unnoted)
+
+  settled-after : (k : ℕ) → is_noted three k ≡ false → IsSettled new.shelves three k
+  settled-after k unnoted =
+      let before = is.settled.settled k in
+      let same : StandsSame records.shelves new.shelves k = is.others k (λ e. not-shelf k unnoted (sym e)) (λ e. not-rest k unnoted (sym e)) in
       record {
-        order = in_order-kept records.shelves used by_height longer (λ k stands. same k) (by_height-in_order frame records by_height is.kept is.are);
-        stands = omega (arith, shelf-once);
-        within = new-within shelf (omega (arith, count-new shelf, own-hit shelf));
-        rest_within = new-within rest (omega (arith, count-new rest, own-hit rest));
-        others = others-in_order;
-        lower = lower-in_order;
+        listed = listed-same k ∙ before.listed ∙ sym (standing-other k (not-rest k unnoted) (not-shelf k unnoted));
+        place = λ stands.
+            let there : is_listed notes k ≡ true = sym (listed-same k) ∙ stands in
+            (entry-stands one rest any k (is.settled.within k there)).place ∙ before.place there ∙ sym same.place;
+        height = λ stands.
+            let there : is_listed notes k ≡ true = sym (listed-same k) ∙ stands in
+            (entry-stands one rest any k (is.settled.within k there)).height ∙ before.height there ∙ sym same.height;
       }
 
-  -- the shelves in use stay by height, where the bounds are those of the shelves as they are spelled before and after
-  pub split-by_height : (fronts backs : List Shelf) (whole taken added : Shelf) → length front ≡ length fronts
+  -- the list stands in order by the records that it followed, with one more or not
+  order-after : AreInOrder three.kept by_height
+  order-after =
+      let so : (k : ℕ) → 1 ≤ times k (numbers_by_height by_height) → is_listed notes k ≡ true = λ k stands. once-true (is_listed notes k) (omega (arith, stands, listed-once frame records notes by_height k is.are is.settled)) in
+      in_order-among notes.kept three.kept by_height
+      (λ k stands. omega (arith, is.settled.within k (so k stands), entry-kept one rest any))
+      (λ k stands. order-entry k (is.settled.within k (so k stands)))
+      (order-settled frame records notes by_height is.kept is.are is.settled)
+    where
+      order-entry : (k : ℕ) → k < length notes.kept → order_of three.kept k ≡ order_of notes.kept k
+      order-entry k below = order-stands notes.kept three.kept k (entry-stands one rest any k below)
+
+  known-after : length new.shelves ≤ length three.standing
+  known-after =
+      omega (
+        arith,
+        is.few,
+        is.settled.known,
+        rest-known,
+        noted-known notes shelf true known,
+        entry-longer one rest any next,
+        noted-known two rest true rest-known,
+      )
+
+  -- the list holds but for both, where the bounds are those of the shelves as they are spelled before and after
+  pub split-holds : (fronts backs : List Shelf) (whole taken added : Shelf) → length front ≡ length fronts
       → map (spelled_shelf (bare frame records)) (walked_lists records).entries ≡ fronts ++ whole ∷ backs
       → map (spelled_shelf (bare frame new)) (walked_lists new).entries ≡ fronts ++ taken ∷ added ∷ backs
-      → ((widest : ℕ) → IsBound widest whole → IsBound widest taken) → IsBound column_width added
-      → AreByHeight frame new (put_in split.shelves (bounded_as rest column_width) (put_back shelf split.shelves by_height))
-  split-by_height fronts backs whole taken added long shelves new_shelves change empty =
+      → ((widest : ℕ) → IsBound widest whole → IsBound widest taken)
+      → AreByHeightButNoted frame new three by_height
+  split-holds fronts backs whole taken added long shelves new_shelves change =
       record {
-        once = λ k. omega (arith, times-put_in k split.shelves (bounded_as rest column_width) (put_back shelf split.shelves by_height), count-lower k, count-old k, count-new k);
-        rising = (in_order-kept split.shelves new.shelves (put_in split.shelves (bounded_as rest column_width) (put_back shelf split.shelves by_height)) (omega (arith, is.long)) (λ k stands. is.orders k) all-in_order).rising;
-        bounds = Each-put_in New split.shelves (bounded_as rest column_width) (put_back shelf split.shelves by_height) of_rest
-            (Each-put_in New split.shelves (bounded_as shelf (bound_of shelf by_height)) (taken_out shelf by_height) of_shelf
-            (Each-taken_out (λ (one : BoundedShelf). (one.shelf ≢ rest) × Old one) New shelf by_height (λ one apart both. of_other one both.0 both.1)
-            (Each-both (λ (one : BoundedShelf). one.shelf ≢ rest) Old by_height (by_height-other rest by_height rest-none) is.are.bounds)));
+        listed = λ k. listed-once frame records notes by_height k is.are is.settled ∙ sym (ap once_where (listed-same k));
+        in_use = in_use-after;
+        order = order-after;
+        settled = settled-after;
+        bounds = Each-weaken Old New by_height (λ bounded bounds unnoted. after bounded bounds (not-rest bounded.shelf unnoted)) is.are.bounds;
+        known = known-after;
+        few = (witnesses is.new_kept).counts.shelves.1;
       }
     where
       Old : BoundedShelf → Type 0
-      Old one = IsBoundOf (bare frame records) (walked_lists records).entries one
+      Old bounded = IsBoundOf (bare frame records) (walked_lists records).entries bounded
 
       New : BoundedShelf → Type 0
-      New one = IsBoundOf (bare frame new) (walked_lists new).entries one
+      New bounded = is_noted three bounded.shelf ≡ false → IsBoundOf (bare frame new) (walked_lists new).entries bounded
 
-      old : (one : BoundedShelf) → Old one → BoundsIn one (front ++ shelf ∷ back) (fronts ++ whole ∷ backs)
-      old one bounds =
-          subst (λ (ns : List ℕ). BoundsIn one ns (fronts ++ whole ∷ backs)) is.numbers
-          (subst (λ (ss : List Shelf). BoundsIn one (shelf_numbers (walked_lists records).entries) ss) shelves
-          (bounds-numbered (bare frame records) (walked_lists records).entries one bounds))
+      old : (bounded : BoundedShelf) → Old bounded → BoundsIn bounded (front ++ shelf ∷ back) (fronts ++ whole ∷ backs)
+      old bounded bounds =
+          subst (λ (ns : List ℕ). BoundsIn bounded ns (fronts ++ whole ∷ backs)) is.numbers
+          (subst (λ (ss : List Shelf). BoundsIn bounded (shelf_numbers (walked_lists records).entries) ss) shelves
+          (bounds-numbered (bare frame records) (walked_lists records).entries bounded bounds))
 
-      after : (one : BoundedShelf) → (rest ≡ one.shelf → IsBound one.widest added) → BoundsIn one (front ++ shelf ∷ back) (fronts ++ whole ∷ backs) → New one
-      after one more bounds =
-          numbered-bounds (bare frame new) (walked_lists new).entries one
-          (subst (λ (ns : List ℕ). BoundsIn one ns (map (spelled_shelf (bare frame new)) (walked_lists new).entries)) (sym is.new_numbers)
-          (subst (λ (ss : List Shelf). BoundsIn one (front ++ shelf ∷ rest ∷ back) ss) (sym new_shelves)
-          (bounds-split one shelf rest front back fronts backs whole taken added long (λ same. change one.widest) more bounds)))
-
-      of_other : (one : BoundedShelf) → one.shelf ≢ rest → Old one → New one
-      of_other one apart bounds = after one (λ same. absurd (apart (sym same))) (old one bounds)
-
-      of_shelf : New (bounded_as shelf (bound_of shelf by_height))
-      of_shelf =
-          after (bounded_as shelf (bound_of shelf by_height)) (λ same. absurd (omega (arith, ap (λ (n : ℕ). times n (numbers_by_height by_height)) same, rest-none, shelf-once)))
-          (old (bounded_as shelf (bound_of shelf by_height)) (bound_of-each Old shelf by_height (omega (arith, shelf-once)) is.are.bounds))
-
-      of_rest : New (bounded_as rest column_width)
-      of_rest =
-          after (bounded_as rest column_width) (λ same. empty)
-          (bounds-none (bounded_as rest column_width) (front ++ shelf ∷ back) (fronts ++ whole ∷ backs)
-          (omega (arith, rest-none, count-old rest, times-append rest front (shelf ∷ back))))
+      after : (bounded : BoundedShelf) → Old bounded → bounded.shelf ≢ rest → IsBoundOf (bare frame new) (walked_lists new).entries bounded
+      after bounded bounds other =
+          numbered-bounds (bare frame new) (walked_lists new).entries bounded
+          (subst (λ (ns : List ℕ). BoundsIn bounded ns (map (spelled_shelf (bare frame new)) (walked_lists new).entries)) (sym is.new_numbers)
+          (subst (λ (ss : List Shelf). BoundsIn bounded (front ++ shelf ∷ rest ∷ back) ss) (sym new_shelves)
+          (bounds-split bounded shelf rest front back fronts backs whole taken added long (λ same. change bounded.widest) (λ same. absurd (other (sym same))) (old bounded bounds))))

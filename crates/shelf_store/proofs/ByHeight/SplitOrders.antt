@@ -1,5 +1,5 @@
--- Where shelves stand in the order of heights and places once a shelf was split and its item given.
-use Rattle.std.proofs.Common.{◌≡◌, ◌≢◌, ℕ, ◌+◌, ◌*◌, ◌<◌, ◌≤◌, Bool, true, false, Option, None, Some, List, [], ◌∷◌, length, refl, ap, arith, ◌∙◌}
+-- Where shelves begin and how tall they are once a shelf was split and its item given.
+use Rattle.std.proofs.Common.{◌≡◌, ◌≢◌, ℕ, ◌+◌, ◌*◌, ◌<◌, ◌≤◌, Bool, true, false, Option, None, Some, List, [], ◌∷◌, length, refl, ap, arith, sym, ◌∙◌}
 use Rattle.std.proofs.lemmas.List.{length-append}
 use Rattle.etagere_base.specs.Lists.{times}
 use Rattle.etagere_base.specs.declared.frames.Frame.{Frame}
@@ -27,12 +27,22 @@ use Rattle.shelf_store.proofs.Spelled.SpelledMerges.{free-first}
 use Rattle.shelf_store.proofs.Spelled.SpelledShelves.{shelves-keep_values}
 use Rattle.shelf_store.proofs.Spelled.SpelledUses.{same-shelf, shelves-used}
 
--- a shelf that says the same stands where it stood
-pub order-same : (shelves new : List LinkedShelf) (k : ℕ) → SameShelf shelves new k → order_of new k ≡ order_of shelves k
-order-same shelves new k same =
-    ap (λ (h : ℕ). h * (65536 * 65536) + chain_order new k) same.height
-    ∙ ap (λ (a : ℕ). height_of shelves k * (65536 * 65536) + (a * 65536 + across_of new k)) same.along
-    ∙ ap (λ (a : ℕ). height_of shelves k * (65536 * 65536) + (along_of shelves k * 65536 + a)) same.across
+-- a shelf begins where it began, and is as tall
+pub record StandsSame (shelves new : List LinkedShelf) (k : ℕ) : Type 0 where
+  pub place : chain_order new k ≡ chain_order shelves k
+  pub height : height_of new k ≡ height_of shelves k
+
+-- so does one that says the same
+pub stands-same : (shelves new : List LinkedShelf) (k : ℕ) → SameShelf shelves new k → StandsSame shelves new k
+stands-same shelves new k same = record { place = omega (arith, same.along, same.across); height = same.height }
+
+-- one change after another
+pub stands-then : (old middle new : List LinkedShelf) (k : ℕ) → StandsSame old middle k → StandsSame middle new k → StandsSame old new k
+stands-then old middle new k one two = record { place = two.place ∙ one.place; height = two.height ∙ one.height }
+
+-- it stands where it stood in the order
+pub order-stands : (shelves new : List LinkedShelf) (k : ℕ) → StandsSame shelves new k → order_of new k ≡ order_of shelves k
+order-stands shelves new k same = ap (λ (h : ℕ). h * (65536 * 65536) + chain_order new k) same.height ∙ ap (λ (place : ℕ). height_of shelves k * (65536 * 65536) + place) same.place
 
 -- shelves say the same once records were put to use
 pub same-used : (of_shelf of_item : Bool) (records : Records) (k : ℕ) → SameShelf records.shelves (rests_used of_shelf of_item records).shelves k
@@ -88,19 +98,20 @@ pub length-given : (found : Placement) (rest : Option ℕ) (records : Records) �
 length-given found None records = given-shelves records found.shelf found.item
 length-given found (Some rest) records = front-shelves (with_rest_written found rest records) found.shelf found.item rest found.width
 
--- a shelf stands where it stood once its item was given, and it was marked
-pub order-taken : (column_width : ℕ) (found : Placement) (records : Records) (k : ℕ)
-    → order_of (placement_taken column_width found records).shelves k ≡ order_of (shelf_split_for column_width found records).shelves k
-order-taken column_width found records k =
+-- a shelf begins where it began once its item was given, and it was marked
+pub stands-taken : (column_width : ℕ) (found : Placement) (records : Records) (k : ℕ)
+    → StandsSame (shelf_split_for column_width found records).shelves (placement_taken column_width found records).shelves k
+stands-taken column_width found records k =
     let split : Records = shelf_split_for column_width found records in
     let given : Records = with_item_given found (rests_of found.splits_shelf found.splits_item records).item split in
     let same : SameShelf split.shelves given.shelves k = same-given found (rests_of found.splits_shelf found.splits_item records).item split k in
     let marked : LinkedShelf → LinkedShelf = λ here. record here { is_empty = false } in
     let new : List LinkedShelf = changed_by (Some found.shelf) marked given.shelves in
-    ap (λ (h : ℕ). h * (65536 * 65536) + chain_order new k) (field_at-kept (λ (x : LinkedShelf). x.height) 0 marked given.shelves found.shelf k (λ x. refl))
-    ∙ ap (λ (a : ℕ). height_of given.shelves k * (65536 * 65536) + (a * 65536 + across_of new k)) (field_at-kept (λ (x : LinkedShelf). x.x) 0 marked given.shelves found.shelf k (λ x. refl))
-    ∙ ap (λ (a : ℕ). height_of given.shelves k * (65536 * 65536) + (along_of given.shelves k * 65536 + a)) (field_at-kept (λ (x : LinkedShelf). x.y) 0 marked given.shelves found.shelf k (λ x. refl))
-    ∙ order-same split.shelves given.shelves k same
+    stands-then split.shelves given.shelves new k (stands-same split.shelves given.shelves k same)
+    (record {
+      place = omega (arith, field_at-kept (λ (x : LinkedShelf). x.x) 0 marked given.shelves found.shelf k (λ x. refl), field_at-kept (λ (x : LinkedShelf). x.y) 0 marked given.shelves found.shelf k (λ x. refl));
+      height = field_at-kept (λ (x : LinkedShelf). x.height) 0 marked given.shelves found.shelf k (λ x. refl);
+    })
 
 -- there are as many then
 pub length-taken : (column_width : ℕ) (found : Placement) (records : Records)
@@ -119,14 +130,15 @@ one-place height place high other below above same = omega (arith, below, above,
 place-low : (along across : ℕ) → along < 65536 → across < 65536 → along * 65536 + across < 65536 * 65536
 place-low along across low short = omega (arith, low, short)
 
--- no two shelves in use of kept records share a place in the order
-pub orders-apart : (frame : Frame) (records : Records) (k other : ℕ) → AreKept frame records → 1 ≤ times k (shelf_walk records).met → 1 ≤ times other (shelf_walk records).met
-    → k ≢ other → order_of records.shelves k ≢ order_of records.shelves other
-orders-apart frame records k other kept stands other_stands differ same =
+-- no two shelves in use of kept records share a place in the order, also among records that keep the places alone
+pub orders-apart : (frame : Frame) (records : Records) (kept_as : List LinkedShelf) (k other : ℕ) → AreKept frame records → 1 ≤ times k (shelf_walk records).met → 1 ≤ times other (shelf_walk records).met
+    → chain_order kept_as k ≡ chain_order records.shelves k → chain_order kept_as other ≡ chain_order records.shelves other
+    → k ≢ other → order_of kept_as k ≢ order_of kept_as other
+orders-apart frame records kept_as k other kept stands other_stands place other_place differ same =
     let here : LiesWithin frame records.shelves k = Each-member (LiesWithin frame records.shelves) (shelf_walk records).met k (kept-within frame records kept) stands in
     let there : LiesWithin frame records.shelves other = Each-member (LiesWithin frame records.shelves) (shelf_walk records).met other (kept-within frame records kept) other_stands in
-    let place : chain_order records.shelves k ≡ chain_order records.shelves other =
-    one-place (height_of records.shelves k) (chain_order records.shelves k) (height_of records.shelves other) (chain_order records.shelves other)
-    (place-low (along_of records.shelves k) (across_of records.shelves k) here.along here.across)
-    (place-low (along_of records.shelves other) (across_of records.shelves other) there.along there.across) same in
-    differ (rise-same (chain_order records.shelves) 0 (shelf_walk records).met (places-rise frame records kept) k other stands other_stands place)
+    let one : chain_order kept_as k ≡ chain_order kept_as other =
+    one-place (height_of kept_as k) (chain_order kept_as k) (height_of kept_as other) (chain_order kept_as other)
+    (omega (arith, place, place-low (along_of records.shelves k) (across_of records.shelves k) here.along here.across))
+    (omega (arith, other_place, place-low (along_of records.shelves other) (across_of records.shelves other) there.along there.across)) same in
+    differ (rise-same (chain_order records.shelves) 0 (shelf_walk records).met (places-rise frame records kept) k other stands other_stands (sym place ∙ one ∙ other_place))

@@ -1,31 +1,29 @@
--- The shelves in use stay by height when a placement is taken, and what putting in the rest of its shelf needs is there.
-use Rattle.std.proofs.Common.{◌≡◌, ℕ, ◌-◌, ◌≤◌, Bool, true, false, cond, Option, None, Some, List, [], ◌∷◌, ◌++◌, length, map, refl, ap, arith, ◌∙◌, sym, subst}
+-- The list of shelves by height holds but for those that have changed when a placement is taken.
+use Rattle.std.proofs.Common.{◌≡◌, ℕ, ◌+◌, ◌-◌, ◌≤◌, Bool, true, false, cond, Option, None, Some, List, [], ◌∷◌, ◌++◌, length, map, max, refl, ap, arith, ◌∙◌, sym, subst}
+use Rattle.std.proofs.lemmas.List.{length-append}
 use Rattle.etagere_base.proofs.EachLemmas.{Each-weaken}
 use Rattle.etagere_base.specs.Lists.{times}
 use Rattle.etagere_base.specs.declared.frames.Frame.{Frame}
 use Rattle.shelf_records.specs.RecordLists.{Records, shelf_numbers, walked_lists}
-use Rattle.shelf_records.specs.RecordUses.{number_used}
+use Rattle.shelf_records.specs.RecordUses.{new_shelf, number_used, shelves_used}
 use Rattle.shelf_records.specs.declared.records.LinkedShelf.{LinkedShelf}
 use Rattle.shelf_records.specs.AtlasRecords.{spelled_shelf}
 use Rattle.shelf_model.specs.Choice.{Placement}
-use Rattle.shelf_heights.specs.Private.ByHeight.{AreByHeight, IsBound, order_of}
+use Rattle.shelf_heights.specs.Private.ByHeight.{AreByHeight, IsBound}
+use Rattle.shelf_heights.specs.Private.Pending.{AreByHeightButNoted, Notes}
 use Rattle.shelf_records.specs.Private.Kept.{AreKept, bare}
-use Rattle.shelf_store.specs.Private.PlacementTaken.{CanTakeByHeight, CanPutRestIn, free_item, id_of, item_record, placement_taken, taken_by_height, rest_shelf, rests_used_for, shelf_record, with_rest_by_height, with_shelf_rest}
+use Rattle.shelf_store.specs.Private.PlacementTaken.{free_item, id_of, item_record, placement_taken, rest_shelf, rests_used_for, shelf_record, taken_notes, with_rest_notes, with_shelf_rest}
+use Rattle.shelf_store.specs.Private.Settling.{AreSettled}
 use Rattle.shelf_model.specs.State.{Shelf, empty_shelf}
 use Rattle.shelf_model.specs.Taking.{taken_shelf}
 use Rattle.shelf_heights.specs.declared.by_height.BoundedShelf.{BoundedShelf}
 use Rattle.shelf_heights.proofs.ByHeight.Edited.{in_order-kept, by_height-in_order}
 use Rattle.shelf_store.proofs.ByHeight.NumberedBounds.{BoundsIn, IsBoundOf, bounds-changed, bounds-numbered, numbered-bounds}
-use Rattle.shelf_store.proofs.ByHeight.SplitOrders.{length-split, length-taken, length-used, order-same, order-taken, same-split, same-used}
-use Rattle.shelf_store.proofs.ByHeight.SplitByHeight.{IsSplitByHeight, split-can_put, split-by_height}
-use Rattle.shelf_store.proofs.ByHeight.TakenBounds.{bound-empty, bound-taken}
+use Rattle.shelf_store.proofs.ByHeight.SplitOrders.{StandsSame, length-split, length-taken, length-used, order-stands, same-split, same-used, stands-same, stands-taken, stands-then}
+use Rattle.shelf_store.proofs.ByHeight.SplitByHeight.{IsSplitByHeight, settled-holds, split-holds}
+use Rattle.shelf_store.proofs.ByHeight.TakenBounds.{bound-taken}
 use Rattle.shelf_store.proofs.Spelled.TakenKept.{KeepsTaken, SpellsTaken}
 use Rattle.shelf_store.proofs.Spelled.TakenRests.{link_where, list_where}
-
--- the shelves by height when a placement is taken: what putting in needs before, and that they stand by height after
-pub record HoldsByHeight (frame : Frame) (records : Records) (found : Placement) (by_height : List BoundedShelf) : Type 0 where
-  pub can : CanTakeByHeight frame.column_width found records by_height
-  pub after : AreByHeight frame (placement_taken frame.column_width found records) (taken_by_height frame.column_width found records by_height)
 
 -- the shelves by height where none is split
 unsplit-by_height : (frame : Frame) (records new : Records) (by_height : List BoundedShelf) (shelf : ℕ) (front back : List ℕ) (fronts backs : List Shelf) (whole taken : Shelf)
@@ -35,11 +33,11 @@ unsplit-by_height : (frame : Frame) (records new : Records) (by_height : List Bo
     → map (spelled_shelf (bare frame records)) (walked_lists records).entries ≡ fronts ++ whole ∷ backs
     → map (spelled_shelf (bare frame new)) (walked_lists new).entries ≡ fronts ++ taken ∷ backs
     → ((widest : ℕ) → IsBound widest whole → IsBound widest taken)
-    → ((k : ℕ) → order_of new.shelves k ≡ order_of records.shelves k) → length records.shelves ≤ length new.shelves → AreByHeight frame new by_height
-unsplit-by_height frame records new by_height shelf front back fronts backs whole taken kept are numbers new_numbers long shelves new_shelves change orders longer =
+    → ((k : ℕ) → StandsSame records.shelves new.shelves k) → length records.shelves ≤ length new.shelves → AreByHeight frame new by_height
+unsplit-by_height frame records new by_height shelf front back fronts backs whole taken kept are numbers new_numbers long shelves new_shelves change stands longer =
     record {
       once = λ k. are.once k ∙ ap (times k) (numbers ∙ sym new_numbers);
-      rising = (in_order-kept records.shelves new.shelves by_height longer (λ k stands. orders k) (by_height-in_order frame records by_height kept are)).rising;
+      rising = (in_order-kept records.shelves new.shelves by_height longer (λ k there. order-stands records.shelves new.shelves k (stands k)) (by_height-in_order frame records by_height kept are)).rising;
       bounds = Each-weaken Old New by_height after are.bounds;
     }
   where
@@ -60,10 +58,33 @@ unsplit-by_height frame records new by_height shelf front back fronts backs whol
         (subst (λ (ss : List Shelf). BoundsIn one (front ++ shelf ∷ back) ss) (sym new_shelves)
         (bounds-changed one shelf front back fronts backs whole taken long (λ same. change one.widest) old)))
 
+-- notes stay settled where no shelf moves
+unsplit-settled : (records new : Records) (notes : Notes) → AreSettled records notes → shelf_numbers (walked_lists new).entries ≡ shelf_numbers (walked_lists records).entries
+    → ((k : ℕ) → StandsSame records.shelves new.shelves k) → length new.shelves ≤ length records.shelves → AreSettled new notes
+unsplit-settled records new notes settled numbers stands few =
+    record {
+      unchanged = settled.unchanged;
+      in_use = λ k. ap (times k) numbers ∙ settled.in_use k;
+      settled = λ k.
+          let is = settled.settled k in
+          record { listed = is.listed; place = λ there. is.place there ∙ sym (stands k).place; height = λ there. is.height there ∙ sym (stands k).height };
+      known = omega (arith, few, settled.known);
+      within = settled.within;
+    }
+
+-- the record of a rest is the last, or there are no more
+rest-last : (unused : Option ℕ) (shelves : List LinkedShelf) (rest : ℕ) → number_used true unused shelves ≡ Some rest → length (shelves_used true unused shelves) ≤ max (length shelves) (rest + 1)
+rest-last None shelves rest names =
+    let last : length shelves ≡ rest = cc in
+    omega (arith, last, length-append shelves (new_shelf ∷ []))
+rest-last (Some number) shelves rest names = omega arith
+
 -- when a placement that was found in kept records is taken
-pub taken-by_height : (frame : Frame) (records : Records) (placement found : Placement) (by_height : List BoundedShelf) → AreKept frame records → KeepsTaken frame records placement found
-    → found.splits_shelf ≡ placement.splits_shelf → AreByHeight frame records by_height → HoldsByHeight frame records found by_height
-taken-by_height frame records placement found by_height kept made split_same are = by_split placement.splits_shelf refl
+pub taken-holds : (frame : Frame) (records : Records) (placement found : Placement) (notes : Notes) (by_height : List BoundedShelf) → AreKept frame records → KeepsTaken frame records placement found
+    → found.splits_shelf ≡ placement.splits_shelf → AreByHeight frame records by_height → AreSettled records notes
+    → ((rest : ℕ) → number_used found.splits_shelf records.unused_shelves records.shelves ≡ Some rest → rest ≤ length records.shelves)
+    → AreByHeightButNoted frame (placement_taken frame.column_width found records) (taken_notes found records notes) by_height
+taken-holds frame records placement found notes by_height kept made split_same are settled next = by_split placement.splits_shelf refl
   where
     new : Records
     new = placement_taken frame.column_width found records
@@ -81,9 +102,9 @@ taken-by_height frame records placement found by_height kept made split_same are
     added : Shelf
     added = empty_shelf frame made.spells.whole.column (made.spells.whole.height - placement.height)
 
-    -- the orders of the records that were put to use
-    used-order : (k : ℕ) → order_of used.shelves k ≡ order_of records.shelves k
-    used-order k = order-same records.shelves used.shelves k (same-used found.splits_shelf found.splits_item records k)
+    -- where the records stand that were put to use
+    used-stands : (k : ℕ) → StandsSame records.shelves used.shelves k
+    used-stands k = stands-same records.shelves used.shelves k (same-used found.splits_shelf found.splits_item records k)
 
     change : (widest : ℕ) → IsBound widest made.spells.whole → IsBound widest given
     change widest = bound-taken frame widest placement (id_of records.items found.item) made.spells.whole made.spells.takes
@@ -103,70 +124,76 @@ taken-by_height frame records placement found by_height kept made split_same are
     shelves : (b : Bool) → placement.splits_shelf ≡ b → map (spelled_shelf (bare frame new)) (walked_lists new).entries ≡ made.spells.fronts ++ given ∷ (cond b (added ∷ []) [] ++ made.spells.backs)
     shelves b e = made.spells.new_shelves ∙ ap (λ (s : Bool). made.spells.fronts ++ given ∷ (cond s (added ∷ []) [] ++ made.spells.backs)) e
 
-    -- the records once the shelf was split, and what putting in it needs and leaves, by the numbers for its rest
+    -- the records once the shelf was split, and what is left, by the numbers for its rest
     split_by : Option ℕ → Option ℕ → Records
     split_by rest item = with_shelf_rest frame.column_width found rest item used
 
-    Needs : Option ℕ → Option ℕ → Type 0
-    Needs rest item = CanPutRestIn frame.column_width found rest item used by_height
+    any : LinkedShelf
+    any = shelf_record used.shelves found.shelf
 
-    Leaves : Option ℕ → Option ℕ → Type 0
-    Leaves rest item = AreByHeight frame new (with_rest_by_height frame.column_width found.shelf rest item (split_by rest item).shelves by_height)
+    Holds : Option ℕ → Option ℕ → Type 0
+    Holds rest item = AreByHeightButNoted frame new (with_rest_notes found.shelf rest item any notes) by_height
 
-    -- the places in the order that taking leaves
-    Orders : Option ℕ → Option ℕ → Type 0
-    Orders rest item = ((k : ℕ) → order_of new.shelves k ≡ order_of (split_by rest item).shelves k) × (length new.shelves ≡ length (split_by rest item).shelves)
+    -- where shelves stand that taking leaves
+    Stand : Option ℕ → Option ℕ → Type 0
+    Stand rest item = ((k : ℕ) → StandsSame (split_by rest item).shelves new.shelves k) × (length new.shelves ≡ length (split_by rest item).shelves)
 
-    orders : (rest item : Option ℕ) → number_used found.splits_shelf records.unused_shelves records.shelves ≡ rest → number_used found.splits_shelf records.unused_items records.items ≡ item → Orders rest item
-    orders rest item e f =
-        subst (λ (o : Option ℕ). Orders o item) e
-        (subst (λ (o : Option ℕ). Orders (number_used found.splits_shelf records.unused_shelves records.shelves) o) f
-        (order-taken frame.column_width found records, length-taken frame.column_width found records))
+    stand : (rest item : Option ℕ) → number_used found.splits_shelf records.unused_shelves records.shelves ≡ rest → number_used found.splits_shelf records.unused_items records.items ≡ item → Stand rest item
+    stand rest item e f =
+        subst (λ (o : Option ℕ). Stand o item) e
+        (subst (λ (o : Option ℕ). Stand (number_used found.splits_shelf records.unused_shelves records.shelves) o) f
+        (stands-taken frame.column_width found records, length-taken frame.column_width found records))
 
     by_numbers : (rest item : Option ℕ) → number_used found.splits_shelf records.unused_shelves records.shelves ≡ rest → number_used found.splits_shelf records.unused_items records.items ≡ item
-        → Needs rest item → Leaves rest item → HoldsByHeight frame records found by_height
-    by_numbers rest item e f needs leaves =
-        record {
-          can = subst (λ (o : Option ℕ). Needs o (number_used found.splits_shelf records.unused_items records.items)) (sym e) (subst (λ (o : Option ℕ). Needs rest o) (sym f) needs);
-          after = subst (λ (o : Option ℕ). Leaves o (number_used found.splits_shelf records.unused_items records.items)) (sym e) (subst (λ (o : Option ℕ). Leaves rest o) (sym f) leaves);
-        }
+        → Holds rest item → AreByHeightButNoted frame new (taken_notes found records notes) by_height
+    by_numbers rest item e f holds =
+        subst (λ (o : Option ℕ). Holds o (number_used found.splits_shelf records.unused_items records.items)) (sym e) (subst (λ (o : Option ℕ). Holds rest o) (sym f) holds)
 
-    by_split : (b : Bool) → placement.splits_shelf ≡ b → HoldsByHeight frame records found by_height
+    -- no record is made where no shelf is split
+    used-few : (b : Bool) → found.splits_shelf ≡ b → b ≡ false → length used.shelves ≤ length records.shelves
+    used-few b e none = let no : found.splits_shelf ≡ false = e ∙ none in rw no (omega arith)
+
+    by_split : (b : Bool) → placement.splits_shelf ≡ b → AreByHeightButNoted frame new (taken_notes found records notes) by_height
     by_split false e =
-        let same : Orders None None = orders None None (shelf_used false e) (item_used false e) in
-        by_numbers None None (shelf_used false e) (item_used false e) tt
+        let same : Stand None None = stand None None (shelf_used false e) (item_used false e) in
+        let stays : (k : ℕ) → StandsSame records.shelves new.shelves k = λ k. stands-then records.shelves used.shelves new.shelves k (used-stands k) (same.0 k) in
+        let few : length used.shelves ≤ length records.shelves = used-few false (split_same ∙ e) refl in
+        by_numbers None None (shelf_used false e) (item_used false e)
+        (settled-holds frame new notes by_height made.kept
         (unsplit-by_height frame records new by_height found.shelf made.spells.front made.spells.back made.spells.fronts made.spells.backs made.spells.whole given kept are
         made.spells.numbers (numbers false e) made.spells.long made.spells.shelves (shelves false e) change
-        (λ k. same.0 k ∙ used-order k)
+        stays
         (omega (arith, same.1, length-used found.splits_shelf found.splits_item records)))
+        (unsplit-settled records new notes settled (numbers false e ∙ sym made.spells.numbers) stays (omega (arith, same.1, few))))
     by_split true e =
         let rest : ℕ = made.spells.rest in
         let item : ℕ = made.spells.item in
         let split : Records = split_by (Some rest) (Some item) in
-        let same : Orders (Some rest) (Some item) = orders (Some rest) (Some item) (shelf_used true e) (item_used true e) in
-        let whole_record : LinkedShelf = shelf_record used.shelves found.shelf in
+        let same : Stand (Some rest) (Some item) = stand (Some rest) (Some item) (shelf_used true e) (item_used true e) in
         let long : length split.shelves ≡ length used.shelves =
-        length-split used found.shelf rest item found.height (rest_shelf whole_record found.height item)
-        (free_item whole_record.x frame.column_width rest (item_record used.items item).generation) in
-        let is : IsSplitByHeight frame records new split by_height found.shelf rest made.spells.front made.spells.back =
+        length-split used found.shelf rest item found.height (rest_shelf any found.height item)
+        (free_item any.x frame.column_width rest (item_record used.items item).generation) in
+        let splits : found.splits_shelf ≡ true = split_same ∙ e in
+        let few : length used.shelves ≤ max (length records.shelves) (rest + 1) =
+        rw splits (rest-last records.unused_shelves records.shelves rest (ap (λ (s : Bool). number_used s records.unused_shelves records.shelves) (sym splits) ∙ shelf_used true e)) in
+        let is : IsSplitByHeight frame records new notes by_height found.shelf rest made.spells.front made.spells.back =
         record {
           kept = kept;
           new_kept = made.kept;
           are = are;
+          settled = settled;
           numbers = made.spells.numbers;
           new_numbers = numbers true e;
-          orders = same.0;
           others = λ k other rest_other.
-              order-same used.shelves split.shelves k
-              (same-split used found.shelf rest item found.height (rest_shelf whole_record found.height item)
-              (free_item whole_record.x frame.column_width rest (item_record used.items item).generation) k other rest_other)
-              ∙ used-order k;
-          longer = omega (arith, long, length-used found.splits_shelf found.splits_item records);
-          long = same.1;
+              stands-then records.shelves split.shelves new.shelves k
+              (stands-then records.shelves used.shelves split.shelves k (used-stands k)
+              (stands-same used.shelves split.shelves k
+              (same-split used found.shelf rest item found.height (rest_shelf any found.height item)
+              (free_item any.x frame.column_width rest (item_record used.items item).generation) k other rest_other)))
+              (same.0 k);
+          next = omega (arith, next rest (shelf_used true e), settled.known);
+          few = omega (arith, same.1, long, few);
         } in
         by_numbers (Some rest) (Some item) (shelf_used true e) (item_used true e)
-        (split-can_put frame records new split by_height found.shelf rest frame.column_width made.spells.front made.spells.back is
-        used.shelves (length-used found.splits_shelf found.splits_item records) used-order)
-        (split-by_height frame records new split by_height found.shelf rest frame.column_width made.spells.front made.spells.back is
-        made.spells.fronts made.spells.backs made.spells.whole given added made.spells.long made.spells.shelves (shelves true e) change
-        (bound-empty frame made.spells.whole.column (made.spells.whole.height - placement.height)))
+        (split-holds frame records new notes by_height found.shelf rest frame.column_width any made.spells.front made.spells.back is
+        made.spells.fronts made.spells.backs made.spells.whole given added made.spells.long made.spells.shelves (shelves true e) change)

@@ -1,6 +1,6 @@
 -- Widening all shelves of half grown records: each shelf spells the wider one, and as many records are put to use as end
 -- with an allocated item.
-use Rattle.std.proofs.Common.{◌≡◌, ℕ, zero, suc, ◌+◌, ◌-◌, ◌≤◌, cond, Option, None, Some, List, [], ◌∷◌, ◌++◌, length, map, ap, arith, subst, sym, append_assoc, ◌∙◌}
+use Rattle.std.proofs.Common.{◌≡◌, ℕ, zero, suc, ◌+◌, ◌≤◌, cond, Option, None, Some, List, [], ◌∷◌, ◌++◌, length, map, ap, arith, subst, sym, append_assoc, ◌∙◌}
 use Rattle.std.proofs.lemmas.List.{map-append}
 use Rattle.etagere_base.specs.declared.frames.Frame.{Frame}
 use Rattle.std.specs.List.{AllByRecursion}

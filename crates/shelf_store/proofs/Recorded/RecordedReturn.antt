@@ -8,10 +8,10 @@ use Rattle.shelf_records.specs.RecordLists.{Records}
 use Rattle.shelf_model.specs.Atlas.{KeepsPromises, without_id}
 use Rattle.shelf_model.specs.Places.{allocations}
 use Rattle.shelf_records.specs.AtlasRecords.{is_allocated_at, item_at, shelf_of}
-use Rattle.shelf_heights.specs.Private.ByHeight.{AreByHeight}
+use Rattle.shelf_heights.specs.Private.Pending.{AreByHeightButNoted, Notes, is_noted}
 use Rattle.shelf_store.specs.Private.ItemReturned.{CanReturn, item_returned, unused_by}
 use Rattle.shelf_records.specs.Private.Kept.{AreKept, state_of}
-use Rattle.shelf_store.specs.Private.ReturnedByHeight.{CanReturnByHeight, returned_by_height}
+use Rattle.shelf_store.specs.Private.ReturnedNotes.{CanReturnByHeight, freed_width, raised_unless, returned_notes}
 use Rattle.shelf_records.specs.Private.Reading.{record_of, recorded_area}
 use Rattle.shelf_model.specs.Returning.{has_id, returned}
 use Rattle.shelf_model.specs.Space.{allocated_space}
@@ -72,15 +72,16 @@ after-return frame records new id number made_unused area kept named made counts
     (subst (λ (n : ℕ). AfterReturn frame records id (item_returned number records) (unused_by number records) n) (sym measures)
     (item_returned-after frame records id number kept named)))
 
--- the shelves stand by height after a return
-pub by_height-after : (frame : Frame) (records : Records) (by_height : List BoundedShelf) (id number : ℕ) → AreKept frame records → AreByHeight frame records by_height → record_of records.items id ≡ Some number
-    → AreByHeight frame (item_returned number records) (returned_by_height number records by_height)
-by_height-after frame records by_height id number kept are named = (returns-item frame records number kept (record-marked records.items id number named).0).by_height by_height are
+-- the shelves stand by height after a return, but for those that have changed
+pub by_height-after : (frame : Frame) (records : Records) (notes : Notes) (by_height : List BoundedShelf) (id number : ℕ) → AreKept frame records → AreByHeightButNoted frame records notes by_height → record_of records.items id ≡ Some number
+    → AreByHeightButNoted frame (item_returned number records) (returned_notes number records notes)
+    (raised_unless (is_noted notes (shelf_of records.items number)) (shelf_of records.items number) (freed_width records.items number) by_height)
+by_height-after frame records notes by_height id number kept are named = (returns-item frame records number kept (record-marked records.items id number named).0).by_height notes by_height are
 
 -- the item of the record that an id names can be returned
-pub can-return : (frame : Frame) (records : Records) (by_height : List BoundedShelf) (id number : ℕ) → AreKept frame records → AreByHeight frame records by_height → record_of records.items id ≡ Some number
-    → (number < 65535) × CanReturn number records × CanReturnByHeight (shelf_of records.items number) number records by_height
-can-return frame records by_height id number kept are named =
+pub can-return : (frame : Frame) (records : Records) (notes : Notes) (by_height : List BoundedShelf) (id number : ℕ) → AreKept frame records → AreByHeightButNoted frame records notes by_height → record_of records.items id ≡ Some number
+    → (number < 65535) × CanReturn number records × CanReturnByHeight (shelf_of records.items number) number records notes by_height
+can-return frame records notes by_height id number kept are named =
     let marked : is_allocated_at records.items number ≡ true = (record-marked records.items id number named).0 in
     let returns : ReturnsItem frame records number = returns-item frame records number kept marked in
-    (omega (arith, marked-within records.items number marked, (witnesses kept).counts.items.1), returns.can, returns.can_by_height by_height are)
+    (omega (arith, marked-within records.items number marked, (witnesses kept).counts.items.1), returns.can, returns.can_by_height notes by_height are)

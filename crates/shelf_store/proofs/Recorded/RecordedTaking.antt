@@ -1,5 +1,5 @@
 -- What an allocation leaves of an atlas: the state that its records spell, and what is counted beside them.
-use Rattle.std.proofs.Common.{◌≡◌, ℕ, ◌+◌, ◌<◌, ◌≤◌, List, ap, sym, subst, ◌∙◌, arith}
+use Rattle.std.proofs.Common.{◌≡◌, ℕ, ◌+◌, ◌<◌, ◌≤◌, List, ◌∷◌, length, ap, sym, subst, ◌∙◌, arith}
 use Rattle.std.specs.Prelude.{◌^◌}
 use Rattle.etagere_base.specs.declared.frames.Frame.{Frame}
 use Rattle.etagere_base.specs.declared.geometry.Rectangle.{Rectangle}
@@ -8,14 +8,21 @@ use Rattle.etagere_base.specs.declared.ids.Allocation.{Allocation}
 use Rattle.shelf_records.specs.RecordLists.{Records}
 use Rattle.shelf_model.specs.Choice.{Placement, area, rectangle_of_placement, splits}
 use Rattle.shelf_heights.specs.Private.ByHeight.{AreByHeight}
+use Rattle.shelf_heights.specs.Private.Pending.{AreByHeightButNoted, Notes}
 use Rattle.shelf_records.specs.Private.Kept.{AreKept, state_of}
-use Rattle.shelf_store.specs.Private.PlacementTaken.{id_of, placement_taken}
+use Rattle.shelf_store.specs.Private.PlacementTaken.{CanTakeFrom, id_of, placement_taken, taken_notes}
 use Rattle.shelf_store.specs.Private.Searching.{Finds}
+use Rattle.shelf_store.specs.Private.Settling.{AreSettled}
 use Rattle.shelf_model.specs.Space.{allocated_space}
 use Rattle.shelf_model.specs.State.{AtlasState, items_in_use}
 use Rattle.shelf_model.specs.Taking.{taken}
 use Rattle.shelf_heights.specs.declared.by_height.BoundedShelf.{BoundedShelf}
-use Rattle.shelf_store.proofs.ByHeight.TakenByHeight.{HoldsByHeight, taken-by_height}
+use Rattle.etagere_base.proofs.TimesLemmas.{times-append, times-here}
+use Rattle.etagere_base.specs.Lists.{times}
+use Rattle.shelf_store.proofs.ByHeight.RoomByHeight.{rest-next}
+use Rattle.shelf_store.proofs.ByHeight.SplitByHeight.{used-once}
+use Rattle.shelf_store.proofs.ByHeight.TakenByHeight.{taken-holds}
+use Rattle.shelf_store.proofs.Spelled.TakenPremises.{can-take}
 use Rattle.shelf_model.proofs.Spaces.SpaceSmall.{space-taken-small}
 use Rattle.shelf_store.proofs.Spelled.TakenKept.{KeepsTaken, placement-kept}
 use Rattle.shelf_model.proofs.Taken.PlacedWithin.{placed-within}
@@ -46,13 +53,23 @@ found-as_placed frame records size found kept finds =
       bottom = omega (arith, ends.bottom, ap (λ (p : Placement). p.across) same, ap (λ (p : Placement). p.height) same);
     }
 
--- what taking what was found needs of the shelves by height, and what it leaves of them
-pub found-by_height : (frame : Frame) (records : Records) (size : Size) (found : Placement) (by_height : List BoundedShelf) → AreKept frame records → Finds frame records size found
-    → AreByHeight frame records by_height → HoldsByHeight frame records found by_height
-found-by_height frame records size found by_height kept finds are =
+-- what taking what was found leaves of the shelves by height
+pub found-holds : (frame : Frame) (records : Records) (size : Size) (found : Placement) (notes : Notes) (by_height : List BoundedShelf) → AreKept frame records → Finds frame records size found
+    → AreByHeight frame records by_height → AreSettled records notes
+    → AreByHeightButNoted frame (placement_taken frame.column_width found records) (taken_notes found records notes) by_height
+found-holds frame records size found notes by_height kept finds are settled =
     let placement : Placement = finds.placement in
-    taken-by_height frame records placement found by_height kept (placement-kept frame records size placement found kept finds.placed finds.located)
-    (ap (λ (p : Placement). p.splits_shelf) finds.located.same) are
+    let can : CanTakeFrom frame.column_width found records = can-take frame records size placement found kept finds.placed finds.located in
+    taken-holds frame records placement found notes by_height kept (placement-kept frame records size placement found kept finds.placed finds.located)
+    (ap (λ (p : Placement). p.splits_shelf) finds.located.same) are settled
+    (λ rest names. rest-next found records rest names can.rests.shelf)
+
+-- its shelf is there
+pub found-there : (frame : Frame) (records : Records) (size : Size) (found : Placement) → AreKept frame records → (finds : Finds frame records size found) → found.shelf < length records.shelves
+found-there frame records size found kept finds =
+    let made : KeepsTaken frame records finds.placement found = placement-kept frame records size finds.placement found kept finds.placed finds.located in
+    (used-once frame records kept).within found.shelf
+    (omega (arith, ap (times found.shelf) made.spells.numbers, times-append found.shelf made.spells.front (found.shelf ∷ made.spells.back), times-here found.shelf made.spells.back))
 
 -- what holds after what was found for a size was taken, of the records and of the id
 pub record AfterTaking (frame : Frame) (records : Records) (size : Size) (found : Placement) (allocation : Allocation) (new : Records) : Type 0 where

@@ -22,18 +22,17 @@ use Rattle.shelf_records.specs.AtlasRecords.{AtlasRecords, is_allocated_at, item
 use Rattle.shelf_model.specs.Merging.{both_empty, combined_shelves, merged_shelf}
 use Rattle.shelf_model.specs.Places.{column_height}
 use Rattle.shelf_store.specs.Private.ItemReturned.{CanMergeItem, CanMergeShelves, CanReturn, IsLinkedBack, IsRemaining, Step, emptiness_said, item_merged, item_returned, merged_width, unused_by, shelves_merged}
-use Rattle.shelf_heights.specs.Private.ByHeight.{AreByHeight, raised, numbers_by_height}
+use Rattle.shelf_heights.specs.Private.Pending.{AreByHeightButNoted, HoldsButNoted, Notes, is_in_use, is_noted, once_where}
 use Rattle.shelf_records.specs.Private.Kept.{AreKept, atlas_of, bare, state_of}
 use Rattle.shelf_records.proofs.Spelled.Witnessed.{HasFlag, IsPlaced}
-use Rattle.shelf_store.specs.Private.ReturnedByHeight.{CanReturnByHeight, freed_width, returned_by_height, shelves_merged_by_height}
+use Rattle.shelf_store.specs.Private.ReturnedNotes.{CanReturnByHeight, freed_width, raised_unless, returned_notes, shelves_merged_notes}
 use Rattle.shelf_model.specs.Returning.{freed_shelf, returned}
 use Rattle.shelf_model.specs.State.{Shelf, AtlasState, items_in_use}
 use Rattle.shelf_records.specs.StandsFor.{HasCounts}
 use Rattle.shelf_model.specs.Valid.{IsShelf, IsValid}
 use Rattle.shelf_heights.specs.declared.by_height.BoundedShelf.{BoundedShelf}
 use Rattle.shelf_store.proofs.ByHeight.FreedByHeight.{FreesByHeight, frees-by_height}
-use Rattle.shelf_store.proofs.ByHeight.KeptByHeight.{kept-by_height, by_height-kept}
-use Rattle.shelf_store.proofs.ByHeight.MergedByHeight.{HoldsByHeight}
+use Rattle.shelf_heights.proofs.Noted.{in_use-within, once-true}
 use Rattle.shelf_model.proofs.Places.Heights.{column_height-append, column_height-none}
 use Rattle.shelf_model.proofs.Returned.ReturnedValid.{returned-valid}
 use Rattle.shelf_store.proofs.Spelled.EmptinessSaid.{IsFlagged, emptiness_said-flagged, flags-same}
@@ -42,7 +41,7 @@ use Rattle.shelf_store.proofs.Spelled.ItemFits.{can-merge-item}
 use Rattle.shelf_store.proofs.Spelled.RemainingItem.{item-remaining}
 use Rattle.shelf_store.proofs.Spelled.ItemLocated.{HasItem, in-use-counted, located}
 use Rattle.shelf_store.proofs.Spelled.ItemMerged.{MergesItem, merges-item}
-use Rattle.shelf_store.proofs.Spelled.NeighboursMerged.{AreLow, MergesShelves, can-merge-all-by_height, can-merge-shelves, merges-shelves, shelf-before}
+use Rattle.shelf_store.proofs.Spelled.NeighboursMerged.{AreLow, MergesShelves, can-merge-all-notes, can-merge-shelves, merges-shelves, shelf-before}
 use Rattle.shelf_store.proofs.Spelled.ReturnedAt.{returned-at}
 use Rattle.shelf_store.proofs.Spelled.ReturnedLengths.{SameLengths, returned-lengths, counts-same}
 use Rattle.shelf_store.proofs.Spelled.SpelledLists.{with_records}
@@ -59,7 +58,7 @@ record IsFreed (atlas : AtlasRecords) (records : Records) (made_unused : ℕ) (a
       map (spelled_shelf (with_records atlas records)) (around.before ++ entry_of shelf numbers free_list ∷ around.after)
       ≡ map (spelled_shelf atlas) around.before ++ merged_shelf (freed_shelf atlas.frame (length front) (spelled_shelf atlas (entry_of shelf (front ++ number ∷ back) free))) ∷ map (spelled_shelf atlas) around.after
   counted : length left_unused ≡ made_unused + length around.unused_items
-  in_list : FreesByHeight atlas (with_records atlas records) (item_merged shelf number atlas.records).records.shelves (around.before ++ entry_of shelf (front ++ number ∷ back) free ∷ around.after) (around.before ++ entry_of shelf numbers free_list ∷ around.after) shelf (freed_width atlas.records.items number)
+  frees : FreesByHeight atlas (with_records atlas records) (around.before ++ entry_of shelf (front ++ number ∷ back) free ∷ around.after) (around.before ++ entry_of shelf numbers free_list ∷ around.after) shelf (freed_width atlas.records.items number)
 
 -- an item was freed and merged, and its shelf says whether it is empty
 freed-flagged : {atlas : AtlasRecords} (around : Around) (shelf number : ℕ) (front back free : List ℕ) → IsShelf atlas.frame (spelled_shelf atlas (entry_of shelf (front ++ number ∷ back) free)) → is_allocated_at atlas.records.items number ≡ true → IsFlagged atlas (with_entry around (entry_of shelf (front ++ number ∷ back) free)) → IsFreed atlas (emptiness_said shelf (item_merged shelf number atlas.records).records) (item_merged shelf number atlas.records).made_unused around shelf number front back free
@@ -85,7 +84,7 @@ freed-flagged {atlas} around shelf number front back free valid allocated flagge
           ∙ ap (λ (s : Shelf). map (spelled_shelf atlas) around.before ++ s ∷ map (spelled_shelf middle) around.after) merges.returned
           ∙ ap (λ (ss : List Shelf). map (spelled_shelf atlas) around.before ++ merged_shelf (freed_shelf atlas.frame (length front) (spelled_shelf atlas entry)) ∷ ss) merges.after_same;
       counted = merges.counted;
-      in_list = frees-by_height atlas around shelf number front back free valid flagged.spelled merges said.1;
+      frees = frees-by_height atlas around shelf number front back free valid flagged.spelled merges said.1;
     }
 
 -- no column of a valid state is taller than 16 bits can say
@@ -104,20 +103,35 @@ pub record ReturnsItem (frame : Frame) (records : Records) (number : ℕ) : Type
   pub kept : AreKept frame (item_returned number records)
   pub state : state_of frame (item_returned number records) ≡ returned (state_of frame records) (id_at records.items number)
   pub counted : items_in_use (state_of frame (item_returned number records)).shelves + unused_by number records ≡ items_in_use (state_of frame records).shelves
-  pub can_by_height : (by_height : List BoundedShelf) → AreByHeight frame records by_height → CanReturnByHeight (shelf_of records.items number) number records by_height
-  pub by_height : (by_height : List BoundedShelf) → AreByHeight frame records by_height → AreByHeight frame (item_returned number records) (returned_by_height number records by_height)
+  pub can_by_height : (notes : Notes) (by_height : List BoundedShelf) → AreByHeightButNoted frame records notes by_height → CanReturnByHeight (shelf_of records.items number) number records notes by_height
+  pub by_height :
+      (notes : Notes) (by_height : List BoundedShelf) → AreByHeightButNoted frame records notes by_height
+      → AreByHeightButNoted frame (item_returned number records) (returned_notes number records notes)
+      (raised_unless (is_noted notes (shelf_of records.items number)) (shelf_of records.items number) (freed_width records.items number) by_height)
 
 -- records after a return, by the lists that they spell
-record IsReturned (atlas : AtlasRecords) (step : Step) (old : List Entry) (change : List BoundedShelf → List BoundedShelf) (state : AtlasState) (unused : List ℕ) : Type 0 where
+record IsReturned (atlas : AtlasRecords) (step : Step) (old : List Entry) (change : Notes → Notes) (shelf width : ℕ) (state : AtlasState) (unused : List ℕ) : Type 0 where
   lists : Lists
   flagged : IsFlagged (with_records atlas step.records) lists
   spelled : map (spelled_shelf (with_records atlas step.records)) lists.entries ≡ state.shelves
   counted : length lists.unused_items ≡ step.made_unused + length unused
-  in_list : (by_height : List BoundedShelf) → HoldsByHeight atlas old by_height → HoldsByHeight (with_records atlas step.records) lists.entries (change by_height)
+  holds :
+      (notes : Notes) (by_height : List BoundedShelf) → HoldsButNoted atlas old notes by_height
+      → HoldsButNoted (with_records atlas step.records) lists.entries (change notes) (raised_unless (is_noted notes shelf) shelf width by_height)
+
+-- what holds of kept records holds of the atlas that they are of, and back
+holds-kept : (frame : Frame) (records : Records) (notes : Notes) (by_height : List BoundedShelf) → AreByHeightButNoted frame records notes by_height → HoldsButNoted (atlas_of frame records) (walked_lists records).entries notes by_height
+holds-kept frame records notes by_height holds =
+    record { listed = holds.listed; in_use = holds.in_use; order = holds.order; settled = holds.settled; bounds = holds.bounds; known = holds.known; few = holds.few }
+
+holds-walked : (frame : Frame) (records new : Records) (lists : Lists) (notes : Notes) (by_height : List BoundedShelf) → walked_lists new ≡ lists → HoldsButNoted (with_records (atlas_of frame records) new) lists.entries notes by_height → AreByHeightButNoted frame new notes by_height
+holds-walked frame records new lists notes by_height walked holds =
+    subst (λ (l : Lists). HoldsButNoted (bare frame new) l.entries notes by_height) (sym walked)
+    (record { listed = holds.listed; in_use = holds.in_use; order = holds.order; settled = holds.settled; bounds = holds.bounds; known = holds.known; few = holds.few })
 
 -- records that spell lists keep every rule again where what they spell is valid
-kept-again : (frame : Frame) (records new : Records) (id left_unused : ℕ) (change : List BoundedShelf → List BoundedShelf) → AreKept frame records → SameLengths records new → IsReturned (atlas_of frame records) (record { records = new; made_unused = left_unused }) (walked_lists records).entries change (returned (state_of frame records) id) (walked_lists records).unused_items → (AreKept frame new × (state_of frame new ≡ returned (state_of frame records) id)) × (items_in_use (state_of frame new).shelves + left_unused ≡ items_in_use (state_of frame records).shelves) × ((by_height : List BoundedShelf) → AreByHeight frame records by_height → AreByHeight frame new (change by_height))
-kept-again frame records new id left_unused change kept lengths is =
+kept-again : (frame : Frame) (records new : Records) (id left_unused : ℕ) (change : Notes → Notes) (shelf width : ℕ) → AreKept frame records → SameLengths records new → IsReturned (atlas_of frame records) (record { records = new; made_unused = left_unused }) (walked_lists records).entries change shelf width (returned (state_of frame records) id) (walked_lists records).unused_items → (AreKept frame new × (state_of frame new ≡ returned (state_of frame records) id)) × (items_in_use (state_of frame new).shelves + left_unused ≡ items_in_use (state_of frame records).shelves) × ((notes : Notes) (by_height : List BoundedShelf) → AreByHeightButNoted frame records notes by_height → AreByHeightButNoted frame new (change notes) (raised_unless (is_noted notes shelf) shelf width by_height))
+kept-again frame records new id left_unused change shelf width kept lengths is =
     let lists : Lists = is.lists in
     let linked : IsLinked new lists = is.flagged.spelled.linked in
     let counts : HasCounts (atlas_of frame new) = counts-same (atlas_of frame records) (atlas_of frame new) lengths (witnesses kept).counts in
@@ -148,7 +162,7 @@ kept-again frame records new id left_unused change kept lengths is =
         state,
       ),
       omega (arith, in_use, old_count, new_count, is.counted, lengths.items),
-      λ by_height are. by_height-kept frame records new lists (change by_height) walked (is.in_list by_height (kept-by_height frame records by_height kept are)),
+      λ notes by_height holds. holds-walked frame records new lists (change notes) (raised_unless (is_noted notes shelf) shelf width by_height) walked (is.holds notes by_height (holds-kept frame records notes by_height holds)),
     )
 
 -- the id of an allocated item
@@ -164,10 +178,9 @@ returned_in shelf number records =
     let two = shelves_merged shelf (emptiness_said shelf one.records) in
     record { records = two.records; made_unused = one.made_unused + two.made_unused }
 
--- the shelves by height after it
-abbrev by_height_in : ℕ → ℕ → Records → List BoundedShelf → List BoundedShelf
-by_height_in shelf number records by_height =
-    shelves_merged_by_height shelf (emptiness_said shelf (item_merged shelf number records).records) (raised shelf (freed_width records.items number) by_height)
+-- what is noted after it
+abbrev notes_in : ℕ → ℕ → Records → Notes → Notes
+notes_in shelf number records notes = shelves_merged_notes shelf (emptiness_said shelf (item_merged shelf number records).records) notes
 
 -- the shelves of a state whose shelves around one were merged
 shelves-after : (frame : Frame) (peak_items n : ℕ) (after : AtlasState) (middle whole spelled : List Shelf) → after ≡ record { frame = frame; shelves = merged_before both_empty combined_shelves n (merged_at both_empty combined_shelves n whole); peak_items = peak_items } → middle ≡ whole → spelled ≡ merged_before both_empty combined_shelves n (merged_at both_empty combined_shelves n middle) → spelled ≡ after.shelves
@@ -175,12 +188,12 @@ shelves-after frame peak_items n after middle whole spelled at same merged = rw 
 
 -- what is known of a return of an item of this shelf
 record Returns (frame : Frame) (records : Records) (shelf number : ℕ) : Type 0 where
-  after : IsReturned (atlas_of frame records) (returned_in shelf number records) (walked_lists records).entries (by_height_in shelf number records) (returned (state_of frame records) (id_at records.items number)) (walked_lists records).unused_items
+  after : IsReturned (atlas_of frame records) (returned_in shelf number records) (walked_lists records).entries (notes_in shelf number records) shelf (freed_width records.items number) (returned (state_of frame records) (id_at records.items number)) (walked_lists records).unused_items
   can_item : CanMergeItem shelf number records
   remains : IsRemaining shelf number records
   can_shelves : CanMergeShelves shelf (emptiness_said shelf (item_merged shelf number records).records)
   linked : IsLinkedBack shelf (emptiness_said shelf (item_merged shelf number records).records).shelves
-  can_by_height : (by_height : List BoundedShelf) → AreByHeight frame records by_height → CanReturnByHeight shelf number records by_height
+  can_by_height : (notes : Notes) (by_height : List BoundedShelf) → AreByHeightButNoted frame records notes by_height → CanReturnByHeight shelf number records notes by_height
 
 -- an allocated item was returned that stands there
 returned-there : (frame : Frame) (records : Records) (number : ℕ) (has : HasItem number (walked_lists records).entries) → AreKept frame records → is_allocated_at records.items number ≡ true → IsFlagged (atlas_of frame records) (lists_of (has.before ++ entry_of has.shelf (has.front ++ number ∷ has.back) has.free ∷ has.after) (walked_lists records).unused_items (walked_lists records).unused_shelves) → Returns frame records has.shelf number
@@ -203,7 +216,7 @@ returned-there frame records number has kept allocated flagged =
     let middle : AtlasRecords = with_records atlas three in
     let edited : Entry = entry_of shelf freed.numbers freed.free_list in
     let two : Step = shelves_merged shelf three in
-    let merges : MergesShelves middle two (shelves_merged_by_height shelf three) (around_of has.before has.after freed.left_unused gone) edited = merges-shelves (around_of has.before has.after freed.left_unused gone) edited freed.flagged in
+    let merges : MergesShelves middle two (shelves_merged_notes shelf three) (around_of has.before has.after freed.left_unused gone) edited = merges-shelves (around_of has.before has.after freed.left_unused gone) edited freed.flagged in
     let at = returned-at state (id_at records.items number) (length has.before) (length has.front) front back old (map (item_at records.items) has.front) (map (item_at records.items) has.back) (item_at records.items number)
     (length-map has.before (spelled_shelf atlas)) (length-map has.front (item_at records.items)) (witnesses kept).valid shelves
     (map-append (item_at records.items) has.front (number ∷ has.back)) (allocated-id records.items number number allocated) in
@@ -212,8 +225,8 @@ returned-there frame records number has kept allocated flagged =
     rw freed.spelled (omega (arith, same, column_height-append column front (new ∷ back), column_height-append column front (old ∷ back), low-valid state (witnesses kept).valid column, ap (column_height column) shelves)) in
     let remaining : IsRemaining shelf number records × (merged_width shelf number records ≡ freed_width records.items number) =
     item-remaining (around_of has.before has.after unused gone) shelf number has.front has.back has.free valid allocated flagged in
-    let start : (by_height : List BoundedShelf) → HoldsByHeight atlas (walked_lists records).entries by_height → HoldsByHeight atlas (has.before ++ entry ∷ has.after) by_height = λ by_height in_list.
-    subst (λ (es : List Entry). HoldsByHeight atlas es by_height) has.whole in_list in
+    let start : (notes : Notes) (by_height : List BoundedShelf) → HoldsButNoted atlas (walked_lists records).entries notes by_height → HoldsButNoted atlas (has.before ++ entry ∷ has.after) notes by_height = λ notes by_height holds.
+    subst (λ (es : List Entry). HoldsButNoted atlas es notes by_height) has.whole holds in
     record {
       after =
           record {
@@ -222,27 +235,28 @@ returned-there frame records number has kept allocated flagged =
             spelled = shelves-after frame state.peak_items (length has.before) (returned state (id_at records.items number)) (map (spelled_shelf middle) (has.before ++ edited ∷ has.after)) (front ++ new ∷ back)
                 (map (spelled_shelf (with_records atlas two.records)) merges.entries) at freed.spelled merges.merged;
             counted = omega (arith, merges.counted, freed.counted);
-            in_list = λ by_height in_list. merges.in_list (raised shelf (freed_width records.items number) by_height) (freed.in_list.in_list by_height (start by_height in_list));
+            holds = λ notes by_height holds. merges.holds notes (raised_unless (is_noted notes shelf) shelf (freed_width records.items number) by_height) (freed.frees notes by_height (start notes by_height holds));
           };
       remains = remaining.0;
       can_item = can-merge-item (around_of has.before has.after unused gone) shelf number has.front has.back has.free (witnesses kept).valid.frame valid allocated flagged.spelled;
       linked = shelf-before (around_of has.before has.after freed.left_unused gone) edited freed.flagged;
       can_shelves = can-merge-shelves (around_of has.before has.after freed.left_unused gone) edited low freed.flagged;
-      can_by_height = λ by_height are.
-          let in_list : HoldsByHeight atlas (has.before ++ entry ∷ has.after) by_height = start by_height (kept-by_height frame records by_height kept are) in
-          let stands : 1 ≤ times shelf (numbers_by_height by_height) =
+      can_by_height = λ notes by_height are.
+          let holds : HoldsButNoted atlas (has.before ++ entry ∷ has.after) notes by_height = start notes by_height (holds-kept frame records notes by_height are) in
+          let in_use : 1 ≤ once_where (is_in_use notes shelf) =
           omega (
             arith,
-            in_list.once shelf,
+            holds.in_use shelf,
             ap (times shelf) (shelf_numbers-append has.before (entry ∷ has.after)),
             times-append shelf (shelf_numbers has.before) (shelf ∷ shelf_numbers has.after),
             times-here shelf (shelf_numbers has.after),
           ) in
           record {
             width = remaining.1;
-            stands = stands;
-            order = freed.in_list.order by_height in_list.order;
-            shelves = can-merge-all-by_height (around_of has.before has.after freed.left_unused gone) edited (raised shelf (freed_width records.items number) by_height) freed.flagged (freed.in_list.in_list by_height in_list);
+            known = in_use-within notes.standing shelf (once-true (is_in_use notes shelf) in_use);
+            stands = λ unnoted. omega (arith, holds.listed shelf, in_use, ap once_where (holds.settled shelf unnoted).listed);
+            order = holds.order;
+            shelves = can-merge-all-notes (around_of has.before has.after freed.left_unused gone) edited notes (raised_unless (is_noted notes shelf) shelf (freed_width records.items number) by_height) freed.flagged (freed.frees notes by_height holds);
           };
     }
 
@@ -261,7 +275,7 @@ returns-item frame records number kept allocated =
     let own : shelf_of records.items number ≡ has.shelf = (Each-back (λ item. shelf_of records.items item ≡ has.shelf) has.front (number ∷ has.back) placed.owners).0 in
     let there : Returns frame records (shelf_of records.items number) number =
     subst (λ shelf. Returns frame records shelf number) (sym own) (returned-there frame records number has kept allocated flagged) in
-    let again = kept-again frame records (item_returned number records) (id_at records.items number) (unused_by number records) (returned_by_height number records) kept (returned-lengths number records) there.after in
+    let again = kept-again frame records (item_returned number records) (id_at records.items number) (unused_by number records) (returned_notes number records) (shelf_of records.items number) (freed_width records.items number) kept (returned-lengths number records) there.after in
     record {
       can = record { item = there.can_item; remaining = there.remains; shelves = there.can_shelves; linked = there.linked };
       kept = again.0.0;

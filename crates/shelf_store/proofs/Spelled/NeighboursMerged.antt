@@ -1,6 +1,6 @@
 -- Records that spell lists, and whose shelves say whether they are empty, after a shelf was merged with its neighbours.
 use Rattle.shelf_records.proofs.AllLists.LinkedEdits.{Around, around_of, with_entry}
-use Rattle.std.proofs.Common.{◌≡◌, ◌≢◌, ℕ, suc, ◌+◌, ◌≤◌, ◌<◌, Bool, true, false, Option, None, Some, List, [], ◌∷◌, ◌++◌, length, map, refl, ap, subst, arith, sym, ◌∙◌, append_assoc}
+use Rattle.std.proofs.Common.{◌≡◌, ℕ, suc, ◌+◌, ◌≤◌, ◌<◌, Bool, true, false, Option, None, Some, List, [], ◌∷◌, ◌++◌, length, map, refl, ap, subst, arith, sym, ◌∙◌, append_assoc}
 use Rattle.std.proofs.lemmas.List.{length-append}
 use Rattle.std.specs.Prelude.{slice_get}
 use Rattle.etagere_base.proofs.TimesLemmas.{times-append}
@@ -17,12 +17,11 @@ use Rattle.etagere_links.proofs.ListEnds.{last-append, times-here}
 use Rattle.shelf_records.specs.AtlasRecords.{AtlasRecords, height_of, spelled_shelf}
 use Rattle.shelf_model.specs.Merging.{both_empty, combined_shelves}
 use Rattle.shelf_model.specs.Places.{column_height}
-use Rattle.shelf_heights.specs.Private.ByHeight.{numbers_by_height}
 use Rattle.shelf_store.specs.Private.ItemReturned.{Step, CanMergeShelves, HeightsFit, IsLinkedBack, are_both_empty, empty_named, empty_next, named_shelf_merged, shelf_merged, shelves_merged}
-use Rattle.shelf_store.specs.Private.ReturnedByHeight.{CanMergeNamedByHeight, CanMergeByHeight, CanMergeAllByHeight, named_shelf_merged_by_height, shelf_merged_by_height, shelves_merged_by_height}
+use Rattle.shelf_store.specs.Private.ReturnedNotes.{CanMergeAllNotes, CanMergeNamedNotes, CanMergeNotes, named_shelf_merged_notes, shelf_merged_notes, shelves_merged_notes}
 use Rattle.shelf_model.specs.State.{Shelf}
 use Rattle.shelf_heights.specs.declared.by_height.BoundedShelf.{BoundedShelf}
-use Rattle.shelf_store.proofs.ByHeight.MergedByHeight.{IsPair, HoldsByHeight, by_height-pair}
+use Rattle.shelf_heights.specs.Private.Pending.{HoldsButNoted, Notes}
 use Rattle.shelf_model.proofs.Places.Heights.{column_height-merged_at, heights-le}
 use Rattle.shelf_store.proofs.Spelled.EmptinessSaid.{IsFlagged}
 use Rattle.shelf_store.proofs.Spelled.ItemsAround.{by_end}
@@ -31,7 +30,7 @@ use Rattle.shelf_store.proofs.Spelled.ShelvesMerged.{AreNeighbours, MergesShelf,
 use Rattle.shelf_store.proofs.Spelled.SpelledLists.{with_records}
 
 -- what a step that merges a shelf with its neighbours makes of the lists of shelves, and what these spell
-pub record MergesShelves (atlas : AtlasRecords) (step : Step) (change : List BoundedShelf → List BoundedShelf) (around : Around) (entry : Entry) : Type 0 where
+pub record MergesShelves (atlas : AtlasRecords) (step : Step) (change : Notes → Notes) (around : Around) (entry : Entry) : Type 0 where
   pub entries : List Entry
   pub left_unused : List ℕ
   pub gone : List ℕ
@@ -41,7 +40,7 @@ pub record MergesShelves (atlas : AtlasRecords) (step : Step) (change : List Bou
       ≡ merged_before both_empty combined_shelves (length around.before)
       (merged_at both_empty combined_shelves (length around.before) (map (spelled_shelf atlas) (around.before ++ entry ∷ around.after)))
   pub counted : length left_unused ≡ step.made_unused + length around.unused_items
-  pub in_list : (by_height : List BoundedShelf) → HoldsByHeight atlas (around.before ++ entry ∷ around.after) by_height → HoldsByHeight (with_records atlas step.records) entries (change by_height)
+  pub holds : (notes : Notes) (by_height : List BoundedShelf) → HoldsButNoted atlas (around.before ++ entry ∷ around.after) notes by_height → HoldsButNoted (with_records atlas step.records) entries (change notes) by_height
 
 -- one more than the elements of a front
 one-more : {X : Type 0} (front : List X) (x : X) → length (front ++ x ∷ []) ≡ suc (length front)
@@ -55,9 +54,9 @@ last-named {atlas} around last entry flagged =
     ∙ last-append (shelf_numbers around.before) last.number None
 
 -- a shelf was merged with its neighbours, where they are empty and stand in one column
-pub merges-shelves : {atlas : AtlasRecords} (around : Around) (entry : Entry) → IsFlagged atlas (with_entry around entry) → MergesShelves atlas (shelves_merged entry.number atlas.records) (shelves_merged_by_height entry.number atlas.records) around entry
+pub merges-shelves : {atlas : AtlasRecords} (around : Around) (entry : Entry) → IsFlagged atlas (with_entry around entry) → MergesShelves atlas (shelves_merged entry.number atlas.records) (shelves_merged_notes entry.number atlas.records) around entry
 merges-shelves {atlas} around entry flagged =
-    by_end (λ (xs : List Entry). MergesShelf atlas (shelf_merged entry.number atlas.records) (shelf_merged_by_height entry.number atlas.records) (record around { before = xs }) entry → MergesShelves atlas (shelves_merged entry.number atlas.records) (shelves_merged_by_height entry.number atlas.records) (record around { before = xs }) entry)
+    by_end (λ (xs : List Entry). MergesShelf atlas (shelf_merged entry.number atlas.records) (shelf_merged_notes entry.number atlas.records) (record around { before = xs }) entry → MergesShelves atlas (shelves_merged entry.number atlas.records) (shelves_merged_notes entry.number atlas.records) (record around { before = xs }) entry)
     first some around.before (merges-shelf atlas around.before around.after entry around.unused_items around.unused_shelves flagged)
   where
     one : Step
@@ -72,20 +71,20 @@ merges-shelves {atlas} around entry flagged =
     whole : Option ℕ → Step
     whole named = record { records = (named_shelf_merged named one.records).records; made_unused = one.made_unused + (named_shelf_merged named one.records).made_unused }
 
-    change : Option ℕ → List BoundedShelf → List BoundedShelf
-    change named by_height = named_shelf_merged_by_height named one.records (shelf_merged_by_height entry.number atlas.records by_height)
+    change : Option ℕ → Notes → Notes
+    change named notes = named_shelf_merged_notes named one.records (shelf_merged_notes entry.number atlas.records notes)
 
-    first : MergesShelf atlas one (shelf_merged_by_height entry.number atlas.records) (record around { before = [] }) entry → MergesShelves atlas (whole link) (change link) (record around { before = [] }) entry
+    first : MergesShelf atlas one (shelf_merged_notes entry.number atlas.records) (record around { before = [] }) entry → MergesShelves atlas (whole link) (change link) (record around { before = [] }) entry
     first merges =
         let none : link ≡ None = previous-link (around_of [] merges.rest merges.left_unused merges.gone) entry merges.flagged.spelled in
         subst (λ (o : Option ℕ). MergesShelves atlas (whole o) (change o) (record around { before = [] }) entry) (sym none)
-        (record { entries = entry ∷ merges.rest; left_unused = merges.left_unused; gone = merges.gone; flagged = merges.flagged; merged = merges.merged; counted = omega (arith, merges.counted); in_list = merges.in_list })
+        (record { entries = entry ∷ merges.rest; left_unused = merges.left_unused; gone = merges.gone; flagged = merges.flagged; merged = merges.merged; counted = omega (arith, merges.counted); holds = merges.holds })
 
-    some : (xs : List Entry) (last : Entry) → MergesShelf atlas one (shelf_merged_by_height entry.number atlas.records) (record around { before = xs ++ last ∷ [] }) entry → MergesShelves atlas (whole link) (change link) (record around { before = xs ++ last ∷ [] }) entry
+    some : (xs : List Entry) (last : Entry) → MergesShelf atlas one (shelf_merged_notes entry.number atlas.records) (record around { before = xs ++ last ∷ [] }) entry → MergesShelves atlas (whole link) (change link) (record around { before = xs ++ last ∷ [] }) entry
     some xs last merges =
         let named : link ≡ Some last.number = last-named (around_of xs merges.rest merges.left_unused merges.gone) last entry merges.flagged in
         let regrouped : (xs ++ last ∷ []) ++ entry ∷ merges.rest ≡ xs ++ last ∷ entry ∷ merges.rest = append_assoc xs (last ∷ []) (entry ∷ merges.rest) in
-        let two : MergesShelf middle (shelf_merged last.number one.records) (shelf_merged_by_height last.number one.records) (around_of xs (entry ∷ merges.rest) merges.left_unused merges.gone) last =
+        let two : MergesShelf middle (shelf_merged last.number one.records) (shelf_merged_notes last.number one.records) (around_of xs (entry ∷ merges.rest) merges.left_unused merges.gone) last =
         merges-shelf middle xs (entry ∷ merges.rest) last merges.left_unused merges.gone
         (subst (λ (es : List Entry). IsFlagged middle (lists_of es merges.left_unused merges.gone)) regrouped merges.flagged) in
         subst (λ (o : Option ℕ). MergesShelves atlas (whole o) (change o) (record around { before = xs ++ last ∷ [] }) entry) (sym named)
@@ -99,8 +98,8 @@ merges-shelves {atlas} around entry flagged =
               ∙ ap (merged_at both_empty combined_shelves (length xs)) merges.merged
               ∙ ap (λ n. merged_before both_empty combined_shelves n (merged_at both_empty combined_shelves (length (xs ++ last ∷ [])) (map (spelled_shelf atlas) ((xs ++ last ∷ []) ++ entry ∷ around.after)))) (sym (one-more xs last));
           counted = omega (arith, two.counted, merges.counted);
-          in_list = λ by_height in_list. two.in_list (shelf_merged_by_height entry.number atlas.records by_height)
-              (subst (λ (es : List Entry). HoldsByHeight middle es (shelf_merged_by_height entry.number atlas.records by_height)) regrouped (merges.in_list by_height in_list));
+          holds = λ notes by_height holds. two.holds (shelf_merged_notes entry.number atlas.records notes) by_height
+              (subst (λ (es : List Entry). HoldsButNoted middle es (shelf_merged_notes entry.number atlas.records notes) by_height) regrouped (merges.holds notes by_height holds));
         })
 
 -- two neighbours, read by their numbers
@@ -162,7 +161,7 @@ can-merge-shelves {atlas} around entry low flagged =
     record {
       next = heights-fit atlas around.before around.after entry around.unused_items around.unused_shelves low flagged;
       previous =
-          by_end (λ (xs : List Entry). AreLow (map (spelled_shelf atlas) (xs ++ entry ∷ around.after)) → MergesShelf atlas one (shelf_merged_by_height entry.number atlas.records) (record around { before = xs }) entry → (n : ℕ) → link ≡ Some n → HeightsFit n one.records.shelves)
+          by_end (λ (xs : List Entry). AreLow (map (spelled_shelf atlas) (xs ++ entry ∷ around.after)) → MergesShelf atlas one (shelf_merged_notes entry.number atlas.records) (record around { before = xs }) entry → (n : ℕ) → link ≡ Some n → HeightsFit n one.records.shelves)
           first some around.before low (merges-shelf atlas around.before around.after entry around.unused_items around.unused_shelves flagged);
     }
   where
@@ -175,12 +174,12 @@ can-merge-shelves {atlas} around entry low flagged =
     link : Option ℕ
     link = link_at shelf_chain.previous one.records.shelves entry.number
 
-    first : AreLow (map (spelled_shelf atlas) (entry ∷ around.after)) → MergesShelf atlas one (shelf_merged_by_height entry.number atlas.records) (record around { before = [] }) entry → (n : ℕ) → link ≡ Some n → HeightsFit n one.records.shelves
+    first : AreLow (map (spelled_shelf atlas) (entry ∷ around.after)) → MergesShelf atlas one (shelf_merged_notes entry.number atlas.records) (record around { before = [] }) entry → (n : ℕ) → link ≡ Some n → HeightsFit n one.records.shelves
     first low_ merges n e =
         let none : link ≡ None = previous-link (around_of [] merges.rest merges.left_unused merges.gone) entry merges.flagged.spelled in
         absurd (cc (none, e))
 
-    some : (xs : List Entry) (last : Entry) → AreLow (map (spelled_shelf atlas) ((xs ++ last ∷ []) ++ entry ∷ around.after)) → MergesShelf atlas one (shelf_merged_by_height entry.number atlas.records) (record around { before = xs ++ last ∷ [] }) entry → (n : ℕ) → link ≡ Some n → HeightsFit n one.records.shelves
+    some : (xs : List Entry) (last : Entry) → AreLow (map (spelled_shelf atlas) ((xs ++ last ∷ []) ++ entry ∷ around.after)) → MergesShelf atlas one (shelf_merged_notes entry.number atlas.records) (record around { before = xs ++ last ∷ [] }) entry → (n : ℕ) → link ≡ Some n → HeightsFit n one.records.shelves
     some xs last low_ merges n e =
         let named : link ≡ Some last.number = last-named (around_of xs merges.rest merges.left_unused merges.gone) last entry merges.flagged in
         let same : last.number ≡ n = cc (named, e) in
@@ -204,9 +203,9 @@ in-use-neighbours {atlas} around entry flagged =
       times-here entry.number (shelf_numbers around.after),
     ))
 
--- a shelf and the next one, if both are empty, stand by height, and what merging them reads is there
-can-merge-by_height : (atlas : AtlasRecords) (before after : List Entry) (entry : Entry) (unused shelves : List ℕ) (by_height : List BoundedShelf) → IsFlagged atlas (lists_of (before ++ entry ∷ after) unused shelves) → HoldsByHeight atlas (before ++ entry ∷ after) by_height → CanMergeByHeight entry.number atlas.records by_height
-can-merge-by_height atlas before [] entry unused shelves by_height flagged in_list =
+-- what merging a shelf with the next one reads is there
+can-merge-notes : (atlas : AtlasRecords) (before after : List Entry) (entry : Entry) (unused shelves : List ℕ) (notes : Notes) (by_height : List BoundedShelf) → IsFlagged atlas (lists_of (before ++ entry ∷ after) unused shelves) → HoldsButNoted atlas (before ++ entry ∷ after) notes by_height → CanMergeNotes entry.number atlas.records notes
+can-merge-notes atlas before [] entry unused shelves notes by_height flagged holds =
     let none : empty_next atlas.records.shelves entry.number ≡ None = ap (empty_named atlas.records.shelves entry.number) (next-link (around_of before [] unused shelves) entry flagged.spelled) in
     record {
       there =
@@ -215,11 +214,10 @@ can-merge-by_height atlas before [] entry unused shelves by_height flagged in_li
             next = λ n e. absurd (cc (none, e));
             item = λ n e. absurd (cc (none, e));
           };
-      order = in_list.order;
-      few = in_list.few;
-      both = λ n e. absurd (cc (none, e));
+      few = holds.few;
+      known = holds.known;
     }
-can-merge-by_height atlas before (next ∷ after) entry unused shelves by_height flagged in_list =
+can-merge-notes atlas before (next ∷ after) entry unused shelves notes by_height flagged holds =
     record {
       there =
           record {
@@ -227,9 +225,8 @@ can-merge-by_height atlas before (next ∷ after) entry unused shelves by_height
             next = λ n e. subst (HasNeighbours shelf_chain atlas.records.shelves) (named n e (are_both_empty atlas.records.shelves entry.number next.number) refl) behind;
             item = λ n e. subst (λ m. NamesOneOf atlas.records.items (first_item_of atlas.records.shelves m)) (named n e (are_both_empty atlas.records.shelves entry.number next.number) refl) first;
           };
-      order = in_list.order;
-      few = in_list.few;
-      both = λ n e. both n (named n e (are_both_empty atlas.records.shelves entry.number next.number) refl);
+      few = holds.few;
+      known = holds.known;
     }
   where
     near : AreNeighbours atlas entry next
@@ -264,22 +261,14 @@ can-merge-by_height atlas before (next ∷ after) entry unused shelves by_height
         let some : empty_named atlas.records.shelves entry.number (Some next.number) ≡ Some next.number = simp t refl in
         cc (near.named, some, e)
 
-    pair : IsPair entry.number next.number by_height
-    pair = by_height-pair atlas before after entry next by_height in_list
-
-    both : (n : ℕ) → next.number ≡ n → (1 ≤ times entry.number (numbers_by_height by_height)) × (1 ≤ times n (numbers_by_height by_height)) × (entry.number ≢ n)
-    both n same =
-        subst (λ m. (1 ≤ times entry.number (numbers_by_height by_height)) × (1 ≤ times m (numbers_by_height by_height)) × (entry.number ≢ m)) same
-        (omega (arith, pair.own), omega (arith, pair.other), pair.differ)
-
 -- and so are they all when it is merged with its neighbours
-pub can-merge-all-by_height : {atlas : AtlasRecords} (around : Around) (entry : Entry) (by_height : List BoundedShelf) → IsFlagged atlas (with_entry around entry) → HoldsByHeight atlas (around.before ++ entry ∷ around.after) by_height → CanMergeAllByHeight entry.number atlas.records by_height
-can-merge-all-by_height {atlas} around entry by_height flagged in_list =
+pub can-merge-all-notes : {atlas : AtlasRecords} (around : Around) (entry : Entry) (notes : Notes) (by_height : List BoundedShelf) → IsFlagged atlas (with_entry around entry) → HoldsButNoted atlas (around.before ++ entry ∷ around.after) notes by_height → CanMergeAllNotes entry.number atlas.records notes
+can-merge-all-notes {atlas} around entry notes by_height flagged holds =
     record {
-      next = can-merge-by_height atlas around.before around.after entry around.unused_items around.unused_shelves by_height flagged in_list;
+      next = can-merge-notes atlas around.before around.after entry around.unused_items around.unused_shelves notes by_height flagged holds;
       previous =
-          by_end (λ (xs : List Entry). HoldsByHeight atlas (xs ++ entry ∷ around.after) by_height → MergesShelf atlas one (shelf_merged_by_height entry.number atlas.records) (record around { before = xs }) entry → CanMergeNamedByHeight link one.records (shelf_merged_by_height entry.number atlas.records by_height))
-          first some around.before in_list (merges-shelf atlas around.before around.after entry around.unused_items around.unused_shelves flagged);
+          by_end (λ (xs : List Entry). HoldsButNoted atlas (xs ++ entry ∷ around.after) notes by_height → MergesShelf atlas one (shelf_merged_notes entry.number atlas.records) (record around { before = xs }) entry → CanMergeNamedNotes link one.records (shelf_merged_notes entry.number atlas.records notes))
+          first some around.before holds (merges-shelf atlas around.before around.after entry around.unused_items around.unused_shelves flagged);
     }
   where
     one : Step
@@ -291,17 +280,17 @@ can-merge-all-by_height {atlas} around entry by_height flagged in_list =
     link : Option ℕ
     link = link_at shelf_chain.previous one.records.shelves entry.number
 
-    first : HoldsByHeight atlas (entry ∷ around.after) by_height → MergesShelf atlas one (shelf_merged_by_height entry.number atlas.records) (record around { before = [] }) entry → CanMergeNamedByHeight link one.records (shelf_merged_by_height entry.number atlas.records by_height)
-    first in_list_ merges n e =
+    first : HoldsButNoted atlas (entry ∷ around.after) notes by_height → MergesShelf atlas one (shelf_merged_notes entry.number atlas.records) (record around { before = [] }) entry → CanMergeNamedNotes link one.records (shelf_merged_notes entry.number atlas.records notes)
+    first holds_ merges n e =
         let none : link ≡ None = previous-link (around_of [] merges.rest merges.left_unused merges.gone) entry merges.flagged.spelled in
         absurd (cc (none, e))
 
-    some : (xs : List Entry) (last : Entry) → HoldsByHeight atlas ((xs ++ last ∷ []) ++ entry ∷ around.after) by_height → MergesShelf atlas one (shelf_merged_by_height entry.number atlas.records) (record around { before = xs ++ last ∷ [] }) entry → CanMergeNamedByHeight link one.records (shelf_merged_by_height entry.number atlas.records by_height)
-    some xs last in_list_ merges n e =
+    some : (xs : List Entry) (last : Entry) → HoldsButNoted atlas ((xs ++ last ∷ []) ++ entry ∷ around.after) notes by_height → MergesShelf atlas one (shelf_merged_notes entry.number atlas.records) (record around { before = xs ++ last ∷ [] }) entry → CanMergeNamedNotes link one.records (shelf_merged_notes entry.number atlas.records notes)
+    some xs last holds_ merges n e =
         let named : link ≡ Some last.number = last-named (around_of xs merges.rest merges.left_unused merges.gone) last entry merges.flagged in
         let same : last.number ≡ n = cc (named, e) in
         let regrouped : (xs ++ last ∷ []) ++ entry ∷ merges.rest ≡ xs ++ last ∷ entry ∷ merges.rest = append_assoc xs (last ∷ []) (entry ∷ merges.rest) in
-        subst (λ m. CanMergeByHeight m one.records (shelf_merged_by_height entry.number atlas.records by_height)) same
-        (can-merge-by_height middle xs (entry ∷ merges.rest) last merges.left_unused merges.gone (shelf_merged_by_height entry.number atlas.records by_height)
+        subst (λ m. CanMergeNotes m one.records (shelf_merged_notes entry.number atlas.records notes)) same
+        (can-merge-notes middle xs (entry ∷ merges.rest) last merges.left_unused merges.gone (shelf_merged_notes entry.number atlas.records notes) by_height
         (subst (λ (es : List Entry). IsFlagged middle (lists_of es merges.left_unused merges.gone)) regrouped merges.flagged)
-        (subst (λ (es : List Entry). HoldsByHeight middle es (shelf_merged_by_height entry.number atlas.records by_height)) regrouped (merges.in_list by_height in_list_)))
+        (subst (λ (es : List Entry). HoldsButNoted middle es (shelf_merged_notes entry.number atlas.records notes) by_height) regrouped (merges.holds notes by_height holds_)))

@@ -17,7 +17,7 @@ use Rattle.shelf_records.specs.AtlasRecords.{AtlasRecords, is_allocated_at, item
 use Rattle.shelf_model.specs.Merging.{both_free, combined_items}
 use Rattle.shelf_store.specs.Private.ItemReturned.{Step, free_named, free_next, next_absorbed}
 use Rattle.shelf_records.proofs.Spelled.Witnessed.{IsPlaced}
-use Rattle.shelf_store.specs.Private.ReturnedByHeight.{named_width}
+use Rattle.shelf_store.specs.Private.ReturnedNotes.{named_width}
 use Rattle.shelf_model.specs.State.{Item}
 use Rattle.shelf_store.proofs.Spelled.AbsorbedItems.{Absorbs, IsRest, rest-of, free-widens, widened-absorbs}
 use Rattle.shelf_store.proofs.Spelled.EntryValues.{IsWidened, LieFrom-back, free_count, free_count-append, free_count-free, widths}

@@ -8,8 +8,8 @@ use Rattle.shelf_records.specs.RecordLists.{Records}
 use Rattle.shelf_records.specs.Records.{shelf_chain}
 use Rattle.shelf_records.specs.AtlasRecords.{along_of, is_empty_at}
 use Rattle.shelf_store.specs.Private.ItemReturned.{IsLinkedBack, IsRemaining, Step, are_both_empty, emptiness_said, has_one_free, item_merged, empty_named, empty_next, named_shelf_merged, shelf_merged, shelf_next_absorbed, shelves_merged}
-use Rattle.shelf_store.specs.Private.ReturnedByHeight.{named_shelf_merged_by_height, shelf_merged_by_height, next_absorbed_by_height, shelves_merged_by_height}
-use Rattle.shelf_heights.specs.declared.by_height.BoundedShelf.{BoundedShelf}
+use Rattle.shelf_store.specs.Private.ReturnedNotes.{named_shelf_merged_notes, next_absorbed_notes, shelf_merged_notes, shelves_merged_notes}
+use Rattle.shelf_heights.specs.Private.Pending.{Notes}
 
 -- a shelf that says again what it says
 same-said : (shelf : ℕ) (is_empty : Bool) (shelves : List LinkedShelf) → is_empty_at shelves shelf ≡ is_empty → with_empty shelf is_empty shelves ≡ shelves
@@ -51,23 +51,23 @@ shelves-stay shelf records linked e =
     by_link None none = refl
     by_link (Some n) none = ap (λ (o : Option ℕ). shelf_next_absorbed n o records) (none n refl)
 
--- and the shelves by height stay as they are
-by_height-stay : (shelf : ℕ) (records : Records) (by_height : List BoundedShelf) → IsLinkedBack shelf records.shelves → is_empty_at records.shelves shelf ≡ false → shelves_merged_by_height shelf records by_height ≡ by_height
-by_height-stay shelf records by_height linked e =
+-- and nothing is noted
+notes-stay : (shelf : ℕ) (records : Records) (notes : Notes) → IsLinkedBack shelf records.shelves → is_empty_at records.shelves shelf ≡ false → shelves_merged_notes shelf records notes ≡ notes
+notes-stay shelf records notes linked e =
     let none : empty_next records.shelves shelf ≡ None = none-named records.shelves shelf (link_at shelf_chain.next records.shelves shelf) e in
     let one : shelf_merged shelf records ≡ record { records = records; made_unused = 0 } = ap (λ (o : Option ℕ). shelf_next_absorbed shelf o records) none in
-    let rank : shelf_merged_by_height shelf records by_height ≡ by_height = ap (λ (o : Option ℕ). next_absorbed_by_height shelf o records by_height) none in
-    rw (one, rank) (by_link (link_at shelf_chain.previous records.shelves shelf) (λ n named. none-before records.shelves shelf n (linked n named) e))
+    let noted : shelf_merged_notes shelf records notes ≡ notes = ap (λ (o : Option ℕ). next_absorbed_notes shelf o records notes) none in
+    rw (one, noted) (by_link (link_at shelf_chain.previous records.shelves shelf) (λ n named. none-before records.shelves shelf n (linked n named) e))
   where
-    by_link : (link : Option ℕ) → ((n : ℕ) → link ≡ Some n → empty_next records.shelves n ≡ None) → named_shelf_merged_by_height link records by_height ≡ by_height
+    by_link : (link : Option ℕ) → ((n : ℕ) → link ≡ Some n → empty_next records.shelves n ≡ None) → named_shelf_merged_notes link records notes ≡ notes
     by_link None none = refl
-    by_link (Some n) none = ap (λ (o : Option ℕ). next_absorbed_by_height n o records by_height) (none n refl)
+    by_link (Some n) none = ap (λ (o : Option ℕ). next_absorbed_notes n o records notes) (none n refl)
 
 -- what a return leaves of a shelf that isn't empty then: nothing but the item changes
 pub record StaysInUse (shelf : ℕ) (merged : Records) : Type 0 where
   pub records : (shelves_merged shelf (emptiness_said shelf merged)).records ≡ merged
   pub made_unused : (shelves_merged shelf (emptiness_said shelf merged)).made_unused ≡ 0
-  pub in_list : (by_height : List BoundedShelf) → shelves_merged_by_height shelf (emptiness_said shelf merged) by_height ≡ by_height
+  pub unnoted : (notes : Notes) → shelves_merged_notes shelf (emptiness_said shelf merged) notes ≡ notes
 
 pub stays-in-use : (shelf number : ℕ) (records : Records) → IsRemaining shelf number records → IsLinkedBack shelf (emptiness_said shelf (item_merged shelf number records).records).shelves → has_one_free shelf (item_merged shelf number records).records ≡ false → StaysInUse shelf (item_merged shelf number records).records
 stays-in-use shelf number records remaining linked in_use =
@@ -80,5 +80,5 @@ stays-in-use shelf number records remaining linked in_use =
     record {
       records = ap (λ (s : Step). s.records) stay ∙ said;
       made_unused = ap (λ (s : Step). s.made_unused) stay;
-      in_list = λ by_height. by_height-stay shelf (emptiness_said shelf merged) by_height linked busy;
+      unnoted = λ notes. notes-stay shelf (emptiness_said shelf merged) notes linked busy;
     }

@@ -20,7 +20,7 @@ use Rattle.shelf_records.specs.AtlasRecords.{AtlasRecords, is_allocated_at, item
 use Rattle.shelf_model.specs.Merging.{both_free, combined_items}
 use Rattle.shelf_store.specs.Private.ItemReturned.{Step, free_named, free_previous, freed_after, remaining_item}
 use Rattle.shelf_records.proofs.Spelled.Witnessed.{IsPlaced}
-use Rattle.shelf_store.specs.Private.ReturnedByHeight.{named_width}
+use Rattle.shelf_store.specs.Private.ReturnedNotes.{named_width}
 use Rattle.shelf_model.specs.Returning.{is_free_before}
 use Rattle.shelf_model.specs.State.{Item}
 use Rattle.shelf_store.proofs.Spelled.AbsorbedItems.{Absorbs, IsRest, rest-of, absorbed-items, allocated-absorbs}

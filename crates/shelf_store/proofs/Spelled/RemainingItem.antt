@@ -19,7 +19,7 @@ use Rattle.etagere_links.proofs.ListEnds.{last-stands-in}
 use Rattle.shelf_records.specs.AtlasRecords.{AtlasRecords, is_allocated_at, is_empty_at, item_at, spelled_shelf, width_of}
 use Rattle.shelf_store.specs.Private.ItemReturned.{IsRemaining, Step, free_named, free_next, free_previous, freed_after, is_alone, item_merged, remaining_in, names_one_free, next_absorbed}
 use Rattle.shelf_records.proofs.Spelled.Witnessed.{HasFlag}
-use Rattle.shelf_store.specs.Private.ReturnedByHeight.{freed_width, named_width}
+use Rattle.shelf_store.specs.Private.ReturnedNotes.{freed_width, named_width}
 use Rattle.shelf_model.specs.State.{Item, is_one_free}
 use Rattle.shelf_model.specs.Valid.{IsShelf}
 use Rattle.shelf_store.proofs.Spelled.EmptinessSaid.{IsFlagged}

@@ -45,13 +45,18 @@ named-lengths : (link : Option ℕ) (records : Records) → SameLengths records 
 named-lengths None records = record { items = refl; shelves = refl }
 named-lengths (Some shelf) records = shelf-next-lengths shelf (empty_next records.shelves shelf) records
 
--- an item becomes free, and its shelf says whether it is empty
+-- an item becomes free
+pub merged-lengths : (shelf number : ℕ) (records : Records) → SameLengths records (item_merged shelf number records).records
+merged-lengths shelf number records =
+    let one : Records = (next_absorbed shelf number (free_next records.items number) records).records in
+    then records one (item_merged shelf number records).records
+    (next-lengths shelf number (free_next records.items number) records) (freed-lengths shelf number (free_previous one.items number) one)
+
+-- and its shelf says whether it is empty
 pub emptied-lengths : (shelf number : ℕ) (records : Records) → SameLengths records (emptiness_said shelf (item_merged shelf number records).records)
 emptied-lengths shelf number records =
-    let one : Records = (next_absorbed shelf number (free_next records.items number) records).records in
     let two : Records = (item_merged shelf number records).records in
-    then records two (emptiness_said shelf two)
-    (then records one two (next-lengths shelf number (free_next records.items number) records) (freed-lengths shelf number (free_previous one.items number) one))
+    then records two (emptiness_said shelf two) (merged-lengths shelf number records)
     (record { items = refl; shelves = length-changed_by _ two.shelves (Some shelf) })
 
 -- a return keeps the number of records

@@ -23,10 +23,11 @@ use Rattle.shelf_records.specs.AtlasRecords.{AtlasRecords, along_of, height_of, 
 use Rattle.shelf_model.specs.Merging.{both_empty, combined_shelves}
 use Rattle.shelf_store.specs.Private.ItemReturned.{Step, are_both_empty, empty_named, empty_next, shelf_merged, shelf_next_absorbed, shelf_of_item_absorbed}
 use Rattle.shelf_records.proofs.Spelled.Witnessed.{HasFlag, IsPlaced}
-use Rattle.shelf_store.specs.Private.ReturnedByHeight.{shelf_merged_by_height, next_absorbed_by_height, shelf_of_item_absorbed_by_height}
+use Rattle.shelf_store.specs.Private.ReturnedNotes.{next_absorbed_notes, shelf_merged_notes, shelf_of_item_absorbed_notes}
 use Rattle.shelf_model.specs.State.{Shelf, is_empty, is_free, is_one_free}
 use Rattle.shelf_heights.specs.declared.by_height.BoundedShelf.{BoundedShelf}
-use Rattle.shelf_store.proofs.ByHeight.MergedByHeight.{HoldsByHeight, absorbed-by_height}
+use Rattle.shelf_heights.specs.Private.Pending.{HoldsButNoted, Notes}
+use Rattle.shelf_store.proofs.ByHeight.MergedByHeight.{absorbed-holds}
 use Rattle.shelf_store.proofs.Spelled.EmptinessSaid.{IsFlagged, flags-same, shelf-is}
 use Rattle.shelf_store.proofs.Spelled.ItemsAround.{free-item}
 use Rattle.shelf_records.proofs.Spelled.RecordValues.{SameItem}
@@ -50,7 +51,7 @@ module _ {X Y : Type 0} (f : Y → X) (touch : X → X → Bool) (combine : X �
   merged-touching (y ∷ front) x next back e = ap (λ (xs : List X). f y ∷ xs) (merged-touching front x next back e)
 
 -- what a step that merges a shelf with the next one makes of the lists of shelves, and what these spell
-pub record MergesShelf (atlas : AtlasRecords) (step : Step) (change : List BoundedShelf → List BoundedShelf) (around : Around) (entry : Entry) : Type 0 where
+pub record MergesShelf (atlas : AtlasRecords) (step : Step) (change : Notes → Notes) (around : Around) (entry : Entry) : Type 0 where
   pub rest : List Entry
   pub left_unused : List ℕ
   pub gone : List ℕ
@@ -59,10 +60,10 @@ pub record MergesShelf (atlas : AtlasRecords) (step : Step) (change : List Bound
       map (spelled_shelf (with_records atlas step.records)) (around.before ++ entry ∷ rest)
       ≡ merged_at both_empty combined_shelves (length around.before) (map (spelled_shelf atlas) (around.before ++ entry ∷ around.after))
   pub counted : length left_unused ≡ step.made_unused + length around.unused_items
-  pub in_list : (by_height : List BoundedShelf) → HoldsByHeight atlas (around.before ++ entry ∷ around.after) by_height → HoldsByHeight (with_records atlas step.records) (around.before ++ entry ∷ rest) (change by_height)
+  pub holds : (notes : Notes) (by_height : List BoundedShelf) → HoldsButNoted atlas (around.before ++ entry ∷ around.after) notes by_height → HoldsButNoted (with_records atlas step.records) (around.before ++ entry ∷ rest) (change notes) by_height
 
 -- nothing is merged
-shelf-kept : {atlas : AtlasRecords} (around : Around) (entry : Entry) → merged_at both_empty combined_shelves (length around.before) (map (spelled_shelf atlas) around.before ++ map (spelled_shelf atlas) (entry ∷ around.after)) ≡ map (spelled_shelf atlas) around.before ++ map (spelled_shelf atlas) (entry ∷ around.after) → IsFlagged atlas (with_entry around entry) → MergesShelf atlas (record { records = atlas.records; made_unused = 0 }) (λ by_height. by_height) around entry
+shelf-kept : {atlas : AtlasRecords} (around : Around) (entry : Entry) → merged_at both_empty combined_shelves (length around.before) (map (spelled_shelf atlas) around.before ++ map (spelled_shelf atlas) (entry ∷ around.after)) ≡ map (spelled_shelf atlas) around.before ++ map (spelled_shelf atlas) (entry ∷ around.after) → IsFlagged atlas (with_entry around entry) → MergesShelf atlas (record { records = atlas.records; made_unused = 0 }) (λ notes. notes) around entry
 shelf-kept {atlas} around entry stays flagged =
     let whole : map (spelled_shelf atlas) (around.before ++ entry ∷ around.after) ≡ map (spelled_shelf atlas) around.before ++ map (spelled_shelf atlas) (entry ∷ around.after) = map-append (spelled_shelf atlas) around.before (entry ∷ around.after) in
     record {
@@ -72,7 +73,7 @@ shelf-kept {atlas} around entry stays flagged =
       flagged = flagged;
       merged = whole ∙ sym stays ∙ ap (merged_at both_empty combined_shelves (length around.before)) (sym whole);
       counted = omega arith;
-      in_list = λ by_height in_list. in_list;
+      holds = λ notes by_height holds. holds;
     }
 
 -- two shelves stand in one column where they begin at one place
@@ -107,7 +108,7 @@ one-free-of items (x ∷ []) e =
 one-free-of items (x ∷ y ∷ ys) e = absurd (cc)
 
 -- the next shelf is absorbed with its item
-shelf-taken : {atlas : AtlasRecords} (around : Around) (entry : Entry) (next item : ℕ) (free : List ℕ) → both_empty (spelled_shelf atlas entry) (spelled_shelf atlas (entry_of next (item ∷ []) free)) ≡ true → along_of atlas.records.shelves next ≡ along_of atlas.records.shelves entry.number → is_allocated_at atlas.records.items item ≡ false → IsFlagged atlas (lists_of (around.before ++ entry ∷ entry_of next (item ∷ []) free ∷ around.after) around.unused_items around.unused_shelves) → MergesShelf atlas (shelf_of_item_absorbed entry.number next (Some item) atlas.records) (shelf_of_item_absorbed_by_height entry.number next (Some item) atlas.records) (record around { after = entry_of next (item ∷ []) free ∷ around.after }) entry
+shelf-taken : {atlas : AtlasRecords} (around : Around) (entry : Entry) (next item : ℕ) (free : List ℕ) → both_empty (spelled_shelf atlas entry) (spelled_shelf atlas (entry_of next (item ∷ []) free)) ≡ true → along_of atlas.records.shelves next ≡ along_of atlas.records.shelves entry.number → is_allocated_at atlas.records.items item ≡ false → IsFlagged atlas (lists_of (around.before ++ entry ∷ entry_of next (item ∷ []) free ∷ around.after) around.unused_items around.unused_shelves) → MergesShelf atlas (shelf_of_item_absorbed entry.number next (Some item) atlas.records) (shelf_of_item_absorbed_notes entry.number next (Some item)) (record around { after = entry_of next (item ∷ []) free ∷ around.after }) entry
 shelf-taken {atlas} around entry next item free touch column is_free flagged =
     let old : List LinkedShelf = atlas.records.shelves in
     let items : List LinkedItem = atlas.records.items in
@@ -142,7 +143,7 @@ shelf-taken {atlas} around entry next item free touch column is_free flagged =
           ∙ sym (merged-touching (spelled_shelf atlas) both_empty combined_shelves around.before (spelled_shelf atlas entry) (spelled_shelf atlas gone) (map (spelled_shelf atlas) around.after) touch)
           ∙ ap (merged_at both_empty combined_shelves (length around.before)) (sym (map-append (spelled_shelf atlas) around.before (entry ∷ gone ∷ around.after)));
       counted = omega arith;
-      in_list = λ by_height in_list. absorbed-by_height atlas records around.before around.after entry gone height by_height taller in_list apart.number;
+      holds = λ notes by_height holds. absorbed-holds atlas records around.before around.after entry gone height notes by_height taller holds;
     }
   where
     others-spelled : (atlas : AtlasRecords) (records : Records) (es : List Entry) → ((k : ℕ) → along_of records.shelves k ≡ along_of atlas.records.shelves k) → ((k : ℕ) → 1 ≤ times k (shelf_numbers es) → height_of records.shelves k ≡ height_of atlas.records.shelves k) → ((k : ℕ) → SameItem atlas.records.items records.items k) → map (spelled_shelf (with_records atlas records)) es ≡ map (spelled_shelf atlas) es
@@ -181,17 +182,17 @@ neighbours {atlas} around entry next flagged =
     }
 
 -- a shelf was merged with the next one, where both are empty and stand in one column
-pub merges-shelf : (atlas : AtlasRecords) (before after : List Entry) (entry : Entry) (unused shelves : List ℕ) → IsFlagged atlas (lists_of (before ++ entry ∷ after) unused shelves) → MergesShelf atlas (shelf_merged entry.number atlas.records) (shelf_merged_by_height entry.number atlas.records) (around_of before after unused shelves) entry
+pub merges-shelf : (atlas : AtlasRecords) (before after : List Entry) (entry : Entry) (unused shelves : List ℕ) → IsFlagged atlas (lists_of (before ++ entry ∷ after) unused shelves) → MergesShelf atlas (shelf_merged entry.number atlas.records) (shelf_merged_notes entry.number atlas.records) (around_of before after unused shelves) entry
 merges-shelf atlas before [] entry unused shelves flagged =
     let none : empty_next atlas.records.shelves entry.number ≡ None = ap (empty_named atlas.records.shelves entry.number) (next-link (around_of before [] unused shelves) entry flagged.spelled) in
-    subst (λ (o : Option ℕ). MergesShelf atlas (shelf_next_absorbed entry.number o atlas.records) (next_absorbed_by_height entry.number o atlas.records) (around_of before [] unused shelves) entry) (sym none)
+    subst (λ (o : Option ℕ). MergesShelf atlas (shelf_next_absorbed entry.number o atlas.records) (next_absorbed_notes entry.number o atlas.records) (around_of before [] unused shelves) entry) (sym none)
     (shelf-kept (around_of before [] unused shelves) entry (merged-end (spelled_shelf atlas) both_empty combined_shelves before (spelled_shelf atlas entry)) flagged)
 merges-shelf atlas before (next ∷ after) entry unused shelves flagged = by_test (are_both_empty atlas.records.shelves entry.number next.number) refl
   where
     near : AreNeighbours atlas entry next
     near = neighbours (around_of before after unused shelves) entry next flagged
 
-    absorbed : are_both_empty atlas.records.shelves entry.number next.number ≡ true → HasOneFree atlas.records.items next.items → MergesShelf atlas (shelf_next_absorbed entry.number (Some next.number) atlas.records) (next_absorbed_by_height entry.number (Some next.number) atlas.records) (around_of before (next ∷ after) unused shelves) entry
+    absorbed : are_both_empty atlas.records.shelves entry.number next.number ≡ true → HasOneFree atlas.records.items next.items → MergesShelf atlas (shelf_next_absorbed entry.number (Some next.number) atlas.records) (next_absorbed_notes entry.number (Some next.number) atlas.records) (around_of before (next ∷ after) unused shelves) entry
     absorbed e one =
         let same : entry_of next.number (one.item ∷ []) next.free_list ≡ next = ap (λ ns. entry_of next.number ns next.free_list) (sym one.alone) in
         let first : first_item_of atlas.records.shelves next.number ≡ Some one.item =
@@ -199,22 +200,22 @@ merges-shelf atlas before (next ∷ after) entry unused shelves flagged = by_tes
         let column : along_of atlas.records.shelves entry.number ≡ along_of atlas.records.shelves next.number =
         eqb-true (along_of atlas.records.shelves entry.number) (along_of atlas.records.shelves next.number)
         (and_parts (along_of atlas.records.shelves entry.number == along_of atlas.records.shelves next.number) (is_empty_at atlas.records.shelves entry.number && is_empty_at atlas.records.shelves next.number) e).0 in
-        subst (λ (o : Option ℕ). MergesShelf atlas (shelf_of_item_absorbed entry.number next.number o atlas.records) (shelf_of_item_absorbed_by_height entry.number next.number o atlas.records) (around_of before (next ∷ after) unused shelves) entry) (sym first)
-        (subst (λ (n : Entry). MergesShelf atlas (shelf_of_item_absorbed entry.number next.number (Some one.item) atlas.records) (shelf_of_item_absorbed_by_height entry.number next.number (Some one.item) atlas.records) (around_of before (n ∷ after) unused shelves) entry) same
+        subst (λ (o : Option ℕ). MergesShelf atlas (shelf_of_item_absorbed entry.number next.number o atlas.records) (shelf_of_item_absorbed_notes entry.number next.number o) (around_of before (next ∷ after) unused shelves) entry) (sym first)
+        (subst (λ (n : Entry). MergesShelf atlas (shelf_of_item_absorbed entry.number next.number (Some one.item) atlas.records) (shelf_of_item_absorbed_notes entry.number next.number (Some one.item)) (around_of before (n ∷ after) unused shelves) entry) same
         (shelf-taken (around_of before after unused shelves) entry next.number one.item next.free_list
         (subst (λ (n : Entry). both_empty (spelled_shelf atlas entry) (spelled_shelf atlas n) ≡ true) (sym same) (near.touch ∙ e))
         (sym column) one.free
         (subst (λ (n : Entry). IsFlagged atlas (lists_of (before ++ entry ∷ n ∷ after) unused shelves)) (sym same) flagged)))
 
-    by_test : (b : Bool) → are_both_empty atlas.records.shelves entry.number next.number ≡ b → MergesShelf atlas (shelf_merged entry.number atlas.records) (shelf_merged_by_height entry.number atlas.records) (around_of before (next ∷ after) unused shelves) entry
+    by_test : (b : Bool) → are_both_empty atlas.records.shelves entry.number next.number ≡ b → MergesShelf atlas (shelf_merged entry.number atlas.records) (shelf_merged_notes entry.number atlas.records) (around_of before (next ∷ after) unused shelves) entry
     by_test false e =
         let none : empty_named atlas.records.shelves entry.number (Some next.number) ≡ None = simp e refl in
-        subst (λ (o : Option ℕ). MergesShelf atlas (shelf_next_absorbed entry.number o atlas.records) (next_absorbed_by_height entry.number o atlas.records) (around_of before (next ∷ after) unused shelves) entry) (sym (near.named ∙ none))
+        subst (λ (o : Option ℕ). MergesShelf atlas (shelf_next_absorbed entry.number o atlas.records) (next_absorbed_notes entry.number o atlas.records) (around_of before (next ∷ after) unused shelves) entry) (sym (near.named ∙ none))
         (shelf-kept (around_of before (next ∷ after) unused shelves) entry
         (merged-apart (spelled_shelf atlas) both_empty combined_shelves before (spelled_shelf atlas entry) (spelled_shelf atlas next) (map (spelled_shelf atlas) after) (near.touch ∙ e)) flagged)
     by_test true e =
         let some : empty_named atlas.records.shelves entry.number (Some next.number) ≡ Some next.number = simp e refl in
         let empty = and_parts (is_empty (spelled_shelf atlas entry)) (is_empty (spelled_shelf atlas next))
         (and_parts ((spelled_shelf atlas entry).column == (spelled_shelf atlas next).column) (is_empty (spelled_shelf atlas entry) && is_empty (spelled_shelf atlas next)) (near.touch ∙ e)).1 in
-        subst (λ (o : Option ℕ). MergesShelf atlas (shelf_next_absorbed entry.number o atlas.records) (next_absorbed_by_height entry.number o atlas.records) (around_of before (next ∷ after) unused shelves) entry) (sym (near.named ∙ some))
+        subst (λ (o : Option ℕ). MergesShelf atlas (shelf_next_absorbed entry.number o atlas.records) (next_absorbed_notes entry.number o atlas.records) (around_of before (next ∷ after) unused shelves) entry) (sym (near.named ∙ some))
         (absorbed e (one-free-of atlas.records.items next.items empty.1))

@@ -2,7 +2,6 @@
 use Rattle.std.specs.Prelude.{ℕ, ◌+◌, ◌-◌, ◌*◌, ◌<◌, ◌≤◌, true, false, Option, None, Some, IfSome, List, length}
 use Rattle.etagere_base.specs.Frames.{longest_side}
 use Rattle.etagere_base.specs.Ids.{index_modulus}
-use Rattle.etagere_base.specs.Lists.{times}
 use Rattle.shelf_records.specs.declared.records.LinkedItem.{LinkedItem}
 use Rattle.shelf_records.specs.declared.records.LinkedShelf.{LinkedShelf}
 use Rattle.etagere_links.specs.Links.{no_link}
@@ -12,10 +11,9 @@ use Rattle.etagere_links.specs.Edits.{field_at}
 use Rattle.etagere_links.specs.Neighbours.{HasNeighbours}
 use Rattle.shelf_records.specs.Records.{free_list, item_chain, shelf_chain}
 use Rattle.shelf_records.specs.RecordMerges.{item_given, front_given, shelf_split}
-use Rattle.shelf_records.specs.RecordUses.{missing, new_item, new_shelf, rests_of, rests_used}
+use Rattle.shelf_records.specs.RecordUses.{new_item, new_shelf, rests_of, rests_used}
 use Rattle.shelf_model.specs.Choice.{Placement}
-use Rattle.shelf_heights.specs.Private.ByHeight.{AreInOrder, bound_of, put_in, numbers_by_height, taken_out}
-use Rattle.shelf_heights.specs.declared.by_height.BoundedShelf.{BoundedShelf}
+use Rattle.shelf_heights.specs.Private.Pending.{Notes, noted_as, with_entry}
 
 -- the item record of this number
 abbrev pub item_record : List LinkedItem → ℕ → LinkedItem
@@ -104,27 +102,20 @@ placement_taken column_width found records =
     (with_item_given found (rests_of found.splits_shelf found.splits_item records).item
     (shelf_split_for column_width found records))
 
--- the list of shelves by height without the shelf of this number, and with it where it stands by these
--- records, with the bound that it had
-abbrev pub put_back : ℕ → List LinkedShelf → List BoundedShelf → List BoundedShelf
-put_back shelf shelves by_height =
-    put_in shelves (record { widest = bound_of shelf by_height; shelf = shelf })
-    (taken_out shelf by_height)
+-- what is noted once a shelf was split, where these are the numbers of the rest and of its item: that both have changed,
+-- the rest with an entry, in which any record stands for the one that is kept of it
+abbrev pub with_rest_notes : ℕ → Option ℕ → Option ℕ → LinkedShelf → Notes → Notes
+with_rest_notes shelf None item any notes = notes
+with_rest_notes shelf (Some rest) None any notes = notes
+with_rest_notes shelf (Some rest) (Some item) any notes =
+    noted_as rest true (with_entry rest any (noted_as shelf true notes))
 
--- the list once the shelf of a placement was split, where these are the numbers of the rest and of its
--- item, and these the records; the rest is as wide as its column
-abbrev pub with_rest_by_height : ℕ → ℕ → Option ℕ → Option ℕ → List LinkedShelf → List BoundedShelf → List BoundedShelf
-with_rest_by_height column_width shelf None item shelves by_height = by_height
-with_rest_by_height column_width shelf (Some rest) None shelves by_height = by_height
-with_rest_by_height column_width shelf (Some rest) (Some item) shelves by_height =
-    put_in shelves (record { widest = column_width; shelf = rest }) (put_back shelf shelves by_height)
-
--- the list after a placement was taken
-abbrev pub taken_by_height : ℕ → Placement → Records → List BoundedShelf → List BoundedShelf
-taken_by_height column_width found records by_height =
+-- what is noted after a placement was taken
+abbrev pub taken_notes : Placement → Records → Notes → Notes
+taken_notes found records notes =
     let rests = rests_of found.splits_shelf found.splits_item records in
-    with_rest_by_height column_width found.shelf rests.shelf rests.shelf_item
-    (shelf_split_for column_width found records).shelves by_height
+    with_rest_notes found.shelf rests.shelf rests.shelf_item
+    (shelf_record (rests_used_for found records).shelves found.shelf) notes
 
 -- the id under which the item of this number is given
 abbrev pub id_of : List LinkedItem → ℕ → ℕ
@@ -170,35 +161,3 @@ pub record CanTakeFrom (column_width : ℕ) (found : Placement) (records : Recor
   pub there :
       IsItemThere found (rests_of found.splits_shelf found.splits_item records).item
       (shelf_split_for column_width found records)
-
--- what putting in its shelf and the rest of it needs, by the records before the split and after it: the
--- shelves stand in their order, and so they do with the shelf in its new place
-pub record CanPutShelfIn (shelf rest : ℕ) (shelves new : List LinkedShelf) (by_height : List BoundedShelf)
-    : Type 0 where
-  pub order : AreInOrder shelves by_height
-  pub stands : 1 ≤ times shelf (numbers_by_height by_height)
-  pub within : shelf < length new
-  pub rest_within : rest < length new
-  pub others : AreInOrder new (taken_out shelf by_height)
-  pub lower : AreInOrder new (put_back shelf new by_height)
-
--- what that needs where these are the numbers of the rest and of its item
-abbrev pub CanPutRestIn : ℕ → Placement → Option ℕ → Option ℕ → Records → List BoundedShelf → Type 0
-CanPutRestIn column_width found rest item records by_height =
-    IfSome rest
-    (λ rest. IfSome item
-    (λ item. CanPutShelfIn found.shelf rest records.shelves
-    (with_shelf_rest column_width found (Some rest) (Some item) records).shelves by_height))
-
--- so many shelves stand by height that the records, with what is missing for one more, are enough for all of them and one more
-abbrev pub HasSpare : Records → List BoundedShelf → Type 0
-HasSpare records by_height =
-    length by_height
-    < length records.shelves + missing shelf_chain 1 records.unused_shelves records.shelves
-
--- what taking a placement needs of the shelves by height
-abbrev pub CanTakeByHeight : ℕ → Placement → Records → List BoundedShelf → Type 0
-CanTakeByHeight column_width found records by_height =
-    let rests = rests_of found.splits_shelf found.splits_item records in
-    CanPutRestIn column_width found rests.shelf rests.shelf_item (rests_used_for found records)
-    by_height

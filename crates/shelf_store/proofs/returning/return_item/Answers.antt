@@ -4,13 +4,13 @@ use Rattle.shelf_records.specs.declared.records.LinkedShelf.{LinkedShelf}
 use Rattle.shelf_records.specs.RecordEdits.{shelf_changed}
 use Rattle.shelf_records.specs.RecordLists.{Records}
 use Rattle.shelf_records.specs.AtlasRecords.{shelf_of, width_of}
-use Rattle.shelf_heights.specs.Private.ByHeight.{raised}
-use Rattle.shelf_heights.proofs.ByHeight.Positions.{stands-within}
+use Rattle.shelf_heights.specs.Private.Pending.{Notes, is_noted}
 use Rattle.shelf_store.specs.Private.ItemReturned.{emptiness_said, has_one_free, item_merged, merged_width}
-use Rattle.shelf_store.specs.Private.ReturnedByHeight.{freed_width}
+use Rattle.shelf_store.specs.Private.ReturnedNotes.{freed_width, raised_unless}
 use Rattle.shelf_store.proofs.Spelled.NotEmptied.{StaysInUse, stays-in-use}
+use Rattle.shelf_store.proofs.Spelled.ReturnedLengths.{merged-lengths}
 use Rattle.shelf_store.proofs.returning.return_item.Goals as goal
-use Rattle.shelf_store.proofs.returning.return_item.Goals.{After-raise, After-is_alone, After-set_empty_present}
+use Rattle.shelf_store.proofs.returning.return_item.Goals.{After-raise_unless_noted, After-is_alone, After-set_empty_present}
 
 pub merge_item-merged-requires-clause-fits : goal.merge_item-merged-requires-clause-fits
 merge_item-merged-requires-clause-fits c = rw c.requires.shelf (c.requires.fits.item)
@@ -19,11 +19,11 @@ pub width_of-width-requires : goal.width_of-width-requires
 width_of-width-requires c =
     rw (c.items.ensures, c.merge_item-merged.ensures.records, c.merge_item-merged.ensures.item, c.requires.shelf) (c.requires.fits.remaining.there)
 
-pub raise-requires-clause-order : goal.raise-requires-clause-order
-raise-requires-clause-order c = rw (c.shelves.ensures, c.merge_item-merged.ensures.records, c.requires.shelf) (c.requires.by_height.order)
+pub raise_unless_noted-requires-clause-known : goal.raise_unless_noted-requires-clause-known
+raise_unless_noted-requires-clause-known c = rw c.requires.shelf (c.requires.by_height.known)
 
-pub raise-requires-clause-stands : goal.raise-requires-clause-stands
-raise-requires-clause-stands c = rw c.requires.shelf (c.requires.by_height.stands)
+pub raise_unless_noted-requires-clause-stands : goal.raise_unless_noted-requires-clause-stands
+raise_unless_noted-requires-clause-stands c = rw c.requires.shelf (c.requires.by_height.stands)
 
 pub is_alone-requires : goal.is_alone-requires
 is_alone-requires c =
@@ -31,20 +31,22 @@ is_alone-requires c =
 
 pub set_empty_present-requires : goal.set_empty_present-requires
 set_empty_present-requires c =
+    let shelf : ℕ = shelf_of c.args.records.now.items c.args.number in
     rw (c.merge_item-merged.ensures.records, c.requires.shelf)
-    (stands-within (item_merged (shelf_of c.args.records.now.items c.args.number) c.args.number c.args.records.now).records.shelves (shelf_of c.args.records.now.items c.args.number) c.args.by_height.now.items c.requires.by_height.order c.requires.by_height.stands)
+    (omega (arith, c.requires.fits.item.here.in_range, (merged-lengths shelf c.args.number c.args.records.now).shelves))
 
 -- the bound that rises is that of the item's shelf, and it rises to what becomes free
-rises : (c : After-raise) → c.raise.new.by_height.items ≡ raised (shelf_of c.args.records.now.items c.args.number) (freed_width c.args.records.now.items c.args.number) c.args.by_height.now.items
+rises : (c : After-raise_unless_noted) → (let shelf = shelf_of c.args.records.now.items c.args.number in c.raise_unless_noted.new.by_height.items ≡ raised_unless (is_noted c.args.pending.now.notes shelf) shelf (freed_width c.args.records.now.items c.args.number) c.args.by_height.now.items)
 rises c =
     let items : List LinkedItem = c.args.records.now.items in
     let wide : c.width_of-width.result ≡ merged_width c.args.shelf c.args.number c.args.records.now =
     c.width_of-width.ensures
     ∙ ap (λ (is : List LinkedItem). width_of is c.merge_item-merged.result.item) (c.items.ensures ∙ ap (λ (r : Records). r.items) c.merge_item-merged.ensures.records)
     ∙ ap (width_of (item_merged c.args.shelf c.args.number c.args.records.now).records.items) c.merge_item-merged.ensures.item in
-    c.raise.ensures.by_height
-    ∙ ap (λ s. raised s c.width_of-width.result c.args.by_height.now.items) c.requires.shelf
-    ∙ ap (λ w. raised (shelf_of items c.args.number) w c.args.by_height.now.items)
+    let notes : Notes = c.args.pending.now.notes in
+    c.raise_unless_noted.ensures.by_height
+    ∙ ap (λ s. raised_unless (is_noted notes s) s c.width_of-width.result c.args.by_height.now.items) c.requires.shelf
+    ∙ ap (λ w. raised_unless (is_noted notes (shelf_of items c.args.number)) (shelf_of items c.args.number) w c.args.by_height.now.items)
     (wide ∙ ap (λ s. merged_width s c.args.number c.args.records.now) c.requires.shelf ∙ c.requires.by_height.width)
 
 -- the item that remains stands alone just where its shelf is empty
@@ -66,10 +68,10 @@ merge_shelves-requires-clause-fits c =
     let at = goal.at.merge_shelves-requires-clause-fits c in
     rw (said at.After-set_empty_present (emptied at.After-is_alone ∙ c.if-is_alone.true), c.requires.shelf) (c.requires.fits.shelves)
 
-pub merge_shelves-requires-clause-by_height : goal.merge_shelves-requires-clause-by_height
-merge_shelves-requires-clause-by_height c =
-    let at = goal.at.merge_shelves-requires-clause-by_height c in
-    rw (said at.After-set_empty_present (emptied at.After-is_alone ∙ c.if-is_alone.true), rises at.After-raise, c.requires.shelf) (c.requires.by_height.shelves)
+pub merge_shelves-requires-clause-notes : goal.merge_shelves-requires-clause-notes
+merge_shelves-requires-clause-notes c =
+    let at = goal.at.merge_shelves-requires-clause-notes c in
+    rw (said at.After-set_empty_present (emptied at.After-is_alone ∙ c.if-is_alone.true), c.requires.shelf) (c.requires.by_height.shelves)
 
 pub returns-then-is_alone-clause-records : goal.returns-then-is_alone-clause-records
 returns-then-is_alone-clause-records c =
@@ -77,12 +79,14 @@ returns-then-is_alone-clause-records c =
     rw (c.merge_shelves.ensures.records, said at.After-set_empty_present (emptied at.After-is_alone ∙ c.if-is_alone.true), c.requires.shelf) refl
 
 pub returns-then-is_alone-clause-by_height : goal.returns-then-is_alone-clause-by_height
-returns-then-is_alone-clause-by_height c =
-    let at = goal.at.returns-then-is_alone-clause-by_height c in
+returns-then-is_alone-clause-by_height c = rises (goal.at.returns-then-is_alone-clause-by_height c).After-raise_unless_noted
+
+pub returns-then-is_alone-clause-notes : goal.returns-then-is_alone-clause-notes
+returns-then-is_alone-clause-notes c =
+    let at = goal.at.returns-then-is_alone-clause-notes c in
     rw (
-      c.merge_shelves.ensures.by_height,
+      c.merge_shelves.ensures.notes,
       said at.After-set_empty_present (emptied at.After-is_alone ∙ c.if-is_alone.true),
-      rises at.After-raise,
       c.requires.shelf,
     ) refl
 
@@ -108,11 +112,12 @@ returns-else-is_alone-clause-records c =
     rw (c.merge_item-merged.ensures.records, c.requires.shelf) (sym still.records)
 
 pub returns-else-is_alone-clause-by_height : goal.returns-else-is_alone-clause-by_height
-returns-else-is_alone-clause-by_height c =
-    let at = goal.at.returns-else-is_alone-clause-by_height c in
-    let still = stays at.After-is_alone c.if-is_alone.false in
-    rises at.After-raise
-    ∙ sym (still.in_list (raised (shelf_of c.args.records.now.items c.args.number) (freed_width c.args.records.now.items c.args.number) c.args.by_height.now.items))
+returns-else-is_alone-clause-by_height c = rises (goal.at.returns-else-is_alone-clause-by_height c).After-raise_unless_noted
+
+pub returns-else-is_alone-clause-notes : goal.returns-else-is_alone-clause-notes
+returns-else-is_alone-clause-notes c =
+    let still = stays (goal.at.returns-else-is_alone-clause-notes c).After-is_alone c.if-is_alone.false in
+    sym (still.unnoted c.args.pending.now.notes)
 
 pub returns-else-is_alone-clause-made_unused : goal.returns-else-is_alone-clause-made_unused
 returns-else-is_alone-clause-made_unused c =

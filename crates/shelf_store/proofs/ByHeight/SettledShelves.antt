@@ -1,0 +1,541 @@
+-- The list of shelves by height as it follows what was noted: shelves go, are put where their records put them, and are noted
+-- no more.
+use Rattle.std.proofs.Common.{◌≡◌, ◌≢◌, ℕ, zero, suc, ◌+◌, ◌-◌, ◌<◌, ◌≤◌, Bool, true, false, Option, None, Some, IfSome, List, [], ◌∷◌, ◌++◌, add-one, cond, get_or, length, set, take, refl, ap, arith, ◌∙◌, sym, subst}
+use Rattle.std.proofs.Math.Seq.{get_or-append_seam}
+use Rattle.std.proofs.lemmas.List.{length-append, length-map, length-set}
+use Rattle.std.specs.Prelude.{not, ◌==◌}
+use Rattle.etagere_base.proofs.EachLemmas.{Each-both, Each-weaken}
+use Rattle.etagere_base.proofs.TimesLemmas.{hit}
+use Rattle.etagere_base.specs.Lists.{remove_place, times}
+use Rattle.etagere_base.specs.declared.frames.Frame.{Frame}
+use Rattle.etagere_links.specs.Edits.{field_at}
+use Rattle.shelf_records.proofs.AllLists.LinkedWalks.{walked-numbers}
+use Rattle.shelf_records.specs.AtlasRecords.{height_of}
+use Rattle.shelf_records.specs.RecordLists.{Records, shelf_numbers, shelf_walk, walked_lists}
+use Rattle.shelf_records.specs.Private.Kept.{AreKept, bare}
+use Rattle.shelf_records.specs.declared.records.LinkedShelf.{LinkedShelf}
+use Rattle.shelf_heights.specs.Private.ByHeight.{AreByHeight, AreInOrder, chain_order, numbers_by_height, order_of, put_in, raised, taken_out}
+use Rattle.shelf_heights.specs.Private.Pending.{AreByHeightButNoted, AreTied, Follows, IsBoundIn, IsSettled, Notes, forgotten, is_in_use, is_listed, is_noted, listed_as, once_where, unlisted}
+use Rattle.shelf_heights.specs.declared.by_height.BoundedShelf.{BoundedShelf}
+use Rattle.shelf_heights.specs.declared.pending.Standing.{Standing}
+use Rattle.shelf_heights.proofs.ByHeight.Edited.{Each-put_in, Each-raised, Each-taken_out, bounded_as, by_height-in_order, in_order-among, in_order-put_in, in_order-raised, in_order-taken_out, numbers-raised, numbers-taken_out, times-put_in}
+use Rattle.shelf_heights.proofs.ByHeight.Positions.{stands-within}
+use Rattle.shelf_heights.proofs.Noted.{once-false, once-true}
+use Rattle.shelf_heights.proofs.NotedShelves.{forgotten-in_use, forgotten-known, forgotten-listed, forgotten-other, listed-in_use, listed-known, listed-noted, listed-other, listed-so, unlisted-in_use, unlisted-known, unlisted-noted, unlisted-other, unlisted-so}
+use Rattle.shelf_records.proofs.Judged.EqualTimes.{length-fewer}
+use Rattle.shelf_store.proofs.ByHeight.NewByHeight.{wide-bound}
+use Rattle.shelf_store.proofs.ByHeight.RoomByHeight.{shelves-count}
+use Rattle.shelf_store.proofs.ByHeight.SplitByHeight.{used-once}
+use Rattle.shelf_store.proofs.ByHeight.SplitOrders.{StandsSame, order-stands, orders-apart}
+use Rattle.shelf_store.specs.Private.Settling.{AreInPlace, AreSettled, IsBounded, IsInPlace}
+
+-- how often a number stands where another was left out
+times-left : (k n : ℕ) (ns : List ℕ) → k ≢ n → times k (remove_place n ns) ≡ times k ns
+times-left k n [] other = refl
+times-left k n (m ∷ ms) other = by_test (m == n) refl (times-left k n ms other)
+  where
+    by_test : (b : Bool) → (m == n) ≡ b → times k (remove_place n ms) ≡ times k ms → times k (cond (not b) (m ∷ remove_place n ms) (remove_place n ms)) ≡ times k (m ∷ ms)
+    by_test true e rest =
+        let differ : m ≢ k = grind (arith, other) in
+        let none : hit m k ≡ 0 = grind (arith, differ) in
+        omega (arith, rest, none)
+    by_test false e rest = omega (arith, rest)
+
+times-gone : (n : ℕ) (ns : List ℕ) → times n (remove_place n ns) ≡ 0
+times-gone n [] = refl
+times-gone n (m ∷ ms) = by_test (m == n) refl (times-gone n ms)
+  where
+    by_test : (b : Bool) → (m == n) ≡ b → times n (remove_place n ms) ≡ 0 → times n (cond (not b) (m ∷ remove_place n ms) (remove_place n ms)) ≡ 0
+    by_test true e rest = rest
+    by_test false e rest =
+        let none : hit m n ≡ 0 = grind arith in
+        omega (arith, rest, none)
+
+-- a field of a record that was written, and of another one
+field-own : {X : Type 0} (field : LinkedShelf → X) (other : X) (shelves : List LinkedShelf) (one : LinkedShelf) (k : ℕ) → k < length shelves → field_at field other (set shelves k one) k ≡ field one
+field-own field other [] one k below = absurd (omega (arith, below))
+field-own field other (x ∷ xs) one zero below = refl
+field-own field other (x ∷ xs) one (suc k) below = field-own field other xs one k (omega (arith, below))
+
+field-other : {X : Type 0} (field : LinkedShelf → X) (other : X) (shelves : List LinkedShelf) (one : LinkedShelf) (n k : ℕ) → k ≢ n → field_at field other (set shelves n one) k ≡ field_at field other shelves k
+field-other field other [] one n k differ = refl
+field-other field other (x ∷ xs) one zero zero differ = absurd (differ refl)
+field-other field other (x ∷ xs) one zero (suc k) differ = refl
+field-other field other (x ∷ xs) one (suc n) zero differ = refl
+field-other field other (x ∷ xs) one (suc n) (suc k) differ = field-other field other xs one n k (λ e. differ (ap suc e))
+
+-- another shelf stands where it stood once a record was written
+written-other : (shelves : List LinkedShelf) (n : ℕ) (one : LinkedShelf) (k : ℕ) → k ≢ n → StandsSame shelves (set shelves n one) k
+written-other shelves n one k differ =
+    record {
+      place = omega (arith, field-other (λ (s : LinkedShelf). s.x) 0 shelves one n k differ, field-other (λ (s : LinkedShelf). s.y) 0 shelves one n k differ);
+      height = field-other (λ (s : LinkedShelf). s.height) 0 shelves one n k differ;
+    }
+
+-- a record that was read of a shelf
+field-read : {X : Type 0} (field : LinkedShelf → X) (other : X) (shelves : List LinkedShelf) (k : ℕ) (one : LinkedShelf) → k < length shelves → one ≡ get_or shelves k one → field_at field other shelves k ≡ field one
+field-read field other [] k one below read = absurd (omega (arith, below))
+field-read field other (x ∷ xs) zero one below read = ap field (sym read)
+field-read field other (x ∷ xs) (suc k) one below read = field-read field other xs k one (omega (arith, below)) read
+
+-- a shelf stands where its record puts it once that was written
+written-own : (kept shelves : List LinkedShelf) (n : ℕ) (one : LinkedShelf) → n < length kept → n < length shelves → one ≡ get_or shelves n one → StandsSame shelves (set kept n one) n
+written-own kept shelves n one below there read =
+    record {
+      place = omega (
+          arith,
+          field-own (λ (s : LinkedShelf). s.x) 0 kept one n below,
+          field-own (λ (s : LinkedShelf). s.y) 0 kept one n below,
+          field-read (λ (s : LinkedShelf). s.x) 0 shelves n one there read,
+          field-read (λ (s : LinkedShelf). s.y) 0 shelves n one there read,
+        );
+      height = field-own (λ (s : LinkedShelf). s.height) 0 kept one n below ∙ sym (field-read (λ (s : LinkedShelf). s.height) 0 shelves n one there read);
+    }
+
+module _ (frame : Frame) (records : Records) (notes : Notes) (by_height : List BoundedShelf) (kept : AreKept frame records) (holds : AreByHeightButNoted frame records notes by_height) where
+  -- a shelf in use is there
+  pub in_use-there : (k : ℕ) → is_in_use notes k ≡ true → k < length records.shelves
+  in_use-there k so = (used-once frame records kept).within k (omega (arith, holds.in_use k, ap once_where so))
+
+  in_use-met : (k : ℕ) → is_in_use notes k ≡ true → 1 ≤ times k (shelf_walk records).met
+  in_use-met k so = omega (arith, holds.in_use k, ap once_where so, ap (times k) (walked-numbers records (shelf_walk records).met))
+
+  -- a listed shelf stands there, and has a record that was kept
+  pub listed-stands : (k : ℕ) → is_listed notes k ≡ true → 1 ≤ times k (numbers_by_height by_height)
+  listed-stands k so = omega (arith, holds.listed k, ap once_where so)
+
+  pub listed-within : (k : ℕ) → is_listed notes k ≡ true → k < length notes.kept
+  listed-within k so = stands-within notes.kept k by_height holds.order (listed-stands k so)
+
+  pub stands-listed : (k : ℕ) → 1 ≤ times k (numbers_by_height by_height) → is_listed notes k ≡ true
+  stands-listed k stands = once-true (is_listed notes k) (omega (arith, stands, holds.listed k))
+
+  -- a shelf that has not changed is in place
+  pub unnoted-in_place : (k : ℕ) → is_noted notes k ≡ false → IsInPlace records.shelves notes k
+  unnoted-in_place k unnoted =
+      let is = holds.settled k unnoted in
+      record { in_use = λ stands. sym is.listed ∙ stands; place = is.place }
+
+  -- how often a number stands without a shelf
+  times-without : (shelf k : ℕ) → k ≢ shelf → times k (numbers_by_height (taken_out shelf by_height)) ≡ times k (numbers_by_height by_height)
+  times-without shelf k other = ap (times k) (numbers-taken_out shelf by_height) ∙ times-left k shelf (numbers_by_height by_height) other
+
+  none-without : (shelf : ℕ) → times shelf (numbers_by_height (taken_out shelf by_height)) ≡ 0
+  none-without shelf = ap (times shelf) (numbers-taken_out shelf by_height) ∙ times-gone shelf (numbers_by_height by_height)
+
+  -- one of the others is listed, and another shelf
+  other-differs : (shelf k : ℕ) → 1 ≤ times k (numbers_by_height (taken_out shelf by_height)) → k ≢ shelf
+  other-differs shelf k stands same =
+      let none : times k (numbers_by_height (taken_out shelf by_height)) ≡ 0 = rw same (none-without shelf) in
+      omega (arith, stands, none)
+
+  other-listed : (shelf k : ℕ) → 1 ≤ times k (numbers_by_height (taken_out shelf by_height)) → is_listed notes k ≡ true
+  other-listed shelf k stands = stands-listed k (omega (arith, stands, times-without shelf k (other-differs shelf k stands)))
+
+  -- a shelf that has changed goes
+  module _ (shelf : ℕ) (known : shelf < length notes.standing) (noted : is_noted notes shelf ≡ true) where
+    unnoted-differs : (k : ℕ) → is_noted notes k ≡ false → k ≢ shelf
+    unnoted-differs k unnoted same = let so : is_noted notes k ≡ true = rw same noted in absurd (cc)
+
+    pub gone-holds : AreByHeightButNoted frame records (unlisted shelf notes) (taken_out shelf by_height)
+    gone-holds =
+        record {
+          listed = λ k. by_number k (k == shelf) refl;
+          in_use = λ k. holds.in_use k ∙ sym (ap once_where (unlisted-in_use notes shelf known k));
+          order = in_order-taken_out notes.kept shelf by_height holds.order;
+          settled = λ k unnoted.
+              let before : is_noted notes k ≡ false = sym (unlisted-noted notes shelf known k) ∙ unnoted in
+              let same = unlisted-other notes shelf known k (unnoted-differs k before) in
+              let is = holds.settled k before in
+              let listed : is_listed (unlisted shelf notes) k ≡ is_listed notes k = ap (λ (s : Standing). s.listed) same in
+              record {
+                listed = listed ∙ is.listed ∙ sym (ap (λ (s : Standing). s.in_use) same);
+                place = λ stands. is.place (sym listed ∙ stands);
+                height = λ stands. is.height (sym listed ∙ stands);
+              };
+          bounds = Each-taken_out (λ (one : BoundedShelf). is_noted notes one.shelf ≡ false → IsBoundIn (bare frame records) (walked_lists records).entries one)
+              (λ (one : BoundedShelf). is_noted (unlisted shelf notes) one.shelf ≡ false → IsBoundIn (bare frame records) (walked_lists records).entries one) shelf by_height
+              (λ one other bounds unnoted. bounds (sym (unlisted-noted notes shelf known one.shelf) ∙ unnoted)) holds.bounds;
+          known = omega (arith, holds.known, unlisted-known notes shelf known);
+          few = holds.few;
+        }
+      where
+        by_number : (k : ℕ) (b : Bool) → (k == shelf) ≡ b → times k (numbers_by_height (taken_out shelf by_height)) ≡ once_where (is_listed (unlisted shelf notes) k)
+        by_number k true e =
+            let own : k ≡ shelf = grind arith in
+            rw own (none-without shelf ∙ sym (ap once_where (unlisted-so notes shelf known)))
+        by_number k false e =
+            let other : k ≢ shelf = grind arith in
+            times-without shelf k other ∙ holds.listed k ∙ sym (ap (λ (s : Standing). once_where s.listed) (unlisted-other notes shelf known k other))
+
+    pub gone-in_place : IsInPlace records.shelves (unlisted shelf notes) shelf
+    gone-in_place =
+        let none : is_listed (unlisted shelf notes) shelf ≡ false = unlisted-so notes shelf known in
+        record { in_use = λ stands. absurd (cc); place = λ stands. absurd (cc) }
+
+    pub others-in_place : (k : ℕ) → IsInPlace records.shelves notes k → IsInPlace records.shelves (unlisted shelf notes) k
+    others-in_place k is = by_number (k == shelf) refl
+      where
+        by_number : (b : Bool) → (k == shelf) ≡ b → IsInPlace records.shelves (unlisted shelf notes) k
+        by_number true e = let own : k ≡ shelf = grind arith in rw own gone-in_place
+        by_number false e =
+            let other : k ≢ shelf = grind arith in
+            let same = unlisted-other notes shelf known k other in
+            record {
+              in_use = λ stands. ap (λ (s : Standing). s.in_use) same ∙ is.in_use (sym (ap (λ (s : Standing). s.listed) same) ∙ stands);
+              place = λ stands. is.place (sym (ap (λ (s : Standing). s.listed) same) ∙ stands);
+            }
+
+    -- or is put where its record puts it, where each that is listed is in use and begins where it began
+    module _ (one : BoundedShelf) (read : LinkedShelf) (named : one.shelf ≡ shelf) (in_use : is_in_use notes shelf ≡ true) (places : AreInPlace records.shelves notes) (entries : length notes.kept ≡ length notes.standing) (is_read : read ≡ get_or records.shelves shelf read) where
+      abbrev after : Notes
+      after = listed_as shelf read notes
+
+      abbrev Others : List BoundedShelf
+      Others = taken_out shelf by_height
+
+      below : shelf < length notes.kept
+      below = omega (arith, known, entries)
+
+      own-stands : StandsSame records.shelves after.kept shelf
+      own-stands = written-own notes.kept records.shelves shelf read below (in_use-there shelf in_use) is_read
+
+      other-stands : (k : ℕ) → k ≢ shelf → StandsSame notes.kept after.kept k
+      other-stands k other = written-other notes.kept shelf read k other
+
+      pub others-order : AreInOrder after.kept Others
+      others-order =
+          in_order-among notes.kept after.kept Others
+          (λ k stands. omega (arith, listed-within k (other-listed shelf k stands), length-set notes.kept shelf read))
+          (λ k stands. order-stands notes.kept after.kept k (other-stands k (other-differs shelf k stands)))
+          (in_order-taken_out notes.kept shelf by_height holds.order)
+
+      pub own-within : shelf < length after.kept
+      own-within = omega (arith, below, length-set notes.kept shelf read)
+
+      order-after : AreInOrder after.kept (put_in after.kept one Others)
+      order-after =
+          in_order-put_in after.kept one Others (omega (arith, own-within, named))
+          (λ k stands. subst (λ n. order_of after.kept k ≢ order_of after.kept n) (sym named)
+          (orders-apart frame records after.kept k shelf kept
+          (in_use-met k ((places k).in_use (other-listed shelf k stands)))
+          (in_use-met shelf in_use)
+          ((other-stands k (other-differs shelf k stands)).place ∙ (places k).place (other-listed shelf k stands))
+          own-stands.place
+          (other-differs shelf k stands)))
+          others-order
+
+      listed-after : (k : ℕ) → times k (numbers_by_height (put_in after.kept one Others)) ≡ once_where (is_listed after k)
+      listed-after k = times-put_in k after.kept one Others ∙ ap (λ n. times k (n ∷ numbers_by_height Others)) named ∙ by_number (k == shelf) refl
+        where
+          by_number : (b : Bool) → (k == shelf) ≡ b → times k (shelf ∷ numbers_by_height Others) ≡ once_where (is_listed after k)
+          by_number true e =
+              let own : k ≡ shelf = grind arith in
+              let here : hit shelf k ≡ 1 = grind (arith, own) in
+              let none : times k (numbers_by_height Others) ≡ 0 = rw own (none-without shelf) in
+              let so : once_where (is_listed after k) ≡ 1 = rw own (ap once_where (listed-so notes shelf read known)) in
+              omega (arith, here, none, so)
+          by_number false e =
+              let other : k ≢ shelf = grind arith in
+              let here : hit shelf k ≡ 0 = grind (arith, other) in
+              omega (arith, here, times-without shelf k other, holds.listed k, ap (λ (s : Standing). once_where s.listed) (listed-other notes shelf read known k other))
+
+      pub put-holds : AreByHeightButNoted frame records after (put_in after.kept one Others)
+      put-holds =
+          record {
+            listed = listed-after;
+            in_use = λ k. holds.in_use k ∙ sym (ap once_where (listed-in_use notes shelf read known k));
+            order = order-after;
+            settled = λ k unnoted.
+                let before : is_noted notes k ≡ false = sym (listed-noted notes shelf read known k) ∙ unnoted in
+                let other : k ≢ shelf = unnoted-differs k before in
+                let same = listed-other notes shelf read known k other in
+                let is = holds.settled k before in
+                let listed : is_listed after k ≡ is_listed notes k = ap (λ (s : Standing). s.listed) same in
+                record {
+                  listed = listed ∙ is.listed ∙ sym (ap (λ (s : Standing). s.in_use) same);
+                  place = λ stands. (other-stands k other).place ∙ is.place (sym listed ∙ stands);
+                  height = λ stands. (other-stands k other).height ∙ is.height (sym listed ∙ stands);
+                };
+            bounds = Each-put_in New after.kept one Others own
+                (Each-taken_out Old New shelf by_height (λ bounded other bounds unnoted. bounds (sym (listed-noted notes shelf read known bounded.shelf) ∙ unnoted)) holds.bounds);
+            known = omega (arith, holds.known, listed-known notes shelf read known);
+            few = holds.few;
+          }
+        where
+          Old : BoundedShelf → Type 0
+          Old bounded = is_noted notes bounded.shelf ≡ false → IsBoundIn (bare frame records) (walked_lists records).entries bounded
+
+          New : BoundedShelf → Type 0
+          New bounded = is_noted after bounded.shelf ≡ false → IsBoundIn (bare frame records) (walked_lists records).entries bounded
+
+          own : New one
+          own unnoted =
+              let so : is_noted after one.shelf ≡ true = rw named (listed-noted notes shelf read known shelf ∙ noted) in
+              absurd (cc)
+
+      pub put-in_place : AreInPlace records.shelves after
+      put-in_place k = by_number (k == shelf) refl
+        where
+          by_number : (b : Bool) → (k == shelf) ≡ b → IsInPlace records.shelves after k
+          by_number true e =
+              let own : k ≡ shelf = grind arith in
+              rw own (record { in_use = λ stands. listed-in_use notes shelf read known shelf ∙ in_use; place = λ stands. own-stands.place })
+          by_number false e =
+              let other : k ≢ shelf = grind arith in
+              let same = listed-other notes shelf read known k other in
+              record {
+                in_use = λ stands. ap (λ (s : Standing). s.in_use) same ∙ (places k).in_use (sym (ap (λ (s : Standing). s.listed) same) ∙ stands);
+                place = λ stands. (other-stands k other).place ∙ (places k).place (sym (ap (λ (s : Standing). s.listed) same) ∙ stands);
+              }
+
+      pub put-settled : IsSettled records.shelves after shelf
+      put-settled =
+          record {
+            listed = listed-so notes shelf read known ∙ sym (listed-in_use notes shelf read known shelf ∙ in_use);
+            place = λ stands. own-stands.place;
+            height = λ stands. own-stands.height;
+          }
+
+      -- a shelf with the width of its column for a bound is bounded, whichever the others are
+      pub put-bounded : frame.column_width ≤ one.widest → IsBounded frame records shelf (put_in after.kept one Others)
+      put-bounded wide =
+          Each-put_in (λ (bounded : BoundedShelf). bounded.shelf ≡ shelf → IsBoundIn (bare frame records) (walked_lists records).entries bounded) after.kept one Others
+          (λ same. wide-bound frame records one kept wide)
+          (Each-taken_out (λ (bounded : BoundedShelf). is_noted notes bounded.shelf ≡ false → IsBoundIn (bare frame records) (walked_lists records).entries bounded)
+          (λ (bounded : BoundedShelf). bounded.shelf ≡ shelf → IsBoundIn (bare frame records) (walked_lists records).entries bounded) shelf by_height (λ bounded other bounds same. absurd (other same)) holds.bounds)
+
+    -- the bound of a shelf that has changed was raised
+    pub raised-holds : (width : ℕ) → AreByHeightButNoted frame records notes (raised shelf width by_height)
+    raised-holds width =
+        record {
+          listed = λ k. ap (times k) (numbers-raised shelf width by_height) ∙ holds.listed k;
+          in_use = holds.in_use;
+          order = in_order-raised notes.kept shelf width by_height holds.order;
+          settled = holds.settled;
+          bounds = Each-raised Old Old shelf width by_height (λ one other bounds. bounds)
+              (λ one same bounds widest less wide unnoted. let so : is_noted notes one.shelf ≡ true = rw same noted in absurd (cc)) holds.bounds;
+          known = holds.known;
+          few = holds.few;
+        }
+      where
+        Old : BoundedShelf → Type 0
+        Old one = is_noted notes one.shelf ≡ false → IsBoundIn (bare frame records) (walked_lists records).entries one
+
+    -- to the width of its column
+    pub raised-bounded : (width : ℕ) → frame.column_width ≤ width → IsBounded frame records shelf (raised shelf width by_height)
+    raised-bounded width column =
+        Each-raised (λ (one : BoundedShelf). is_noted notes one.shelf ≡ false → IsBoundIn (bare frame records) (walked_lists records).entries one)
+        (λ (one : BoundedShelf). one.shelf ≡ shelf → IsBoundIn (bare frame records) (walked_lists records).entries one) shelf width by_height
+        (λ one other bounds same. absurd (other same))
+        (λ one same bounds widest less wide named. wide-bound frame records (bounded_as one.shelf widest) kept (omega (arith, column, wide)))
+        holds.bounds
+
+    -- there is room for one that is put in, where each that is listed is in use
+    pub put-room : is_in_use notes shelf ≡ true → is_listed notes shelf ≡ false → AreInPlace records.shelves notes → length by_height < length records.shelves
+    put-room in_use unlisted_so places =
+        omega (
+          arith,
+          length-map by_height (λ (one : BoundedShelf). one.shelf),
+          length-fewer (shelf ∷ numbers_by_height by_height) (shelf_numbers (walked_lists records).entries) (λ k. by_number k (k == shelf) refl (is_listed notes k) refl),
+          shelves-count frame records kept,
+        )
+      where
+        by_number : (k : ℕ) (b : Bool) → (k == shelf) ≡ b → (c : Bool) → is_listed notes k ≡ c → times k (shelf ∷ numbers_by_height by_height) ≤ times k (shelf_numbers (walked_lists records).entries)
+        by_number k true e c f =
+            let own : k ≡ shelf = grind arith in
+            let here : hit shelf k ≡ 1 = grind (arith, own) in
+            let none : once_where (is_listed notes k) ≡ 0 = rw own (ap once_where unlisted_so) in
+            let so : once_where (is_in_use notes k) ≡ 1 = rw own (ap once_where in_use) in
+            omega (arith, here, none, so, holds.listed k, holds.in_use k)
+        by_number k false e true f =
+            let here : hit shelf k ≡ 0 = grind arith in
+            omega (arith, here, holds.listed k, holds.in_use k, ap once_where ((places k).in_use f), ap once_where f)
+        by_number k false e false f =
+            let here : hit shelf k ≡ 0 = grind arith in
+            omega (arith, here, holds.listed k, ap once_where f)
+
+  -- a shelf with an entry
+  module _ (shelf : ℕ) (known : shelf < length notes.standing) where
+    -- a shelf that the list follows is noted no more
+    pub forgotten-holds : (left : List ℕ) → IsSettled records.shelves notes shelf → IsBounded frame records shelf by_height → AreByHeightButNoted frame records (forgotten shelf left notes) by_height
+    forgotten-holds left own bounded =
+        record {
+          listed = λ k. holds.listed k ∙ sym (ap once_where (forgotten-listed notes shelf left known k));
+          in_use = λ k. holds.in_use k ∙ sym (ap once_where (forgotten-in_use notes shelf left known k));
+          order = holds.order;
+          settled = λ k unnoted. again k (by_number k unnoted (k == shelf) refl);
+          bounds = Each-weaken (λ (one : BoundedShelf). (is_noted notes one.shelf ≡ false → IsBoundIn (bare frame records) (walked_lists records).entries one) × (one.shelf ≡ shelf → IsBoundIn (bare frame records) (walked_lists records).entries one))
+              (λ (one : BoundedShelf). is_noted (forgotten shelf left notes) one.shelf ≡ false → IsBoundIn (bare frame records) (walked_lists records).entries one) by_height
+              (λ one both unnoted. of_one one both unnoted (one.shelf == shelf) refl)
+              (Each-both (λ (one : BoundedShelf). is_noted notes one.shelf ≡ false → IsBoundIn (bare frame records) (walked_lists records).entries one)
+              (λ (one : BoundedShelf). one.shelf ≡ shelf → IsBoundIn (bare frame records) (walked_lists records).entries one) by_height holds.bounds bounded);
+          known = omega (arith, holds.known, forgotten-known notes shelf left known);
+          few = holds.few;
+        }
+      where
+        by_number : (k : ℕ) → is_noted (forgotten shelf left notes) k ≡ false → (b : Bool) → (k == shelf) ≡ b → IsSettled records.shelves notes k
+        by_number k unnoted true e = let same : k ≡ shelf = grind arith in rw same own
+        by_number k unnoted false e =
+            let other : k ≢ shelf = grind arith in
+            holds.settled k (sym (ap (λ (s : Standing). s.noted) (forgotten-other notes shelf left known k other)) ∙ unnoted)
+
+        again : (k : ℕ) → IsSettled records.shelves notes k → IsSettled records.shelves (forgotten shelf left notes) k
+        again k is =
+            let listed = forgotten-listed notes shelf left known k in
+            record {
+              listed = listed ∙ is.listed ∙ sym (forgotten-in_use notes shelf left known k);
+              place = λ stands. is.place (sym listed ∙ stands);
+              height = λ stands. is.height (sym listed ∙ stands);
+            }
+
+        of_one : (one : BoundedShelf) → (is_noted notes one.shelf ≡ false → IsBoundIn (bare frame records) (walked_lists records).entries one) × (one.shelf ≡ shelf → IsBoundIn (bare frame records) (walked_lists records).entries one)
+            → is_noted (forgotten shelf left notes) one.shelf ≡ false → (b : Bool) → (one.shelf == shelf) ≡ b → IsBoundIn (bare frame records) (walked_lists records).entries one
+        of_one one both unnoted true e = both.1 (grind arith)
+        of_one one both unnoted false e =
+            let other : one.shelf ≢ shelf = grind arith in
+            both.0 (sym (ap (λ (s : Standing). s.noted) (forgotten-other notes shelf left known one.shelf other)) ∙ unnoted)
+
+    pub forgotten-in_place : (left : List ℕ) → AreInPlace records.shelves notes → AreInPlace records.shelves (forgotten shelf left notes)
+    forgotten-in_place left places k =
+        let listed = forgotten-listed notes shelf left known k in
+        record {
+          in_use = λ stands. forgotten-in_use notes shelf left known k ∙ (places k).in_use (sym listed ∙ stands);
+          place = λ stands. (places k).place (sym listed ∙ stands);
+        }
+
+  -- a shelf out of use is settled, where each that is listed is in use
+  module _ (shelf : ℕ) (unused : is_in_use notes shelf ≡ false) (places : AreInPlace records.shelves notes) where
+    unused-unlisted : is_listed notes shelf ≡ false
+    unused-unlisted = by_list (is_listed notes shelf) refl
+      where
+        by_list : (b : Bool) → is_listed notes shelf ≡ b → b ≡ false
+        by_list true e = let so : is_in_use notes shelf ≡ true = (places shelf).in_use e in absurd (cc)
+        by_list false e = refl
+
+    pub unused-settled : IsSettled records.shelves notes shelf
+    unused-settled =
+        record {
+          listed = unused-unlisted ∙ sym unused;
+          place = λ stands. absurd (cc (unused-unlisted, stands));
+          height = λ stands. absurd (cc (unused-unlisted, stands));
+        }
+
+    pub unused-bounded : IsBounded frame records shelf by_height
+    unused-bounded = none by_height (holds.listed shelf ∙ ap once_where unused-unlisted)
+      where
+        none : (xs : List BoundedShelf) → times shelf (numbers_by_height xs) ≡ 0 → IsBounded frame records shelf xs
+        none [] absent = tt
+        none (one ∷ others) absent =
+            (λ same. let here : hit one.shelf shelf ≡ 1 = grind (arith, same) in absurd (omega (arith, absent, here)), none others (omega (arith, absent)))
+
+  -- where none has changed, the list is that by height
+  module _ (unchanged : (k : ℕ) → is_noted notes k ≡ false) where
+    pub all-by_height : AreByHeight frame records by_height
+    all-by_height =
+        record {
+          once = λ k. holds.listed k ∙ ap once_where (holds.settled k (unchanged k)).listed ∙ sym (holds.in_use k);
+          rising = (in_order-among notes.kept records.shelves by_height
+              (λ k stands. in_use-there k (sym (holds.settled k (unchanged k)).listed ∙ stands-listed k stands))
+              (λ k stands. order-stands notes.kept records.shelves k
+              (record { place = sym ((holds.settled k (unchanged k)).place (stands-listed k stands)); height = sym ((holds.settled k (unchanged k)).height (stands-listed k stands)) }))
+              holds.order).rising;
+          bounds = Each-weaken (λ (one : BoundedShelf). is_noted notes one.shelf ≡ false → IsBoundIn (bare frame records) (walked_lists records).entries one)
+              (IsBoundIn (bare frame records) (walked_lists records).entries) by_height (λ one bounds. bounds (unchanged one.shelf)) holds.bounds;
+        }
+
+    pub all-settled : AreSettled records notes
+    all-settled =
+        record {
+          unchanged = unchanged;
+          in_use = holds.in_use;
+          settled = λ k. holds.settled k (unchanged k);
+          known = holds.known;
+          within = listed-within;
+        }
+
+-- a list that follows the records is settled
+pub follows-settled : (frame : Frame) (records : Records) (notes : Notes) (by_height : List BoundedShelf) → AreKept frame records → AreByHeight frame records by_height → Follows records.shelves by_height notes → AreSettled records notes
+follows-settled frame records notes by_height kept are follows =
+    record {
+      unchanged = follows.unchanged;
+      in_use = λ k. sym (are.once k) ∙ follows.listed k ∙ sym (ap once_where (follows.in_use k));
+      settled = λ k. record {
+            listed = sym (follows.in_use k);
+            place = λ stands. ap (λ (shelves : List LinkedShelf). chain_order shelves k) follows.kept;
+            height = λ stands. ap (λ (shelves : List LinkedShelf). height_of shelves k) follows.kept;
+          };
+      known = omega (arith, follows.known);
+      within = λ k so. omega (
+            arith,
+            ap (λ (shelves : List LinkedShelf). length shelves) follows.kept,
+            stands-within records.shelves k by_height (by_height-in_order frame records by_height kept are) (omega (arith, follows.listed k, ap once_where so)),
+          );
+    }
+
+-- where nothing is noted, none has changed
+pub none-noted : (notes : Notes) → AreTied notes → length notes.noted ≡ 0 → (k : ℕ) → is_noted notes k ≡ false
+none-noted notes tied none k = once-false (is_noted notes k) (sym (tied k) ∙ ap (times k) (empty notes.noted none))
+  where
+    empty : (ns : List ℕ) → length ns ≡ 0 → ns ≡ []
+    empty [] e = refl
+    empty (n ∷ ns) e = absurd (omega (arith, e))
+
+-- a list without a shelf is as it was where the shelf did not stand there
+pub absent-stays : (shelf : ℕ) (by_height : List BoundedShelf) → times shelf (numbers_by_height by_height) ≡ 0 → taken_out shelf by_height ≡ by_height
+absent-stays shelf [] none = refl
+absent-stays shelf (one ∷ others) none = by_test (one.shelf == shelf) refl (λ left. absent-stays shelf others left)
+  where
+    by_test : (b : Bool) → (one.shelf == shelf) ≡ b → (times shelf (numbers_by_height others) ≡ 0 → taken_out shelf others ≡ others) → cond (not b) (one ∷ taken_out shelf others) (taken_out shelf others) ≡ one ∷ others
+    by_test true e rest =
+        let here : hit one.shelf shelf ≡ 1 = grind arith in
+        absurd (omega (arith, none, here))
+    by_test false e rest = ap (λ (xs : List BoundedShelf). one ∷ xs) (rest (omega (arith, none)))
+
+-- those of a front of the numbers are in place
+abbrev pub AreInPlaceOf : List LinkedShelf → Notes → List ℕ → Type 0
+AreInPlaceOf shelves notes numbers = (k : ℕ) → 1 ≤ times k numbers → IsInPlace shelves notes k
+
+-- and so is one more
+pub one-more-in_place : (shelves : List LinkedShelf) (old new : Notes) (n shelf : ℕ) → n < length old.noted → shelf ≡ get_or old.noted n 0
+    → ((k : ℕ) → IsInPlace shelves old k → IsInPlace shelves new k) → IsInPlace shelves new shelf
+    → AreInPlaceOf shelves old (take n old.noted) → AreInPlaceOf shelves new (take (n + 1) old.noted)
+one-more-in_place shelves old new n shelf below read others own before k stands = by_number (k == shelf) refl
+  where
+    more : (m : ℕ) (ns : List ℕ) → m < length ns → times k (take (suc m) ns) ≡ times k (take m ns) + hit (get_or ns m 0) k
+    more m [] low = absurd (omega (arith, low))
+    more zero (x ∷ xs) low = omega arith
+    more (suc m) (x ∷ xs) low = omega (arith, more m xs (omega (arith, low)))
+
+    by_number : (b : Bool) → (k == shelf) ≡ b → IsInPlace shelves new k
+    by_number true e = let same : k ≡ shelf = grind arith in rw same own
+    by_number false e =
+        let other : get_or old.noted n 0 ≢ k = grind (arith, read) in
+        let none : hit (get_or old.noted n 0) k ≡ 0 = grind (arith, other) in
+        others k (before k (omega (arith, stands, ap (λ m. times k (take m old.noted)) (add-one n), more n old.noted below, none)))
+
+-- where all that have changed are in place, all are
+pub all-in_place : (frame : Frame) (records : Records) (notes : Notes) (by_height : List BoundedShelf) → AreKept frame records → AreByHeightButNoted frame records notes by_height → AreTied notes → AreInPlaceOf records.shelves notes notes.noted → AreInPlace records.shelves notes
+all-in_place frame records notes by_height kept holds tied places k = by_note (is_noted notes k) refl
+  where
+    by_note : (b : Bool) → is_noted notes k ≡ b → IsInPlace records.shelves notes k
+    by_note true e = places k (omega (arith, tied k, ap once_where e))
+    by_note false e = unnoted-in_place frame records notes by_height kept holds k e
+
+-- what holds once the number of the shelf that changed last was taken away
+pub popped-holds : (frame : Frame) (records : Records) (old new : Notes) (by_height : List BoundedShelf) (shelf : ℕ) (result : Option ℕ)
+    → AreKept frame records → AreByHeightButNoted frame records old by_height → AreInPlace records.shelves old → IsSettled records.shelves old shelf → IsBounded frame records shelf by_height
+    → (result ≡ None → old.noted ≡ []) → IfSome result (λ s. s < length old.standing) → IfSome result (λ s. old.noted ≡ new.noted ++ s ∷ []) → IfSome result (λ s. new ≡ forgotten s new.noted old)
+    → 0 < length old.noted → shelf ≡ get_or old.noted (length old.noted - 1) 0
+    → AreByHeightButNoted frame records new by_height × AreInPlace records.shelves new
+popped-holds frame records old new by_height shelf None kept holds places settled bounded none within last made some read =
+    absurd (omega (arith, some, ap (λ (ns : List ℕ). length ns) (none refl)))
+popped-holds frame records old new by_height shelf (Some s) kept holds places settled bounded none within last made some read =
+    let end : length old.noted - 1 ≡ length new.noted = omega (arith, ap (λ (ns : List ℕ). length ns) last, length-append new.noted (s ∷ [])) in
+    let same : shelf ≡ s =
+    read ∙ ap (λ n. get_or old.noted n 0) end ∙ ap (λ (ns : List ℕ). get_or ns (length new.noted) 0) last ∙ get_or-append_seam new.noted s [] 0 in
+    let known : shelf < length old.standing = omega (arith, within, same) in
+    let is : new ≡ forgotten shelf new.noted old = made ∙ ap (λ n. forgotten n new.noted old) (sym same) in (
+      subst (λ (notes : Notes). AreByHeightButNoted frame records notes by_height) (sym is) (forgotten-holds frame records old by_height kept holds shelf known new.noted settled bounded),
+      subst (AreInPlace records.shelves) (sym is) (forgotten-in_place frame records old by_height kept holds shelf known new.noted places),
+    )

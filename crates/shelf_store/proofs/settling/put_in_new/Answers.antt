@@ -1,0 +1,110 @@
+use Rattle.std.proofs.Common.{◌≡◌, ◌<◌, List, ap, arith, get_or, length, refl, subst, ◌∙◌}
+use Rattle.shelf_records.specs.declared.records.LinkedShelf.{LinkedShelf}
+use Rattle.shelf_heights.specs.Private.ByHeight.{AreInOrder, newly_bounded, put_in, taken_out}
+use Rattle.shelf_heights.specs.Private.Pending.{AreByHeightButNoted, Notes, listed_as, once_where}
+use Rattle.shelf_heights.specs.declared.by_height.BoundedShelf.{BoundedShelf}
+use Rattle.shelf_store.proofs.ByHeight.SettledShelves.{absent-stays, in_use-there, others-order, own-within, put-bounded, put-holds, put-in_place, put-room, put-settled}
+use Rattle.shelf_store.specs.Private.Settling.{IsBounded}
+use Rattle.shelf_records.proofs.Spelled.StandsKept.{witnesses}
+use Rattle.shelf_store.proofs.settling.put_in_new.Goals as goal
+use Rattle.shelf_store.proofs.settling.put_in_new.Goals.{After-kept, After-shelves}
+
+-- the shelf is there
+there : (c : After-shelves) → c.args.shelf < length c.args.records.now.shelves
+there c = in_use-there c.args.frame.now c.args.records.now c.args.pending.now.notes c.args.by_height.now.items c.requires.kept c.requires.by_height c.args.shelf c.requires.in_use
+
+pub offset_bounds-shelves-shelf : goal.offset_bounds-shelves-shelf
+offset_bounds-shelves-shelf c = omega (arith, there (goal.at.offset_bounds-shelves-shelf c).After-shelves, c.requires.by_height.few)
+
+pub bounds-shelves-shelf : goal.bounds-shelves-shelf
+bounds-shelves-shelf c = rw c.shelves.ensures (there (goal.at.bounds-shelves-shelf c).After-shelves)
+
+pub newly_bounded-requires-clause-frame : goal.newly_bounded-requires-clause-frame
+newly_bounded-requires-clause-frame c = (witnesses c.requires.kept).valid.frame
+
+pub newly_bounded-requires-clause-shelf : goal.newly_bounded-requires-clause-shelf
+newly_bounded-requires-clause-shelf c = omega (arith, there (goal.at.newly_bounded-requires-clause-shelf c).After-shelves, c.requires.by_height.few)
+
+-- the shelf as it is put in, and its record
+abbrev one : After-kept → BoundedShelf
+one c = newly_bounded c.args.frame.now c.args.shelf
+
+is_read : (c : After-kept) → c.index-shelves-shelf.result ≡ get_or c.args.records.now.shelves c.args.shelf c.index-shelves-shelf.result
+is_read c =
+    c.index-shelves-shelf.is
+    ∙ ap (λ (shelves : List LinkedShelf). get_or shelves c.args.shelf c.index-shelves-shelf.result) c.shelves.ensures
+
+-- what is noted after
+abbrev after : After-kept → Notes
+after c = listed_as c.args.shelf c.index-shelves-shelf.result c.args.pending.now.notes
+
+-- the list has it not
+absent : (c : After-kept) → taken_out c.args.shelf c.args.by_height.now.items ≡ c.args.by_height.now.items
+absent c =
+    absent-stays c.args.shelf c.args.by_height.now.items (c.requires.by_height.listed c.args.shelf ∙ ap once_where c.requires.unlisted)
+
+-- what holds once it was put in
+record Follows (c : After-kept) : Type 0 where
+  order : AreInOrder (after c).kept c.args.by_height.now.items
+  within : c.args.shelf < length (after c).kept
+  holds : AreByHeightButNoted c.args.frame.now c.args.records.now (after c) (put_in (after c).kept (one c) c.args.by_height.now.items)
+  bounded : IsBounded c.args.frame.now c.args.records.now c.args.shelf (put_in (after c).kept (one c) c.args.by_height.now.items)
+
+followed : (c : After-kept) → Follows c
+followed c =
+    let frame = c.args.frame.now in
+    let records = c.args.records.now in
+    let notes = c.args.pending.now.notes in
+    let by_height = c.args.by_height.now.items in
+    let read = c.index-shelves-shelf.result in
+    record {
+      order = subst (AreInOrder (after c).kept) (absent c)
+          (others-order frame records notes by_height c.requires.kept c.requires.by_height c.args.shelf c.requires.known c.requires.noted
+          (one c) read refl c.requires.in_use c.requires.in_place c.list.ensures.entries (is_read c));
+      within = own-within frame records notes by_height c.requires.kept c.requires.by_height c.args.shelf c.requires.known c.requires.noted
+          (one c) read refl c.requires.in_use c.requires.in_place c.list.ensures.entries (is_read c);
+      holds = subst (λ (xs : List BoundedShelf). AreByHeightButNoted frame records (after c) (put_in (after c).kept (one c) xs)) (absent c)
+          (put-holds frame records notes by_height c.requires.kept c.requires.by_height c.args.shelf c.requires.known c.requires.noted
+          (one c) read refl c.requires.in_use c.requires.in_place c.list.ensures.entries (is_read c));
+      bounded = subst (λ (xs : List BoundedShelf). IsBounded frame records c.args.shelf (put_in (after c).kept (one c) xs)) (absent c)
+          (put-bounded frame records notes by_height c.requires.kept c.requires.by_height c.args.shelf c.requires.known c.requires.noted
+          (one c) read refl c.requires.in_use c.requires.in_place c.list.ensures.entries (is_read c) (omega arith));
+    }
+
+pub put_in-requires-clause-order : goal.put_in-requires-clause-order
+put_in-requires-clause-order c =
+    rw (c.kept.ensures, c.list.ensures.notes) ((followed (goal.at.put_in-requires-clause-order c).After-kept).order)
+
+pub put_in-requires-clause-within : goal.put_in-requires-clause-within
+put_in-requires-clause-within c =
+    rw (c.newly_bounded.ensures, c.kept.ensures, c.list.ensures.notes) ((followed (goal.at.put_in-requires-clause-within c).After-kept).within)
+
+pub put_in-requires-clause-room : goal.put_in-requires-clause-room
+put_in-requires-clause-room c =
+    omega (
+      arith,
+      put-room c.args.frame.now c.args.records.now c.args.pending.now.notes c.args.by_height.now.items c.requires.kept c.requires.by_height c.args.shelf c.requires.known c.requires.noted c.requires.in_use c.requires.unlisted c.requires.in_place,
+      c.requires.room,
+    )
+
+pub returns-clause-by_height : goal.returns-clause-by_height
+returns-clause-by_height c =
+    rw (c.put_in.ensures.by_height, c.newly_bounded.ensures, c.kept.ensures, c.list.ensures.notes) ((followed (goal.at.returns-clause-by_height c).After-kept).holds)
+
+pub returns-clause-bounded : goal.returns-clause-bounded
+returns-clause-bounded c =
+    rw (c.put_in.ensures.by_height, c.newly_bounded.ensures, c.kept.ensures, c.list.ensures.notes) ((followed (goal.at.returns-clause-bounded c).After-kept).bounded)
+
+pub returns-clause-in_place : goal.returns-clause-in_place
+returns-clause-in_place c =
+    let at = (goal.at.returns-clause-in_place c).After-kept in
+    rw c.list.ensures.notes
+    (put-in_place c.args.frame.now c.args.records.now c.args.pending.now.notes c.args.by_height.now.items c.requires.kept c.requires.by_height c.args.shelf c.requires.known c.requires.noted
+    (one at) c.index-shelves-shelf.result refl c.requires.in_use c.requires.in_place c.list.ensures.entries (is_read at))
+
+pub returns-clause-settled : goal.returns-clause-settled
+returns-clause-settled c =
+    let at = (goal.at.returns-clause-settled c).After-kept in
+    rw c.list.ensures.notes
+    (put-settled c.args.frame.now c.args.records.now c.args.pending.now.notes c.args.by_height.now.items c.requires.kept c.requires.by_height c.args.shelf c.requires.known c.requires.noted
+    (one at) c.index-shelves-shelf.result refl c.requires.in_use c.requires.in_place c.list.ensures.entries (is_read at))

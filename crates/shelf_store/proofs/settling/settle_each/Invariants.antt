@@ -1,0 +1,17 @@
+use Rattle.std.proofs.Common.{◌≡◌, ◌≤◌, length}
+use Rattle.shelf_heights.specs.Private.Pending.{AreByHeightButNoted}
+use Rattle.shelf_store.specs.Private.Settling.{AreInPlace}
+use Rattle.shelf_store.proofs.settling.settle_each.Given as goal
+
+-- the list holds but for those that have changed, and those that it has are in place
+abbrev pub invariant-loop-by_height : goal.invariant-loop-by_height
+invariant-loop-by_height l = record {
+  holds : AreByHeightButNoted l.frame l.records l.pending.notes l.by_height.items;
+  places : AreInPlace l.records.shelves l.pending.notes;
+  room : length l.records.shelves ≤ l.by_height.capacity;
+  capacity : l.fn.by_height.capacity ≤ l.by_height.capacity;
+  room_to_note : l.pending.room ≡ l.fn.pending.room;
+}
+
+abbrev pub decreases-loop-by_height : goal.decreases-loop-by_height
+decreases-loop-by_height l = length l.pending.notes.noted

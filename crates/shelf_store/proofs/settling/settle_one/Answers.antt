@@ -1,0 +1,19 @@
+use Rattle.std.proofs.Common.{◌≡◌, Bool, true, false, ap, arith, sym, ◌∙◌}
+use Rattle.std.specs.Prelude.{not}
+use Rattle.shelf_heights.specs.declared.pending.Standing.{Standing}
+use Rattle.shelf_store.proofs.ByHeight.SettledShelves.{unused-bounded, unused-settled}
+use Rattle.shelf_store.proofs.settling.settle_one.Goals as goal
+
+-- a shelf is out of use where it is so that it isn't in use
+unused : (so : Bool) → not so ≡ true → so ≡ false
+unused so e = grind arith
+
+pub returns-then-not-standing-clause-settled : goal.returns-then-not-standing-clause-settled
+returns-then-not-standing-clause-settled c =
+    unused-settled c.args.frame.now c.args.records.now c.args.pending.now.notes c.args.by_height.now.items c.requires.kept c.requires.by_height c.args.shelf
+    (sym (ap (λ (s : Standing). s.in_use) c.standing-standing.ensures) ∙ unused c.standing-standing.result.in_use c.if-not-standing.true) c.requires.in_place
+
+pub returns-then-not-standing-clause-bounded : goal.returns-then-not-standing-clause-bounded
+returns-then-not-standing-clause-bounded c =
+    unused-bounded c.args.frame.now c.args.records.now c.args.pending.now.notes c.args.by_height.now.items c.requires.kept c.requires.by_height c.args.shelf
+    (sym (ap (λ (s : Standing). s.in_use) c.standing-standing.ensures) ∙ unused c.standing-standing.result.in_use c.if-not-standing.true) c.requires.in_place

@@ -1,0 +1,299 @@
+//! Makes the list of the shelves by height follow what was noted, before it is searched.
+//!
+//! Definitions: `Pending` for what is noted, `Settling` for what holds on the way. First the shelves go that are out of use, or
+//! begin elsewhere by now; then those in use go where their records put them, one after another. Where many have changed,
+//! all shelves in use are sorted anew. Nothing here changes the records, and but for `reserve_shelves` takes memory.
+
+ghost use Rattle.std.specs.Prelude.{◌≡◌, ℕ, ◌+◌, ◌<◌, ◌≤◌, OnErr, OnOk, false, length, true};
+ghost use Rattle.shelf_records.specs.RecordUses.{missing};
+ghost use Rattle.shelf_records.specs.Records.{shelf_chain};
+ghost use Rattle.shelf_heights.specs.Private.ByHeight.{AreByHeight, chain_order};
+ghost use Rattle.shelf_heights.specs.Private.Pending.{AreByHeightButNoted, IsSettled, is_in_use, is_listed, is_noted};
+ghost use Rattle.shelf_records.specs.Private.Kept.{AreKept};
+ghost use Rattle.shelf_store.specs.Private.Settling.{AreInPlace, AreSettled, IsBounded, IsInPlace};
+
+use crate::choosing::chain_order_of;
+use crate::starting::{newly_bounded, sort_shelves};
+use etagere_base::Frame;
+use shelf_heights::by_height::ShelvesByHeight;
+use shelf_heights::heights::{position_of, put_in, raise, reserve_by_height, settle, take_out};
+use shelf_heights::pending::{PendingShelves, follow};
+use shelf_records::Records;
+use std::alloc::AllocError;
+
+/// Where more than so many have changed, and more than an eighth, all shelves in use are sorted anew.
+const FEW: usize = 32;
+
+/// Makes room for the shelves of so many records, and for notes of them, of which those that are missing are to be made: an
+/// unused one has its room. The error comes only where some are missing and there was no memory.
+pub fn reserve_shelves(
+    records: &Records,
+    by_height: &mut ShelvesByHeight,
+    pending: &mut PendingShelves,
+    wanted: u32,
+) -> Result<(), AllocError>
+    requires room { length records.now.shelves ≤ by_height.old.capacity }
+    requires room_to_note { length records.now.shelves ≤ pending.old.room }
+    ensures items { by_height.new.items ≡ by_height.old.items }
+    ensures notes { pending.new.notes ≡ pending.old.notes }
+    ensures room { OnOk result
+        (length records.now.shelves
+        + missing shelf_chain wanted records.now.unused_shelves records.now.shelves
+        ≤ by_height.new.capacity) }
+    ensures room_to_note { OnOk result
+        (length records.now.shelves
+        + missing shelf_chain wanted records.now.unused_shelves records.now.shelves
+        ≤ pending.new.room) }
+    ensures capacity { by_height.old.capacity ≤ by_height.new.capacity }
+    ensures more_room { pending.old.room ≤ pending.new.room }
+    ensures short { OnErr result
+        (0 < missing shelf_chain wanted records.now.unused_shelves records.now.shelves) }
+{
+    let missing = records.missing_shelves(wanted as usize);
+    if missing > 0 {
+        pending.reserve(records.shelves().len() + missing)?;
+    }
+    reserve_by_height(records, by_height, wanted)
+}
+
+/// Makes the list follow what was noted.
+pub fn settle_shelves(
+    frame: &Frame,
+    records: &Records,
+    by_height: &mut ShelvesByHeight,
+    pending: &mut PendingShelves,
+)
+    requires kept { AreKept frame.now records.now }
+    requires by_height { AreByHeightButNoted frame.now records.now pending.old.notes by_height.old.items }
+    requires room { length records.now.shelves ≤ by_height.old.capacity }
+    requires room_to_note { length records.now.shelves ≤ pending.old.room }
+    ensures by_height { AreByHeight frame.now records.now by_height.new.items }
+    ensures settled { AreSettled records.now pending.new.notes }
+    ensures capacity { by_height.old.capacity ≤ by_height.new.capacity }
+    ensures room { pending.new.room ≡ pending.old.room }
+{
+    if pending.len() > 0 {
+        settle_noted(frame, records, by_height, pending);
+    }
+}
+
+/// Makes the list follow what was noted. Never inlined, so that a search after which nothing changed costs no call.
+#[inline(never)]
+fn settle_noted(
+    frame: &Frame,
+    records: &Records,
+    by_height: &mut ShelvesByHeight,
+    pending: &mut PendingShelves,
+)
+    requires kept { AreKept frame.now records.now }
+    requires by_height { AreByHeightButNoted frame.now records.now pending.old.notes by_height.old.items }
+    requires room { length records.now.shelves ≤ by_height.old.capacity }
+    requires room_to_note { length records.now.shelves ≤ pending.old.room }
+    ensures by_height { AreByHeight frame.now records.now by_height.new.items }
+    ensures settled { AreSettled records.now pending.new.notes }
+    ensures capacity { by_height.old.capacity ≤ by_height.new.capacity }
+    ensures room { pending.new.room ≡ pending.old.room }
+{
+    if pending.len() > FEW && pending.len() > by_height.len() / 8 {
+        sort_shelves(frame, records, by_height);
+        follow(pending, records.shelves(), by_height);
+    } else {
+        take_out_moved(frame, records, by_height, pending);
+        settle_each(frame, records, by_height, pending);
+    }
+}
+
+/// Takes those out of the list that have changed and are out of use, or begin elsewhere by now.
+fn take_out_moved(
+    frame: &Frame,
+    records: &Records,
+    by_height: &mut ShelvesByHeight,
+    pending: &mut PendingShelves,
+)
+    requires kept { AreKept frame.now records.now }
+    requires by_height { AreByHeightButNoted frame.now records.now pending.old.notes by_height.old.items }
+    ensures by_height { AreByHeightButNoted frame.now records.now pending.new.notes by_height.new.items }
+    ensures in_place { AreInPlace records.now.shelves pending.new.notes }
+    ensures capacity { by_height.old.capacity ≤ by_height.new.capacity }
+    ensures room { pending.new.room ≡ pending.old.room }
+{
+    for index in 0..pending.len() {
+        let shelf = pending.noted_at(index);
+        take_out_if_moved(frame, records, by_height, pending, shelf);
+    }
+}
+
+/// Takes a shelf out of the list, if it has it and the shelf is out of use, or begins elsewhere by now.
+fn take_out_if_moved(
+    frame: &Frame,
+    records: &Records,
+    by_height: &mut ShelvesByHeight,
+    pending: &mut PendingShelves,
+    shelf: usize,
+)
+    requires kept { AreKept frame.now records.now }
+    requires by_height { AreByHeightButNoted frame.now records.now pending.old.notes by_height.old.items }
+    requires known { shelf < length pending.old.notes.standing }
+    requires noted { is_noted pending.old.notes shelf ≡ true }
+    ensures by_height { AreByHeightButNoted frame.now records.now pending.new.notes by_height.new.items }
+    ensures in_place { IsInPlace records.now.shelves pending.new.notes shelf }
+    ensures others { (k : ℕ) → IsInPlace records.now.shelves pending.old.notes k
+        → IsInPlace records.now.shelves pending.new.notes k }
+    ensures noted { pending.new.notes.noted ≡ pending.old.notes.noted }
+    ensures known { length pending.new.notes.standing ≡ length pending.old.notes.standing }
+    ensures same { (k : ℕ) → is_noted pending.new.notes k ≡ is_noted pending.old.notes k }
+    ensures capacity { by_height.old.capacity ≤ by_height.new.capacity }
+    ensures room { pending.new.room ≡ pending.old.room }
+{
+    let standing = pending.standing(shelf);
+    if !standing.listed || (standing.in_use && is_in_place(records, pending, shelf)) {
+        return;
+    }
+    take_out(pending.kept(), by_height, shelf);
+    pending.unlist(shelf);
+}
+
+/// Whether a shelf begins where it began when the list followed it.
+fn is_in_place(records: &Records, pending: &PendingShelves, shelf: usize) -> bool
+    requires there { shelf < length records.now.shelves }
+    requires kept { shelf < length pending.now.notes.kept }
+    ensures { result ≡ true
+        → chain_order pending.now.notes.kept shelf ≡ chain_order records.now.shelves shelf }
+{
+    chain_order_of(pending.kept(), shelf) == chain_order_of(records.shelves(), shelf)
+}
+
+/// Makes the list follow each that has changed, where those that it has are in use and begin where they began.
+fn settle_each(
+    frame: &Frame,
+    records: &Records,
+    by_height: &mut ShelvesByHeight,
+    pending: &mut PendingShelves,
+)
+    requires kept { AreKept frame.now records.now }
+    requires by_height { AreByHeightButNoted frame.now records.now pending.old.notes by_height.old.items }
+    requires in_place { AreInPlace records.now.shelves pending.old.notes }
+    requires room { length records.now.shelves ≤ by_height.old.capacity }
+    ensures by_height { AreByHeight frame.now records.now by_height.new.items }
+    ensures settled { AreSettled records.now pending.new.notes }
+    ensures capacity { by_height.old.capacity ≤ by_height.new.capacity }
+    ensures room { pending.new.room ≡ pending.old.room }
+{
+    while pending.len() > 0 {
+        settle_last(frame, records, by_height, pending);
+    }
+}
+
+/// Makes the list follow the shelf that has changed last, and notes that no more.
+fn settle_last(
+    frame: &Frame,
+    records: &Records,
+    by_height: &mut ShelvesByHeight,
+    pending: &mut PendingShelves,
+)
+    requires kept { AreKept frame.now records.now }
+    requires by_height { AreByHeightButNoted frame.now records.now pending.old.notes by_height.old.items }
+    requires in_place { AreInPlace records.now.shelves pending.old.notes }
+    requires some { 0 < length pending.old.notes.noted }
+    requires room { length records.now.shelves ≤ by_height.old.capacity }
+    ensures by_height { AreByHeightButNoted frame.now records.now pending.new.notes by_height.new.items }
+    ensures in_place { AreInPlace records.now.shelves pending.new.notes }
+    ensures fewer { length pending.new.notes.noted + 1 ≡ length pending.old.notes.noted }
+    ensures capacity { by_height.old.capacity ≤ by_height.new.capacity }
+    ensures room { pending.new.room ≡ pending.old.room }
+{
+    let shelf = pending.noted_at(pending.len() - 1);
+    settle_one(frame, records, by_height, pending, shelf);
+    pending.pop();
+}
+
+/// Makes the list follow a shelf that has changed, where those that it has are in use and begin where they began.
+fn settle_one(
+    frame: &Frame,
+    records: &Records,
+    by_height: &mut ShelvesByHeight,
+    pending: &mut PendingShelves,
+    shelf: usize,
+)
+    requires kept { AreKept frame.now records.now }
+    requires by_height { AreByHeightButNoted frame.now records.now pending.old.notes by_height.old.items }
+    requires in_place { AreInPlace records.now.shelves pending.old.notes }
+    requires known { shelf < length pending.old.notes.standing }
+    requires noted { is_noted pending.old.notes shelf ≡ true }
+    requires room { length records.now.shelves ≤ by_height.old.capacity }
+    ensures by_height { AreByHeightButNoted frame.now records.now pending.new.notes by_height.new.items }
+    ensures in_place { AreInPlace records.now.shelves pending.new.notes }
+    ensures settled { IsSettled records.now.shelves pending.new.notes shelf }
+    ensures bounded { IsBounded frame.now records.now shelf by_height.new.items }
+    ensures noted { pending.new.notes.noted ≡ pending.old.notes.noted }
+    ensures capacity { by_height.old.capacity ≤ by_height.new.capacity }
+    ensures room { pending.new.room ≡ pending.old.room }
+{
+    let standing = pending.standing(shelf);
+    if !standing.in_use {
+        return;
+    }
+    if standing.listed {
+        move_listed(frame, records, by_height, pending, shelf);
+    } else {
+        put_in_new(frame, records, by_height, pending, shelf);
+    }
+}
+
+/// Moves a shelf that has changed to where its record puts it. An empty one may be among those, so its bound becomes the width
+/// of its column.
+fn move_listed(
+    frame: &Frame,
+    records: &Records,
+    by_height: &mut ShelvesByHeight,
+    pending: &mut PendingShelves,
+    shelf: usize,
+)
+    requires kept { AreKept frame.now records.now }
+    requires by_height { AreByHeightButNoted frame.now records.now pending.old.notes by_height.old.items }
+    requires in_place { AreInPlace records.now.shelves pending.old.notes }
+    requires known { shelf < length pending.old.notes.standing }
+    requires noted { is_noted pending.old.notes shelf ≡ true }
+    requires in_use { is_in_use pending.old.notes shelf ≡ true }
+    requires listed { is_listed pending.old.notes shelf ≡ true }
+    ensures by_height { AreByHeightButNoted frame.now records.now pending.new.notes by_height.new.items }
+    ensures in_place { AreInPlace records.now.shelves pending.new.notes }
+    ensures settled { IsSettled records.now.shelves pending.new.notes shelf }
+    ensures bounded { IsBounded frame.now records.now shelf by_height.new.items }
+    ensures noted { pending.new.notes.noted ≡ pending.old.notes.noted }
+    ensures capacity { by_height.old.capacity ≤ by_height.new.capacity }
+    ensures room { pending.new.room ≡ pending.old.room }
+{
+    let index = position_of(pending.kept(), by_height, shelf);
+    pending.list(shelf, records.shelves()[shelf]);
+    settle(pending.kept(), by_height, shelf, index);
+    raise(pending.kept(), by_height, shelf, frame.column_width as u16);
+}
+
+/// Puts a shelf that the list hasn't where its record puts it.
+fn put_in_new(
+    frame: &Frame,
+    records: &Records,
+    by_height: &mut ShelvesByHeight,
+    pending: &mut PendingShelves,
+    shelf: usize,
+)
+    requires kept { AreKept frame.now records.now }
+    requires by_height { AreByHeightButNoted frame.now records.now pending.old.notes by_height.old.items }
+    requires in_place { AreInPlace records.now.shelves pending.old.notes }
+    requires known { shelf < length pending.old.notes.standing }
+    requires noted { is_noted pending.old.notes shelf ≡ true }
+    requires in_use { is_in_use pending.old.notes shelf ≡ true }
+    requires unlisted { is_listed pending.old.notes shelf ≡ false }
+    requires room { length records.now.shelves ≤ by_height.old.capacity }
+    ensures by_height { AreByHeightButNoted frame.now records.now pending.new.notes by_height.new.items }
+    ensures in_place { AreInPlace records.now.shelves pending.new.notes }
+    ensures settled { IsSettled records.now.shelves pending.new.notes shelf }
+    ensures bounded { IsBounded frame.now records.now shelf by_height.new.items }
+    ensures noted { pending.new.notes.noted ≡ pending.old.notes.noted }
+    ensures capacity { by_height.old.capacity ≤ by_height.new.capacity }
+    ensures room { pending.new.room ≡ pending.old.room }
+{
+    pending.list(shelf, records.shelves()[shelf]);
+    put_in(pending.kept(), by_height, newly_bounded(frame, shelf), 0);
+}
