@@ -25,6 +25,7 @@ ghost use Rattle.shelf_model.specs.Places.{allocations, is_allocated};
 ghost use Rattle.etagere_base.specs.Rectangles.{IsLarge};
 ghost use Rattle.shelf_heights.specs.Private.ByHeight.{AreByHeight};
 ghost use Rattle.shelf_records.specs.Private.Kept.{AreKept};
+ghost use Rattle.shelf_store.specs.Private.Settling.{AreSettled};
 ghost use Rattle.shelf_model.specs.Returning.{returned};
 ghost use Rattle.shelf_records.specs.AtlasRecords.{state_spelled};
 ghost use Rattle.shelf_records.specs.Snapshots.{IsBroken, snapshot_records};
@@ -44,6 +45,7 @@ use etagere_base::{
 };
 use pictures::{GatheredText, Pictured, send_document, send_into};
 use shelf_heights::by_height::ShelvesByHeight;
+use shelf_heights::pending::PendingShelves;
 use shelf_model::faults::{AtlasGrowFault, Refusal};
 use shelf_model::usage::Usage;
 use shelf_records::Records;
@@ -56,6 +58,7 @@ use shelf_store::growing::counting::needed_for;
 use shelf_store::growing::{grow_shelves, size_fault};
 use shelf_store::looking::{index_of, number_of, recorded_area, recorded_shelf, rectangle_of};
 use shelf_store::returning::return_item;
+use shelf_store::settling::{settle_notes, settle_shelves, settled_notes};
 use shelf_store::starting::{fresh_by_height, fresh_records, reset_by_height, reset_records};
 use shelf_store::taking::take_placement;
 use shelf_store::tallying::{largest_free, usage};
@@ -81,6 +84,7 @@ pub struct AtlasAllocator {
     frame: Frame,
     records: Records,
     by_height: ShelvesByHeight,
+    pending: PendingShelves,
     items_in_use: u32,
     allocated_space: u32,
 }
@@ -144,10 +148,14 @@ impl AtlasAllocator {
         let Ok(by_height) = fresh_by_height(alloc, &frame) else {
             return Err(OptionsFault::Memory);
         };
+        let Ok(pending) = settled_notes(alloc, &frame, &records, &by_height) else {
+            return Err(OptionsFault::Memory);
+        };
         Ok(AtlasAllocator {
             frame,
             records,
             by_height,
+            pending,
             items_in_use: frame.columns,
             allocated_space: 0,
         })
@@ -169,15 +177,18 @@ impl AtlasAllocator {
         restore_atlas(alloc, snapshot, &mut steps)
     }
 
-    /// The atlas of a snapshot that keeps all rules, with these shelves and so many items in use.
+    /// The atlas of a snapshot that keeps all rules, with these shelves, notes of them, and so many items in use.
     pub(crate) fn of_judged(
         atlas: LoadedAtlas,
         by_height: ShelvesByHeight,
+        pending: PendingShelves,
         items_in_use: u32,
     ) -> AtlasAllocator
         requires kept { AreKept atlas.frame atlas.records }
         requires by_height { AreByHeight atlas.frame atlas.records by_height.items }
+        requires settled { AreSettled atlas.records pending.notes }
         requires room { length atlas.records.shelves ≤ by_height.capacity }
+        requires room_to_note { length atlas.records.shelves ≤ pending.room }
         requires space { atlas.allocated_space ≡ pos (space.space_in (state_spelled atlas).shelves) }
         requires items { items_in_use ≡ state.items_in_use (state_spelled atlas).shelves }
         ensures state { result ≡ state_spelled atlas }
@@ -188,6 +199,7 @@ impl AtlasAllocator {
             frame: atlas.frame,
             records: atlas.records,
             by_height,
+            pending,
             items_in_use,
             allocated_space,
         }
@@ -280,6 +292,12 @@ impl AtlasAllocator {
             → IsLarge self.old.frame size (rectangle_in allocation.new.rectangle)) }
         ensures promises { KeepsPromises self.new }
     {
+        settle_shelves(
+            &self.frame,
+            &self.records,
+            &mut self.by_height,
+            &mut self.pending,
+        );
         let found = placement_of(
             &self.frame,
             &self.records,
@@ -295,6 +313,7 @@ impl AtlasAllocator {
         let id = take_placement(
             &mut self.records,
             &mut self.by_height,
+            &mut self.pending,
             &placement,
             column_width,
         )?;
@@ -368,7 +387,13 @@ impl AtlasAllocator {
         let shelf = recorded_shelf(&self.records, number);
         let area = recorded_area(&self.records, shelf, number);
         self.allocated_space -= area;
-        self.items_in_use -= return_item(&mut self.records, &mut self.by_height, shelf, number);
+        self.items_in_use -= return_item(
+            &mut self.records,
+            &mut self.by_height,
+            &mut self.pending,
+            shelf,
+            number,
+        );
         Ok(())
     }
 
@@ -442,9 +467,16 @@ impl AtlasAllocator {
         if needed.items > MOST_ITEMS - self.items_in_use {
             return Err(AtlasGrowFault::Records);
         }
+        settle_shelves(
+            &self.frame,
+            &self.records,
+            &mut self.by_height,
+            &mut self.pending,
+        );
         let done = grow_shelves(
             &mut self.records,
             &mut self.by_height,
+            &mut self.pending,
             &self.frame,
             &grown,
             needed,
@@ -467,6 +499,12 @@ impl AtlasAllocator {
     {
         reset_records(&self.frame, &mut self.records);
         reset_by_height(&self.frame, &mut self.by_height);
+        settle_notes(
+            &self.frame,
+            &self.records,
+            &self.by_height,
+            &mut self.pending,
+        );
         self.items_in_use = self.frame.columns;
         self.allocated_space = 0;
     }
@@ -556,10 +594,12 @@ impl Clone for AtlasAllocator {
     fn clone(&self) -> Result<AtlasAllocator, AllocError> {
         let records = self.records.clone()?;
         let by_height = self.by_height.copied(records.shelves().len())?;
+        let pending = self.pending.copied(records.shelves().len())?;
         Ok(AtlasAllocator {
             frame: self.frame,
             records,
             by_height,
+            pending,
             items_in_use: self.items_in_use,
             allocated_space: self.allocated_space,
         })

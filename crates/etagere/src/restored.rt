@@ -24,6 +24,7 @@ use shelf_restoring::loaded_atlas::LoadedAtlas;
 use shelf_restoring::rules::judge_rules;
 use shelf_restoring::walked_lists::walked_shelves;
 use shelf_restoring::walking::{WalkedRecords, walk_records};
+use shelf_store::settling::settled_notes;
 use shelf_store::starting::newly_bounded;
 use snapshot_records::shelves::AtlasSnapshot;
 use std::alloc::{AllocError, Global};
@@ -136,6 +137,14 @@ pub fn restore_atlas(
     else {
         return Err(RestoreFault::Memory);
     };
+    let Ok(pending) = settled_notes(alloc, &atlas.frame, &atlas.records, &by_height) else {
+        return Err(RestoreFault::Memory);
+    };
     let items_in_use = walked.items.met.len() as u32;
-    Ok(AtlasAllocator::of_judged(atlas, by_height, items_in_use))
+    Ok(AtlasAllocator::of_judged(
+        atlas,
+        by_height,
+        pending,
+        items_in_use,
+    ))
 }

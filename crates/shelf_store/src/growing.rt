@@ -8,6 +8,7 @@ ghost use Rattle.etagere_base.specs.Frames.{IsFrame, longest_side};
 ghost use Rattle.shelf_heights.specs.Private.ByHeight.{AreByHeight};
 ghost use Rattle.shelf_model.specs.Growing as growing;
 ghost use Rattle.shelf_records.specs.Private.Kept.{AreKept};
+ghost use Rattle.shelf_store.specs.Private.Settling.{AreSettled};
 ghost use Rattle.shelf_store.specs.Private.RecordsGrown as spec;
 ghost use Rattle.shelf_store.specs.Private.RecordsGrown.{CanGrow};
 
@@ -20,10 +21,11 @@ pub mod widening;
 use crate::growing::appending::append_columns;
 use crate::growing::heightening::heighten_columns;
 use crate::growing::widening::widen_shelves;
+use crate::settling::{reserve_shelves, settle_notes};
 use crate::starting::{reorder_shelves, sort_shelves};
 use etagere_base::{Frame, LONGEST_SIDE, ResizeFault, Size, resize_fault};
 use shelf_heights::by_height::ShelvesByHeight;
-use shelf_heights::heights::reserve_by_height;
+use shelf_heights::pending::PendingShelves;
 use shelf_model::faults::AtlasGrowFault;
 use shelf_records::Records;
 use std::alloc::AllocError;
@@ -58,6 +60,7 @@ pub fn size_fault(frame: &Frame, size: Size) -> Option<AtlasGrowFault>
 pub fn grow_shelves(
     records: &mut Records,
     by_height: &mut ShelvesByHeight,
+    pending: &mut PendingShelves,
     frame: &Frame,
     grown: &Frame,
     needed: Needed,
@@ -68,21 +71,28 @@ pub fn grow_shelves(
     requires grows { CanGrow frame.now grown.now needed records.old }
     requires kept { AreKept grown.now (spec.records_grown frame.now grown.now needed records.old).records }
     requires by_height { AreByHeight frame.now records.old by_height.old.items }
+    requires settled { AreSettled records.old pending.old.notes }
     requires room { length records.old.shelves ≤ by_height.old.capacity }
+    requires room_to_note { length records.old.shelves ≤ pending.old.room }
     ensures ok { OnOk result
         (records.new ≡ (spec.records_grown frame.now grown.now needed records.old).records) }
     ensures by_height { OnOk result (AreByHeight grown.now records.new by_height.new.items) }
+    ensures settled { OnOk result (AreSettled records.new pending.new.notes) }
     ensures err { OnErr result (records.new ≡ records.old) }
     ensures same { OnErr result (by_height.new.items ≡ by_height.old.items) }
+    ensures same_notes { OnErr result (pending.new.notes ≡ pending.old.notes) }
     ensures room { length records.new.shelves ≤ by_height.new.capacity }
+    ensures room_to_note { length records.new.shelves ≤ pending.new.room }
     ensures some { OnErr result (0 < needed.items) }
 {
-    reserve_by_height(records, by_height, needed.shelves)?;
+    reserve_shelves(records, by_height, pending, needed.shelves)?;
     grow_records(records, frame, grown, needed)?;
     if needed.shelves > 0 {
         sort_shelves(grown, records, by_height);
+        settle_notes(grown, records, by_height, pending);
     } else if is_extended(frame, grown) {
         reorder_shelves(grown, records, by_height);
+        settle_notes(grown, records, by_height, pending);
     }
     Ok(())
 }

@@ -2,9 +2,9 @@
 //!
 //! Definitions: `Pending` for what is noted, `Settling` for what holds on the way. First the shelves go that are out of use, or
 //! begin elsewhere by now; then those in use go where their records put them, one after another. Where many have changed,
-//! all shelves in use are sorted anew. Nothing here changes the records, and but for `reserve_shelves` takes memory.
+//! all shelves in use are sorted anew. Nothing here changes the records, and but for `reserve_shelves` and `settled_notes` takes memory.
 
-ghost use Rattle.std.specs.Prelude.{◌≡◌, ℕ, ◌+◌, ◌<◌, ◌≤◌, OnErr, OnOk, false, length, true};
+ghost use Rattle.std.specs.Prelude.{◌≡◌, ℕ, ◌+◌, ◌<◌, ◌≤◌, IfOk, OnErr, OnOk, false, length, true};
 ghost use Rattle.shelf_records.specs.RecordUses.{missing};
 ghost use Rattle.shelf_records.specs.Records.{shelf_chain};
 ghost use Rattle.shelf_heights.specs.Private.ByHeight.{AreByHeight, chain_order};
@@ -19,7 +19,7 @@ use shelf_heights::by_height::ShelvesByHeight;
 use shelf_heights::heights::{position_of, put_in, raise, reserve_by_height, settle, take_out};
 use shelf_heights::pending::{PendingShelves, follow};
 use shelf_records::Records;
-use std::alloc::AllocError;
+use std::alloc::{AllocError, Global};
 
 /// Where more than so many have changed, and more than an eighth, all shelves in use are sorted anew.
 const FEW: usize = 32;
@@ -54,6 +54,39 @@ pub fn reserve_shelves(
         pending.reserve(records.shelves().len() + missing)?;
     }
     reserve_by_height(records, by_height, wanted)
+}
+
+/// The notes of a list that follows these records.
+pub fn settled_notes(
+    alloc: Global,
+    frame: &Frame,
+    records: &Records,
+    by_height: &ShelvesByHeight,
+) -> Result<PendingShelves, AllocError>
+    requires kept { AreKept frame.now records.now }
+    requires by_height { AreByHeight frame.now records.now by_height.now.items }
+    ensures settled { IfOk result (λ pending. AreSettled records.now pending.notes) }
+    ensures room { IfOk result (λ pending. length records.now.shelves ≤ pending.room) }
+{
+    let mut pending = PendingShelves::with_room(alloc, records.shelves().len())?;
+    settle_notes(frame, records, by_height, &mut pending);
+    Ok(pending)
+}
+
+/// Makes the notes those of a list that follows these records. There is room for them.
+pub fn settle_notes(
+    _frame: &Frame,
+    records: &Records,
+    by_height: &ShelvesByHeight,
+    pending: &mut PendingShelves,
+)
+    requires kept { AreKept _frame.now records.now }
+    requires by_height { AreByHeight _frame.now records.now by_height.now.items }
+    requires room { length records.now.shelves ≤ pending.old.room }
+    ensures settled { AreSettled records.now pending.new.notes }
+    ensures room { pending.new.room ≡ pending.old.room }
+{
+    follow(pending, records.shelves(), by_height);
 }
 
 /// Makes the list follow what was noted.
@@ -96,7 +129,7 @@ fn settle_noted(
 {
     if pending.len() > FEW && pending.len() > by_height.len() / 8 {
         sort_shelves(frame, records, by_height);
-        follow(pending, records.shelves(), by_height);
+        settle_notes(frame, records, by_height, pending);
     } else {
         take_out_moved(frame, records, by_height, pending);
         settle_each(frame, records, by_height, pending);

@@ -1,6 +1,7 @@
 -- The list of shelves by height holds but for those that have changed, through the steps of a return: where an item became
 -- free, and where a shelf took the place of the next one.
 use Rattle.std.proofs.Common.{◌≡◌, ◌≢◌, ℕ, ◌+◌, ◌≤◌, ◌<◌, Bool, true, false, List, [], ◌∷◌, ◌++◌, length, map, refl, ap, subst, arith, sym, ◌∙◌}
+use Rattle.std.proofs.lemmas.List.{length-map}
 use Rattle.std.specs.Prelude.{◌==◌}
 use Rattle.etagere_base.proofs.EachLemmas.{Each-append, Each-back, Each-front, Each-middle, Each-weaken}
 use Rattle.etagere_base.proofs.TimesLemmas.{hit, times-append}
@@ -101,6 +102,11 @@ raised-holds atlas new before after entry edited width notes by_height number le
           known = omega (arith, lengths, holds.known);
           few = omega (arith, lengths, holds.few);
         }
+
+-- as many stand there then
+pub length-raised_unless : (changed : Bool) (shelf width : ℕ) (by_height : List BoundedShelf) → length (raised_unless changed shelf width by_height) ≡ length by_height
+length-raised_unless true shelf width by_height = refl
+length-raised_unless false shelf width by_height = length-map by_height _
 
 -- the shelves before a merge, without the one that goes
 fewer-bounds : (atlas : AtlasRecords) (shelf widest : ℕ) (before after : List Entry) (entry gone : Entry) → AllByRecursion (IsBoundOf atlas shelf widest) (before ++ entry ∷ gone ∷ after) → AllByRecursion (IsBoundOf atlas shelf widest) (before ++ entry ∷ after)

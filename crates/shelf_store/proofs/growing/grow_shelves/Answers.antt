@@ -1,4 +1,4 @@
-use Rattle.std.proofs.Common.{ap, arith, length, sym, ◌∙◌}
+use Rattle.std.proofs.Common.{ap, arith, length, subst, sym, ◌∙◌}
 use Rattle.shelf_records.specs.RecordLists.{Records, shelf_walk}
 use Rattle.shelf_records.proofs.AllLists.LinkedWalks.{walked-numbers}
 use Rattle.shelf_store.specs.Private.RecordsGrown.{records_grown}
@@ -6,6 +6,7 @@ use Rattle.shelf_store.proofs.ByHeight.RoomByHeight.{shelves-count}
 use Rattle.shelf_store.proofs.Grown.GrownLengths.{grown-count}
 use Rattle.shelf_store.proofs.Grown.GrownNothing.{nothing-grown, by_height-elsewhere}
 use Rattle.shelf_store.proofs.Grown.SameShelves.{grown-same}
+use Rattle.shelf_store.specs.Private.Settling.{AreSettled}
 use Rattle.shelf_store.proofs.growing.grow_shelves.Goals as goal
 
 pub sort_shelves-requires-clause-room : goal.sort_shelves-requires-clause-room
@@ -17,13 +18,13 @@ sort_shelves-requires-clause-room c =
       ap length (walked-numbers new (shelf_walk new).met),
       shelves-count c.args.grown.now new c.requires.kept,
       grown-count c.args.frame.now c.args.grown.now c.args.needed c.args.records.now,
-      c.in_ok-reserve_by_height.ensures.room,
+      c.in_ok-reserve_shelves.ensures.room,
     )
 
 pub reorder_shelves-requires-clause-once : goal.reorder_shelves-requires-clause-once
 reorder_shelves-requires-clause-once c =
-    grown-same c.args.frame.now c.args.grown.now c.args.needed c.args.records.now c.grow_records.new.records c.args.by_height.now.items c.reserve_by_height.new.by_height.items
-    c.requires.by_height c.reserve_by_height.ensures.items c.requires.needed (omega (arith, c.if-needed-gt0.false)) c.in_ok-grow_records.ensures.ok
+    grown-same c.args.frame.now c.args.grown.now c.args.needed c.args.records.now c.grow_records.new.records c.args.by_height.now.items c.reserve_shelves.new.by_height.items
+    c.requires.by_height c.reserve_shelves.ensures.items c.requires.needed (omega (arith, c.if-needed-gt0.false)) c.in_ok-grow_records.ensures.ok
 
 pub returns-then-needed-gt0-clause-room : goal.returns-then-needed-gt0-clause-room
 returns-then-needed-gt0-clause-room c =
@@ -31,7 +32,7 @@ returns-then-needed-gt0-clause-room c =
       arith,
       ap (λ (r : Records). length r.shelves) c.in_ok-grow_records.ensures.ok,
       grown-count c.args.frame.now c.args.grown.now c.args.needed c.args.records.now,
-      c.in_ok-reserve_by_height.ensures.room,
+      c.in_ok-reserve_shelves.ensures.room,
       c.sort_shelves.ensures.capacity,
     )
 
@@ -41,7 +42,7 @@ returns-then-is_extended-clause-room c =
       arith,
       ap (λ (r : Records). length r.shelves) c.in_ok-grow_records.ensures.ok,
       grown-count c.args.frame.now c.args.grown.now c.args.needed c.args.records.now,
-      c.in_ok-reserve_by_height.ensures.room,
+      c.in_ok-reserve_shelves.ensures.room,
       c.reorder_shelves.ensures.capacity,
     )
 
@@ -51,7 +52,7 @@ returns-else-is_extended-clause-room c =
       arith,
       ap (λ (r : Records). length r.shelves) c.in_ok-grow_records.ensures.ok,
       grown-count c.args.frame.now c.args.grown.now c.args.needed c.args.records.now,
-      c.in_ok-reserve_by_height.ensures.room,
+      c.in_ok-reserve_shelves.ensures.room,
     )
 
 pub returns-else-is_extended-clause-by_height : goal.returns-else-is_extended-clause-by_height
@@ -59,6 +60,53 @@ returns-else-is_extended-clause-by_height c =
     let frame = c.args.frame.now in
     let grown = c.args.grown.now in
     let records = c.args.records.now in
-    by_height-elsewhere frame grown records c.grow_records.new.records c.args.by_height.now.items c.reserve_by_height.new.by_height.items
+    by_height-elsewhere frame grown records c.grow_records.new.records c.args.by_height.now.items c.reserve_shelves.new.by_height.items
     (c.in_ok-grow_records.ensures.ok ∙ nothing-grown frame grown c.args.needed records c.requires.needed (sym c.is_extended.ensures ∙ c.if-is_extended.false))
-    c.reserve_by_height.ensures.items c.requires.by_height
+    c.reserve_shelves.ensures.items c.requires.by_height
+
+pub settle_notes-requires-clause-room : goal.settle_notes-requires-clause-room
+settle_notes-requires-clause-room c =
+    omega (
+      arith,
+      ap (λ (r : Records). length r.shelves) c.in_ok-grow_records.ensures.ok,
+      grown-count c.args.frame.now c.args.grown.now c.args.needed c.args.records.now,
+      c.in_ok-reserve_shelves.ensures.room_to_note,
+    )
+
+pub settle_notes-requires-then-is_extended-clause-room : goal.settle_notes-requires-then-is_extended-clause-room
+settle_notes-requires-then-is_extended-clause-room c =
+    omega (
+      arith,
+      ap (λ (r : Records). length r.shelves) c.in_ok-grow_records.ensures.ok,
+      grown-count c.args.frame.now c.args.grown.now c.args.needed c.args.records.now,
+      c.in_ok-reserve_shelves.ensures.room_to_note,
+    )
+
+pub returns-then-needed-gt0-clause-room_to_note : goal.returns-then-needed-gt0-clause-room_to_note
+returns-then-needed-gt0-clause-room_to_note c =
+    omega (
+      arith,
+      ap (λ (r : Records). length r.shelves) c.in_ok-grow_records.ensures.ok,
+      grown-count c.args.frame.now c.args.grown.now c.args.needed c.args.records.now,
+      c.in_ok-reserve_shelves.ensures.room_to_note,
+      c.settle_notes.ensures.room,
+    )
+
+pub returns-then-is_extended-clause-room_to_note : goal.returns-then-is_extended-clause-room_to_note
+returns-then-is_extended-clause-room_to_note c =
+    omega (
+      arith,
+      ap (λ (r : Records). length r.shelves) c.in_ok-grow_records.ensures.ok,
+      grown-count c.args.frame.now c.args.grown.now c.args.needed c.args.records.now,
+      c.in_ok-reserve_shelves.ensures.room_to_note,
+      c.settle_notes-then-is_extended.ensures.room,
+    )
+
+pub returns-else-is_extended-clause-settled : goal.returns-else-is_extended-clause-settled
+returns-else-is_extended-clause-settled c =
+    let frame = c.args.frame.now in
+    let grown = c.args.grown.now in
+    let records = c.args.records.now in
+    subst (λ (r : Records). AreSettled r c.reserve_shelves.new.pending.notes)
+    (sym (c.in_ok-grow_records.ensures.ok ∙ nothing-grown frame grown c.args.needed records c.requires.needed (sym c.is_extended.ensures ∙ c.if-is_extended.false)))
+    (subst (AreSettled records) (sym c.reserve_shelves.ensures.notes) c.requires.settled)

@@ -1,7 +1,6 @@
 use Rattle.std.proofs.Common.{ap, arith, length}
 use Rattle.shelf_records.proofs.AllLists.LinkedWalks.{walked-numbers}
 use Rattle.shelf_records.specs.RecordLists.{shelf_walk}
-use Rattle.shelf_heights.proofs.ByHeight.Edited.{by_height-in_order}
 use Rattle.shelf_store.proofs.ByHeight.RoomByHeight.{shelves-count}
 use Rattle.shelf_store.proofs.settling.settle_noted.Goals as goal
 
@@ -13,7 +12,3 @@ sort_shelves-requires-clause-room c =
       ap length (walked-numbers c.args.records.now (shelf_walk c.args.records.now).met),
       c.requires.room,
     )
-
-pub follow-requires-clause-order : goal.follow-requires-clause-order
-follow-requires-clause-order c =
-    rw c.shelves.ensures (by_height-in_order c.args.frame.now c.args.records.now c.sort_shelves.new.by_height.items c.requires.kept c.sort_shelves.ensures.by_height)

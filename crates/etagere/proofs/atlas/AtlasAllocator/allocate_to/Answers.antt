@@ -1,5 +1,5 @@
 use Rattle.std.specs.Prelude.{◌≡◌, OnErr, Result, Ok, Err, Some}
-use Rattle.std.proofs.Common.{List, ap, sym, subst, arith, ◌∙◌}
+use Rattle.std.proofs.Common.{◌≤◌, List, ap, length, sym, subst, arith, ◌∙◌}
 use Rattle.etagere_base.specs.Rectangles.{IsLarge}
 use Rattle.etagere_base.specs.declared.ids.Allocation.{Allocation}
 use Rattle.shelf_records.specs.RecordLists.{Records}
@@ -8,17 +8,21 @@ use Rattle.shelf_model.specs.Choice.{Placement}
 use Rattle.shelf_model.specs.ById.{IsClear, KeepsRectangles}
 use Rattle.shelf_model.specs.Places.{allocations, rectangle_of}
 use Rattle.etagere.specs.Plain.{allocation_in, rectangle_in}
-use Rattle.etagere.specs.Private.Consistent.{state_in}
+use Rattle.etagere.specs.Private.Consistent.{IsConsistent, state_in}
+use Rattle.etagere.specs.declared.atlas.AtlasAllocator.TheInside.{Inside}
 use Rattle.shelf_heights.specs.Private.ByHeight.{AreByHeight}
+use Rattle.shelf_store.specs.Private.Settling.{AreSettled}
 use Rattle.shelf_records.specs.Private.Kept.{state_of}
-use Rattle.shelf_store.specs.Private.PlacementTaken.{taken_by_height}
+use Rattle.shelf_heights.specs.Private.Pending.{AreByHeightButNoted, Notes}
+use Rattle.shelf_store.specs.Private.PlacementTaken.{placement_taken, taken_notes}
 use Rattle.shelf_model.specs.State.{AtlasState}
 use Rattle.shelf_heights.specs.declared.by_height.BoundedShelf.{BoundedShelf}
 use Rattle.shelf_model.proofs.Allocations.SeenById.{added-clear, keeps-rectangles}
-use Rattle.shelf_store.proofs.ByHeight.RoomByHeight.{items-short, by_height-spare}
-use Rattle.shelf_store.proofs.ByHeight.TakenByHeight.{HoldsByHeight}
+use Rattle.shelf_store.proofs.ByHeight.NewByHeight.{columns-by_height}
+use Rattle.shelf_store.proofs.ByHeight.RoomByHeight.{items-short}
+use Rattle.shelf_store.proofs.ByHeight.SplitByHeight.{settled-holds}
 use Rattle.shelf_model.proofs.Promises.{promises}
-use Rattle.shelf_store.proofs.Recorded.RecordedTaking.{AfterTaking, after-taking, found-as_placed, found-by_height}
+use Rattle.shelf_store.proofs.Recorded.RecordedTaking.{AfterTaking, after-taking, found-as_placed, found-holds, found-there}
 use Rattle.shelf_store.proofs.Spelled.TakenPremises.{can-take}
 use Rattle.etagere_base.proofs.FrameSides.{column_width-le, sides_low}
 use Rattle.shelf_records.proofs.Spelled.StandsKept.{witnesses}
@@ -43,18 +47,16 @@ take_placement-requires-clause-takes c =
     let finds = c.in-Some.ensures.some in
     can-take inside.frame inside.records c.args.size finds.placement c.in-Some.placement c.self.invariant.kept finds.placed finds.located
 
-pub take_placement-requires-clause-by_height : goal.take_placement-requires-clause-by_height
-take_placement-requires-clause-by_height c =
+pub take_placement-requires-clause-there : goal.take_placement-requires-clause-there
+take_placement-requires-clause-there c =
     let inside = c.self.inside in
-    (found-by_height inside.frame inside.records c.args.size c.in-Some.placement c.placement_of-found.new.by_height.items c.self.invariant.kept c.in-Some.ensures.some c.placement_of-found.ensures.by_height).can
+    found-there inside.frame inside.records c.args.size c.in-Some.placement c.self.invariant.kept c.in-Some.ensures.some
 
 pub take_placement-requires-clause-room : goal.take_placement-requires-clause-room
-take_placement-requires-clause-room c = omega (arith, c.self.invariant.room, c.placement_of-found.ensures.capacity)
+take_placement-requires-clause-room c = omega (arith, c.self.invariant.room, c.settle_shelves.ensures.capacity, c.placement_of-found.ensures.capacity)
 
-pub take_placement-requires-clause-spare : goal.take_placement-requires-clause-spare
-take_placement-requires-clause-spare c =
-    let inside = c.self.inside in
-    by_height-spare inside.frame inside.records c.placement_of-found.new.by_height.items c.self.invariant.kept c.placement_of-found.ensures.by_height
+pub take_placement-requires-clause-room_to_note : goal.take_placement-requires-clause-room_to_note
+take_placement-requires-clause-room_to_note c = omega (arith, c.self.invariant.room_to_note, c.settle_shelves.ensures.room)
 
 pub returns-in_err-id-clause-split : goal.returns-in_err-id-clause-split
 returns-in_err-id-clause-split c =
@@ -99,20 +101,68 @@ after c =
     c.self.invariant.kept c.in-Some.ensures.some c.in_ok-id.ensures.ok c.in_ok-id.ensures.id c.rectangle-rectangle.ensures
 
 -- and of the shelves by height
-by_height-after : (c : goal.After-of) → AreByHeight c.self.inside.frame c.take_placement.new.records c.take_placement.new.by_height.items
+by_height-after : (c : goal.After-of) → AreByHeightButNoted c.self.inside.frame c.take_placement.new.records c.take_placement.new.pending.notes c.take_placement.new.by_height.items
 by_height-after c =
     let inside = c.self.inside in
+    let column_width = inside.frame.column_width in
+    let found = c.in-Some.placement in
+    let notes : Notes = c.settle_shelves.new.pending.notes in
     let by_height : List BoundedShelf = c.placement_of-found.new.by_height.items in
-    let in_list : HoldsByHeight inside.frame inside.records c.in-Some.placement by_height =
-    found-by_height inside.frame inside.records c.args.size c.in-Some.placement by_height c.self.invariant.kept c.in-Some.ensures.some c.placement_of-found.ensures.by_height in
-    subst (AreByHeight inside.frame c.take_placement.new.records) (sym c.in_ok-id.ensures.by_height)
-    (subst (λ (r : Records). AreByHeight inside.frame r (taken_by_height inside.frame.column_width c.in-Some.placement inside.records by_height)) (sym c.in_ok-id.ensures.ok) in_list.after)
+    let holds : AreByHeightButNoted inside.frame (placement_taken column_width found inside.records) (taken_notes found inside.records notes) by_height =
+    found-holds inside.frame inside.records c.args.size found notes by_height c.self.invariant.kept c.in-Some.ensures.some c.placement_of-found.ensures.by_height c.settle_shelves.ensures.settled in
+    subst (AreByHeightButNoted inside.frame c.take_placement.new.records c.take_placement.new.pending.notes) (sym c.in_ok-id.ensures.by_height)
+    (subst (λ (n : Notes). AreByHeightButNoted inside.frame c.take_placement.new.records n by_height) (sym c.in_ok-id.ensures.notes)
+    (subst (λ (r : Records). AreByHeightButNoted inside.frame r (taken_notes found inside.records notes) by_height) (sym c.in_ok-id.ensures.ok) holds))
+
+-- what the fields keep where nothing is given
+unchanged : (inside : Inside) (by_height : List BoundedShelf) (notes : Notes) → IsConsistent inside → AreByHeight inside.frame inside.records by_height → AreSettled inside.records notes
+    → AreByHeightButNoted inside.frame inside.records notes by_height × (inside.frame.columns ≤ length by_height)
+unchanged inside by_height notes is are settled =
+    (settled-holds inside.frame inside.records notes by_height is.kept are settled, columns-by_height inside.frame inside.records by_height is.kept are)
+
+pub invariant_of-self : goal.invariant_of-self
+invariant_of-self c =
+    let same = unchanged c.self.inside c.placement_of-found.new.by_height.items c.settle_shelves.new.pending.notes c.self.invariant c.placement_of-found.ensures.by_height c.settle_shelves.ensures.settled in
+    record {
+      kept = c.self.invariant.kept;
+      by_height = same.0;
+      columns = same.1;
+      room = omega (arith, c.self.invariant.room, c.settle_shelves.ensures.capacity, c.placement_of-found.ensures.capacity);
+      room_to_note = omega (arith, c.self.invariant.room_to_note, c.settle_shelves.ensures.room);
+      counted = c.self.invariant.counted;
+      space = c.self.invariant.space;
+    }
+
+pub invariant_of-self-in_err-id : goal.invariant_of-self-in_err-id
+invariant_of-self-in_err-id c =
+    let inside = c.self.inside in
+    let by_height : List BoundedShelf = c.take_placement.new.by_height.items in
+    let notes : Notes = c.take_placement.new.pending.notes in
+    let same = unchanged inside by_height notes c.self.invariant
+    (subst (AreByHeight inside.frame inside.records) (sym c.in_err-id.ensures.by_height) c.placement_of-found.ensures.by_height)
+    (subst (AreSettled inside.records) (sym c.in_err-id.ensures.notes_err) c.settle_shelves.ensures.settled) in
+    rw c.in_err-id.ensures.err
+    (record {
+      kept = c.self.invariant.kept;
+      by_height = same.0;
+      columns = same.1;
+      room = subst (λ (r : Records). length r.shelves ≤ c.take_placement.new.by_height.capacity) c.in_err-id.ensures.err c.in_err-id.ensures.room;
+      room_to_note = subst (λ (r : Records). length r.shelves ≤ c.take_placement.new.pending.room) c.in_err-id.ensures.err c.in_err-id.ensures.room_to_note;
+      counted = c.self.invariant.counted;
+      space = c.self.invariant.space;
+    })
 
 pub invariant_of-self-2 : goal.invariant_of-self-2
 invariant_of-self-2 c = record {
   kept = (after c).kept;
   by_height = by_height-after c;
+  columns = omega (
+    arith,
+    columns-by_height c.self.inside.frame c.self.inside.records c.placement_of-found.new.by_height.items c.self.invariant.kept c.placement_of-found.ensures.by_height,
+    ap (λ (xs : List BoundedShelf). length xs) c.in_ok-id.ensures.by_height,
+  );
   room = c.in_ok-id.ensures.room;
+  room_to_note = c.in_ok-id.ensures.room_to_note;
   counted = omega (arith, (after c).counted, c.splits.ensures.value, c.self.invariant.counted);
   space = omega (arith, (after c).space, c.area.ensures, c.self.invariant.space);
 }

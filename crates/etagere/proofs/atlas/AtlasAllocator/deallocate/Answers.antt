@@ -2,7 +2,10 @@ use Rattle.std.proofs.Common.{◌≡◌, true, false, length, refl, ap, sym, ◌
 use Rattle.std.specs.Prelude.{is_some}
 use Rattle.shelf_records.specs.RecordLists.{Records}
 use Rattle.shelf_model.specs.Atlas.{KeepsPromises, Restores, without_id}
-use Rattle.shelf_records.specs.AtlasRecords.{is_allocated_at}
+use Rattle.shelf_records.specs.AtlasRecords.{is_allocated_at, shelf_of}
+use Rattle.shelf_heights.specs.Private.Pending.{is_noted}
+use Rattle.shelf_store.specs.Private.ReturnedNotes.{freed_width}
+use Rattle.shelf_store.proofs.ByHeight.MergedByHeight.{length-raised_unless}
 use Rattle.shelf_model.specs.ById.{TakesAway, Undoes}
 use Rattle.shelf_model.specs.Places.{allocations, is_allocated}
 use Rattle.etagere.specs.Private.Consistent.{state_in}
@@ -52,7 +55,7 @@ overflow_sub-self c =
 pub return_item-requires : goal.return_item-requires
 return_item-requires c =
     let inside = c.self.inside in
-    let can = can-return inside.frame inside.records inside.by_height.items c.args.id c.in-Some.number c.self.invariant.kept c.self.invariant.by_height (sym c.number_of.ensures ∙ c.in-Some.is) in
+    let can = can-return inside.frame inside.records inside.pending.notes inside.by_height.items c.args.id c.in-Some.number c.self.invariant.kept c.self.invariant.by_height (sym c.number_of.ensures ∙ c.in-Some.is) in
     record { shelf = c.recorded_shelf-shelf.ensures; number = can.0; fits = can.1; by_height = can.2 }
 
 -- what is known once the item was returned
@@ -69,14 +72,27 @@ invariant_of-self c =
     let done = after (goal.at.invariant_of-self c).After-return_item in
     record {
       kept = done.kept;
-      by_height = rw (c.return_item.ensures.records, c.return_item.ensures.by_height)
-          (by_height-after c.self.inside.frame c.self.inside.records c.self.inside.by_height.items c.args.id c.in-Some.number c.self.invariant.kept c.self.invariant.by_height (sym c.number_of.ensures ∙ c.in-Some.is));
+      by_height = rw (c.return_item.ensures.records, c.return_item.ensures.by_height, c.return_item.ensures.notes)
+          (by_height-after c.self.inside.frame c.self.inside.records c.self.inside.pending.notes c.self.inside.by_height.items c.args.id c.in-Some.number c.self.invariant.kept c.self.invariant.by_height (sym c.number_of.ensures ∙ c.in-Some.is));
       room = omega (
         arith,
         ap (λ (r : Records). length r.shelves) c.return_item.ensures.records,
         (returned-lengths c.in-Some.number c.self.inside.records).shelves,
         c.self.invariant.room,
         c.return_item.ensures.capacity,
+      );
+      columns = omega (
+        arith,
+        ap length c.return_item.ensures.by_height,
+        length-raised_unless (is_noted c.self.inside.pending.notes (shelf_of c.self.inside.records.items c.in-Some.number)) (shelf_of c.self.inside.records.items c.in-Some.number) (freed_width c.self.inside.records.items c.in-Some.number) c.self.inside.by_height.items,
+        c.self.invariant.columns,
+      );
+      room_to_note = omega (
+        arith,
+        ap (λ (r : Records). length r.shelves) c.return_item.ensures.records,
+        (returned-lengths c.in-Some.number c.self.inside.records).shelves,
+        c.self.invariant.room_to_note,
+        c.return_item.ensures.room,
       );
       counted = omega (arith, done.counted, c.self.invariant.counted);
       space = omega (arith, done.space, c.self.invariant.space);

@@ -9,6 +9,10 @@ use Rattle.shelf_model.specs.Atlas.{KeepsPromises}
 use Rattle.shelf_model.specs.Growing.{atlas_grown, grow_fault, grown_frame, records_needed, size_fault}
 use Rattle.shelf_model.specs.Places.{allocations}
 use Rattle.shelf_heights.specs.Private.ByHeight.{AreByHeight}
+use Rattle.shelf_heights.specs.Private.Pending.{AreByHeightButNoted}
+use Rattle.shelf_store.specs.Private.Settling.{AreSettled}
+use Rattle.shelf_store.proofs.ByHeight.NewByHeight.{columns-by_height}
+use Rattle.shelf_store.proofs.ByHeight.SplitByHeight.{settled-holds}
 use Rattle.etagere.specs.Private.Consistent.{IsConsistent, state_in}
 use Rattle.shelf_records.specs.Private.Kept.{AreKept, state_of}
 use Rattle.shelf_store.specs.Private.RecordsGrown.{needed_of, records_grown}
@@ -111,13 +115,20 @@ pub invariant_of-self : goal.invariant_of-self
 invariant_of-self c =
     let inside = c.self.inside in
     let same : inside.records ≡ c.grow_shelves-done.new.records = sym (same_records c) in
-    let by_height : c.grow_shelves-done.new.by_height.items ≡ inside.by_height.items =
+    let by_height : c.grow_shelves-done.new.by_height.items ≡ c.settle_shelves.new.by_height.items =
     on_err c.grow_shelves-done.result (sym c.is_err.ensures.value ∙ c.if-is_err.true) c.grow_shelves-done.ensures.same in
+    let notes : c.grow_shelves-done.new.pending.notes ≡ c.settle_shelves.new.pending.notes =
+    on_err c.grow_shelves-done.result (sym c.is_err.ensures.value ∙ c.if-is_err.true) c.grow_shelves-done.ensures.same_notes in
+    let are : AreByHeight inside.frame inside.records c.grow_shelves-done.new.by_height.items =
+    subst (AreByHeight inside.frame inside.records) (sym by_height) c.settle_shelves.ensures.by_height in
     record {
       kept = subst (AreKept inside.frame) same c.self.invariant.kept;
-      by_height = subst (λ (r : Records). AreByHeight inside.frame r c.grow_shelves-done.new.by_height.items) same
-          (subst (AreByHeight inside.frame inside.records) (sym by_height) c.self.invariant.by_height);
+      by_height = subst (λ (r : Records). AreByHeightButNoted inside.frame r c.grow_shelves-done.new.pending.notes c.grow_shelves-done.new.by_height.items) same
+          (settled-holds inside.frame inside.records c.grow_shelves-done.new.pending.notes c.grow_shelves-done.new.by_height.items c.self.invariant.kept are
+          (subst (AreSettled inside.records) (sym notes) c.settle_shelves.ensures.settled));
+      columns = columns-by_height inside.frame inside.records c.grow_shelves-done.new.by_height.items c.self.invariant.kept are;
       room = c.grow_shelves-done.ensures.room;
+      room_to_note = c.grow_shelves-done.ensures.room_to_note;
       counted = c.self.invariant.counted ∙ ap (λ (r : Records). items_in_use (state_of inside.frame r).shelves) same;
       space = c.self.invariant.space ∙ ap (λ (r : Records). allocated_space (state_of inside.frame r)) same;
     }
@@ -157,10 +168,16 @@ invariant_of-self-2 c =
     let grown = c.grown_frame-grown.result in
     let items = ap (λ (r : Records). items_in_use (state_of grown r).shelves) (grown_records c) in
     let space = ap (λ (r : Records). allocated_space (state_of grown r)) (grown_records c) in
+    let kept : AreKept grown c.grow_shelves-done.new.records = subst (AreKept grown) (grown_records c) (done c).kept in
+    let are : AreByHeight grown c.grow_shelves-done.new.records c.grow_shelves-done.new.by_height.items =
+    on_ok c.grow_shelves-done.result (sym c.is_err.ensures.value ∙ c.if-is_err.false) c.grow_shelves-done.ensures.by_height in
     record {
-      kept = subst (AreKept grown) (grown_records c) (done c).kept;
-      by_height = on_ok c.grow_shelves-done.result (sym c.is_err.ensures.value ∙ c.if-is_err.false) c.grow_shelves-done.ensures.by_height;
+      kept = kept;
+      by_height = settled-holds grown c.grow_shelves-done.new.records c.grow_shelves-done.new.pending.notes c.grow_shelves-done.new.by_height.items kept are
+          (on_ok c.grow_shelves-done.result (sym c.is_err.ensures.value ∙ c.if-is_err.false) c.grow_shelves-done.ensures.settled);
+      columns = columns-by_height grown c.grow_shelves-done.new.records c.grow_shelves-done.new.by_height.items kept are;
       room = c.grow_shelves-done.ensures.room;
+      room_to_note = c.grow_shelves-done.ensures.room_to_note;
       counted = omega (arith, items, (done c).counted, c.self.invariant.counted);
       space = c.self.invariant.space ∙ sym (done c).space ∙ space;
     }

@@ -4,7 +4,9 @@ use Rattle.std.proofs.lemmas.Int.{to_z-of_z}
 use Rattle.etagere_base.specs.Sides.{side}
 use Rattle.shelf_records.specs.AtlasRecords.{AtlasRecords, state_spelled}
 use Rattle.shelf_model.specs.Atlas.{KeepsPromises}
-use Rattle.shelf_heights.specs.Private.ByHeight.{AreByHeight}
+use Rattle.shelf_heights.specs.Private.Pending.{AreByHeightButNoted}
+use Rattle.shelf_store.proofs.ByHeight.NewByHeight.{columns-by_height}
+use Rattle.shelf_store.proofs.ByHeight.SplitByHeight.{settled-holds}
 use Rattle.shelf_records.specs.Private.Kept.{AreKept}
 use Rattle.shelf_model.specs.Space.{space_in}
 use Rattle.shelf_model.specs.State.{items_in_use}
@@ -19,8 +21,12 @@ invariant_of-result c =
     let sum : ℕ = c.args.items_in_use in
     record {
       kept = subst (λ (atlas : AtlasRecords). AreKept atlas.frame atlas.records) same c.requires.kept;
-      by_height = subst (λ (atlas : AtlasRecords). AreByHeight atlas.frame atlas.records c.args.by_height.items) same c.requires.by_height;
+      by_height = subst (λ (atlas : AtlasRecords). AreByHeightButNoted atlas.frame atlas.records c.args.pending.notes c.args.by_height.items) same
+          (settled-holds c.args.atlas.frame c.args.atlas.records c.args.pending.notes c.args.by_height.items c.requires.kept c.requires.by_height c.requires.settled);
+      columns = subst (λ (atlas : AtlasRecords). atlas.frame.columns ≤ length c.args.by_height.items) same
+          (columns-by_height c.args.atlas.frame c.args.atlas.records c.args.by_height.items c.requires.kept c.requires.by_height);
       room = subst (λ (atlas : AtlasRecords). length atlas.records.shelves ≤ c.args.by_height.capacity) same c.requires.room;
+      room_to_note = subst (λ (atlas : AtlasRecords). length atlas.records.shelves ≤ c.args.pending.room) same c.requires.room_to_note;
       counted = subst (λ (atlas : AtlasRecords). sum ≡ items_in_use (state_spelled atlas).shelves) same c.requires.items;
       space = c.side-allocated_space.ensures.value ∙ ap side (to_z-of_z w32 c.atlas.inside.allocated_space fits)
           ∙ ap side (subst (λ (atlas : AtlasRecords). atlas.allocated_space ≡ pos (space_in (state_spelled atlas).shelves)) same c.requires.space);
