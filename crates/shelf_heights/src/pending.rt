@@ -136,6 +136,16 @@ impl PendingShelves {
         self.standing[shelf].noted
     }
 
+    /// Whether the list has a shelf; one without an entry it hasn't.
+    pub fn lists(&self, shelf: usize) -> bool
+        ensures { result ≡ spec.is_listed self.now.notes shelf }
+    {
+        match self.standing.get(shelf) {
+            Some(known) => known.listed,
+            None => false,
+        }
+    }
+
     /// Notes that a shelf has changed, and whether it is in use now.
     pub fn note(&mut self, shelf: usize, in_use: bool)
         requires { shelf < length self.old.notes.standing }

@@ -7,7 +7,8 @@
 ghost use Rattle.std.specs.Prelude.{◌≡◌, ℕ, ◌+◌, ◌<◌, ◌≤◌, IfOk, OnErr, OnOk, false, length, true};
 ghost use Rattle.shelf_records.specs.RecordUses.{missing};
 ghost use Rattle.shelf_records.specs.Records.{shelf_chain};
-ghost use Rattle.shelf_heights.specs.Private.ByHeight.{AreByHeight, chain_order};
+ghost use Rattle.shelf_heights.specs.Private.ByHeight.{AreByHeight, AreInOrder, chain_order, numbers_by_height};
+ghost use Rattle.etagere_base.specs.Lists.{times};
 ghost use Rattle.shelf_heights.specs.Private.Pending.{AreByHeightButNoted, IsSettled, is_in_use, is_listed, is_noted};
 ghost use Rattle.shelf_records.specs.Private.Kept.{AreKept};
 ghost use Rattle.shelf_store.specs.Private.Settling.{AreInPlace, AreSettled, IsBounded, IsInPlace};
@@ -15,6 +16,7 @@ ghost use Rattle.shelf_store.specs.Private.Settling.{AreInPlace, AreSettled, IsB
 use crate::choosing::chain_order_of;
 use crate::starting::{newly_bounded, sort_shelves};
 use etagere_base::Frame;
+use etagere_links::Link;
 use shelf_heights::by_height::ShelvesByHeight;
 use shelf_heights::heights::{position_of, put_in, raise, reserve_by_height, settle, take_out};
 use shelf_heights::pending::{PendingShelves, follow};
@@ -303,7 +305,8 @@ fn move_listed(
     raise(pending.kept(), by_height, shelf, frame.column_width as u16);
 }
 
-/// Puts a shelf that the list hasn't where its record puts it.
+/// Puts a shelf that the list hasn't where its record puts it. It is looked for first behind the one before it: what is left
+/// of a shelf mostly stands where that stood.
 fn put_in_new(
     frame: &Frame,
     records: &Records,
@@ -327,6 +330,26 @@ fn put_in_new(
     ensures capacity { by_height.old.capacity ≤ by_height.new.capacity }
     ensures room { pending.new.room ≡ pending.old.room }
 {
-    pending.list(shelf, records.shelves()[shelf]);
-    put_in(pending.kept(), by_height, newly_bounded(frame, shelf), 0);
+    let record = records.shelves()[shelf];
+    let behind = position_of_named(by_height, pending, record.prev);
+    pending.list(shelf, record);
+    put_in(
+        pending.kept(),
+        by_height,
+        newly_bounded(frame, shelf),
+        behind,
+    );
+}
+
+/// Where the shelf stands that a link names, if the list has it; else the front.
+fn position_of_named(by_height: &mut ShelvesByHeight, pending: &PendingShelves, link: Link) -> usize
+    requires order { AreInOrder pending.now.notes.kept by_height.old.items }
+    requires listed { (k : ℕ) → is_listed pending.now.notes k ≡ true
+        → 1 ≤ times k (numbers_by_height by_height.old.items) }
+    ensures { by_height.new ≡ by_height.old }
+{
+    match link.number() {
+        Some(shelf) if pending.lists(shelf) => position_of(pending.kept(), by_height, shelf),
+        _ => 0,
+    }
 }

@@ -12,11 +12,11 @@ ghost use Rattle.shelf_model.specs.Choice.{splits};
 ghost use Rattle.shelf_store.specs.Private.PlacementTaken as spec;
 ghost use Rattle.shelf_store.specs.Private.PlacementTaken.{AreRestsThere, CanTakeFrom, IsItemSplittable, IsItemThere, IsShelfSplittable, placement_taken, taken_notes};
 
+use crate::settling::reserve_shelves;
 use etagere_base::{AllocId, INDEX_MODULUS};
 use etagere_links::Link;
 use shelf_heights::by_height::ShelvesByHeight;
 use shelf_heights::pending::PendingShelves;
-use crate::settling::reserve_shelves;
 use shelf_model::placements::Placement;
 use shelf_records::{LinkedItem, LinkedShelf, Records};
 use std::alloc::AllocError;

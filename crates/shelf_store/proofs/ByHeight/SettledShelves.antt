@@ -83,12 +83,12 @@ written-own : (kept shelves : List LinkedShelf) (n : ℕ) (one : LinkedShelf) �
 written-own kept shelves n one below there read =
     record {
       place = omega (
-          arith,
-          field-own (λ (s : LinkedShelf). s.x) 0 kept one n below,
-          field-own (λ (s : LinkedShelf). s.y) 0 kept one n below,
-          field-read (λ (s : LinkedShelf). s.x) 0 shelves n one there read,
-          field-read (λ (s : LinkedShelf). s.y) 0 shelves n one there read,
-        );
+        arith,
+        field-own (λ (s : LinkedShelf). s.x) 0 kept one n below,
+        field-own (λ (s : LinkedShelf). s.y) 0 kept one n below,
+        field-read (λ (s : LinkedShelf). s.x) 0 shelves n one there read,
+        field-read (λ (s : LinkedShelf). s.y) 0 shelves n one there read,
+      );
       height = field-own (λ (s : LinkedShelf). s.height) 0 kept one n below ∙ sym (field-read (λ (s : LinkedShelf). s.height) 0 shelves n one there read);
     }
 
@@ -461,16 +461,16 @@ follows-settled frame records notes by_height kept are follows =
       unchanged = follows.unchanged;
       in_use = λ k. sym (are.once k) ∙ follows.listed k ∙ sym (ap once_where (follows.in_use k));
       settled = λ k. record {
-            listed = sym (follows.in_use k);
-            place = λ stands. ap (λ (shelves : List LinkedShelf). chain_order shelves k) follows.kept;
-            height = λ stands. ap (λ (shelves : List LinkedShelf). height_of shelves k) follows.kept;
-          };
+        listed = sym (follows.in_use k);
+        place = λ stands. ap (λ (shelves : List LinkedShelf). chain_order shelves k) follows.kept;
+        height = λ stands. ap (λ (shelves : List LinkedShelf). height_of shelves k) follows.kept;
+      };
       known = omega (arith, follows.known);
       within = λ k so. omega (
-            arith,
-            ap (λ (shelves : List LinkedShelf). length shelves) follows.kept,
-            stands-within records.shelves k by_height (by_height-in_order frame records by_height kept are) (omega (arith, follows.listed k, ap once_where so)),
-          );
+        arith,
+        ap (λ (shelves : List LinkedShelf). length shelves) follows.kept,
+        stands-within records.shelves k by_height (by_height-in_order frame records by_height kept are) (omega (arith, follows.listed k, ap once_where so)),
+      );
     }
 
 -- where nothing is noted, none has changed

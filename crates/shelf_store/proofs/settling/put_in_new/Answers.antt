@@ -3,7 +3,7 @@ use Rattle.shelf_records.specs.declared.records.LinkedShelf.{LinkedShelf}
 use Rattle.shelf_heights.specs.Private.ByHeight.{AreInOrder, newly_bounded, put_in, taken_out}
 use Rattle.shelf_heights.specs.Private.Pending.{AreByHeightButNoted, Notes, listed_as, once_where}
 use Rattle.shelf_heights.specs.declared.by_height.BoundedShelf.{BoundedShelf}
-use Rattle.shelf_store.proofs.ByHeight.SettledShelves.{absent-stays, in_use-there, others-order, own-within, put-bounded, put-holds, put-in_place, put-room, put-settled}
+use Rattle.shelf_store.proofs.ByHeight.SettledShelves.{absent-stays, in_use-there, listed-stands, others-order, own-within, put-bounded, put-holds, put-in_place, put-room, put-settled}
 use Rattle.shelf_store.specs.Private.Settling.{IsBounded}
 use Rattle.shelf_records.proofs.Spelled.StandsKept.{witnesses}
 use Rattle.shelf_store.proofs.settling.put_in_new.Goals as goal
@@ -73,27 +73,32 @@ followed c =
 
 pub put_in-requires-clause-order : goal.put_in-requires-clause-order
 put_in-requires-clause-order c =
-    rw (c.kept.ensures, c.list.ensures.notes) ((followed (goal.at.put_in-requires-clause-order c).After-kept).order)
+    rw (c.kept.ensures, c.list.ensures.notes, c.position_of_named-behind.ensures) ((followed (goal.at.put_in-requires-clause-order c).After-kept).order)
 
 pub put_in-requires-clause-within : goal.put_in-requires-clause-within
 put_in-requires-clause-within c =
     rw (c.newly_bounded.ensures, c.kept.ensures, c.list.ensures.notes) ((followed (goal.at.put_in-requires-clause-within c).After-kept).within)
 
+pub position_of_named-behind-requires-clause-listed : goal.position_of_named-behind-requires-clause-listed
+position_of_named-behind-requires-clause-listed c k so =
+    listed-stands c.args.frame.now c.args.records.now c.args.pending.now.notes c.args.by_height.now.items c.requires.kept c.requires.by_height k so
+
 pub put_in-requires-clause-room : goal.put_in-requires-clause-room
 put_in-requires-clause-room c =
-    omega (
+    rw c.position_of_named-behind.ensures
+    (omega (
       arith,
       put-room c.args.frame.now c.args.records.now c.args.pending.now.notes c.args.by_height.now.items c.requires.kept c.requires.by_height c.args.shelf c.requires.known c.requires.noted c.requires.in_use c.requires.unlisted c.requires.in_place,
       c.requires.room,
-    )
+    ))
 
 pub returns-clause-by_height : goal.returns-clause-by_height
 returns-clause-by_height c =
-    rw (c.put_in.ensures.by_height, c.newly_bounded.ensures, c.kept.ensures, c.list.ensures.notes) ((followed (goal.at.returns-clause-by_height c).After-kept).holds)
+    rw (c.put_in.ensures.by_height, c.newly_bounded.ensures, c.kept.ensures, c.list.ensures.notes, c.position_of_named-behind.ensures) ((followed (goal.at.returns-clause-by_height c).After-kept).holds)
 
 pub returns-clause-bounded : goal.returns-clause-bounded
 returns-clause-bounded c =
-    rw (c.put_in.ensures.by_height, c.newly_bounded.ensures, c.kept.ensures, c.list.ensures.notes) ((followed (goal.at.returns-clause-bounded c).After-kept).bounded)
+    rw (c.put_in.ensures.by_height, c.newly_bounded.ensures, c.kept.ensures, c.list.ensures.notes, c.position_of_named-behind.ensures) ((followed (goal.at.returns-clause-bounded c).After-kept).bounded)
 
 pub returns-clause-in_place : goal.returns-clause-in_place
 returns-clause-in_place c =

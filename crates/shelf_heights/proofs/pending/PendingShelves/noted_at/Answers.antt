@@ -1,6 +1,5 @@
 use Rattle.std.proofs.Common.{◌≡◌, ◌<◌, true, ap, arith, length, sym, ◌∙◌}
 use Rattle.shelf_heights.specs.Private.Pending.{RoomyNotes, is_noted, standing_at}
-use Rattle.shelf_heights.specs.declared.pending.Standing.{Standing}
 use Rattle.shelf_heights.proofs.Noted.{known-within, number-noted}
 use Rattle.shelf_heights.proofs.pending.PendingShelves.noted_at.Goals as goal
 use Rattle.shelf_heights.proofs.pending.PendingShelves.noted_at.Goals.{After-from}
