@@ -234,7 +234,7 @@ impl<A: Recordable, W: Write> Recorder<A, W> {
     ///
     /// # Errors
     ///
-    /// As of the atlas. For want of memory nothing was written.
+    /// As of the atlas. Where memory ran out, nothing was written.
     pub fn try_grow(&mut self, size: Size) -> Result<(), A::GrowFault> {
         let grown = self.atlas.grown(size);
         if grown.as_ref().err() != Some(&A::NO_MEMORY) {

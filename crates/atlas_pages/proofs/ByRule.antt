@@ -9,9 +9,9 @@ use Rattle.shelf_model.specs.Choice.{IsRefused, Placement, placement_of}
 use Rattle.shelf_model.specs.State.{AtlasState}
 use Rattle.atlas_pages.specs.declared.options.PageChoice.{PageChoice}
 use Rattle.atlas_pages.specs.declared.options.PageChoice.TheVariants.{FirstFit, FullestFirst}
-use Rattle.atlas_pages.specs.Choosing.{chosen_of, has_place, page_rank, rank_by}
+use Rattle.atlas_pages.specs.Choosing.{chosen_of, has_place, order_by, page_order}
 use Rattle.atlas_pages.specs.Laws.{IsFirst, IsFullest}
-use Rattle.atlas_pages.proofs.Chosen.{rank-placed}
+use Rattle.atlas_pages.proofs.Chosen.{order-placed}
 
 -- what is chosen by any choice
 record IsChosen (choice : PageChoice) (size : Size) (pages : List AtlasState) (n : ℕ) : Type 0 where
@@ -19,52 +19,52 @@ record IsChosen (choice : PageChoice) (size : Size) (pages : List AtlasState) (n
   is_open : slice_get pages n ≡ Some page
   place : has_place size page ≡ true
   least : (m : ℕ) (other : AtlasState) → slice_get pages m ≡ Some other → has_place size other ≡ true
-      → rank_by choice page ≤ rank_by choice other
+      → order_by choice page ≤ order_by choice other
   earlier : (m : ℕ) (other : AtlasState) → slice_get pages m ≡ Some other → has_place size other ≡ true → m < n
-      → rank_by choice page < rank_by choice other
+      → order_by choice page < order_by choice other
 
--- a page with a place has its rank among the ranks
-ranked : (choice : PageChoice) (size : Size) (pages : List AtlasState) (m : ℕ) (other : AtlasState) → slice_get pages m ≡ Some other
-    → has_place size other ≡ true → slice_get (map (page_rank choice size) pages) m ≡ Some (Some (rank_by choice other))
-ranked choice size pages m other at fits =
-    slice_get-map (page_rank choice size) pages m ∙ ap (option_map (page_rank choice size)) at ∙ ap Some (rank-placed choice size other fits)
+-- a page with a place has its order among those of all
+ordered : (choice : PageChoice) (size : Size) (pages : List AtlasState) (m : ℕ) (other : AtlasState) → slice_get pages m ≡ Some other
+    → has_place size other ≡ true → slice_get (map (page_order choice size) pages) m ≡ Some (Some (order_by choice other))
+ordered choice size pages m other at fits =
+    slice_get-map (page_order choice size) pages m ∙ ap (option_map (page_order choice size)) at ∙ ap Some (order-placed choice size other fits)
 
--- a rank is that of a page with a place
+-- an order is that of a page with a place
 placed : (b : Bool) (own r : ℕ) → cond b (Some own) None ≡ Some r → (b ≡ true) × (own ≡ r)
 placed true own r h = (refl, let same : own ≡ r = cc in same)
 placed false own r h = absurd (cc)
 
 chosen-is : (choice : PageChoice) (size : Size) (pages : List AtlasState) (n : ℕ) → chosen_of choice size pages ≡ Some n
     → IsChosen choice size pages n
-chosen-is choice size pages n chosen = by_found (first_least (map (page_rank choice size) pages)) refl chosen
+chosen-is choice size pages n chosen = by_found (first_least (map (page_order choice size) pages)) refl chosen
   where
-    by_page : (found : Found) → found.number ≡ n → IsFirstLeast (map (page_rank choice size) pages) found
-        → (o : Option AtlasState) → slice_get pages n ≡ o → option_map (page_rank choice size) o ≡ Some (Some found.rank)
+    by_page : (found : Found) → found.number ≡ n → IsFirstLeast (map (page_order choice size) pages) found
+        → (o : Option AtlasState) → slice_get pages n ≡ o → option_map (page_order choice size) o ≡ Some (Some found.rank)
         → IsChosen choice size pages n
     by_page found same is None at h = absurd (cc)
     by_page found same is (Some page) at h =
-        let rank : page_rank choice size page ≡ Some found.rank = cc in
-        let own = placed (has_place size page) (rank_by choice page) found.rank rank in
+        let order : page_order choice size page ≡ Some found.rank = cc in
+        let own = placed (has_place size page) (order_by choice page) found.rank order in
         record {
           page = page;
           is_open = at;
           place = own.0;
           least = λ m other there fits.
-              let bound : found.rank ≤ rank_by choice other = is.least m (rank_by choice other) (ranked choice size pages m other there fits) in
+              let bound : found.rank ≤ order_by choice other = is.least m (order_by choice other) (ordered choice size pages m other there fits) in
               omega (arith, bound, own.1);
           earlier = λ m other there fits before.
-              let bound : found.rank < rank_by choice other = is.first m (rank_by choice other) (ranked choice size pages m other there fits) (omega (arith, before, same)) in
+              let bound : found.rank < order_by choice other = is.first m (order_by choice other) (ordered choice size pages m other there fits) (omega (arith, before, same)) in
               omega (arith, bound, own.1);
         }
 
-    by_found : (o : Option Found) → first_least (map (page_rank choice size) pages) ≡ o → option_map (λ (found : Found). found.number) o ≡ Some n
+    by_found : (o : Option Found) → first_least (map (page_order choice size) pages) ≡ o → option_map (λ (found : Found). found.number) o ≡ Some n
         → IsChosen choice size pages n
     by_found None is h = absurd (cc)
     by_found (Some found) is h =
         let same : found.number ≡ n = cc in
-        let least = first_least-is (map (page_rank choice size) pages) found is in
+        let least = first_least-is (map (page_order choice size) pages) found is in
         by_page found same least (slice_get pages n) refl
-        (sym (slice_get-map (page_rank choice size) pages n) ∙ ap (slice_get (map (page_rank choice size) pages)) (sym same) ∙ least.at)
+        (sym (slice_get-map (page_order choice size) pages n) ∙ ap (slice_get (map (page_order choice size) pages)) (sym same) ∙ least.at)
 
 -- a page without a place refuses
 refuses : (size : Size) (page : AtlasState) → (has_place size page ≡ true → ⊥) → IsRefused page size

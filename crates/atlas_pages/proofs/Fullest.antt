@@ -12,18 +12,18 @@ use Rattle.shelf_model.specs.Refusal.{refusal}
 use Rattle.shelf_model.specs.State.{AtlasState}
 use Rattle.shelf_model.specs.declared.faults.Refusal.{Refusal}
 use Rattle.atlas_pages.specs.declared.options.PageChoice.TheVariants.{FullestFirst}
-use Rattle.atlas_pages.specs.Choosing.{chosen_of, free_space, has_place, page_rank}
+use Rattle.atlas_pages.specs.Choosing.{chosen_of, free_space, has_place, page_order}
 use Rattle.atlas_pages.specs.Private.Fullest.{found_at, is_fuller}
 
 -- the best of so many pages
 abbrev pub best_of : Size → List AtlasState → ℕ → Option Found
-best_of size pages n = first_least (map (page_rank FullestFirst size) (take n pages))
+best_of size pages n = first_least (map (page_order FullestFirst size) (take n pages))
 
 -- one page further: it is the best where it is fuller and has a place
 pub best-page : (size : Size) (pages : List AtlasState) (n : ℕ) (d : AtlasState) → n < length pages
     → best_of size pages (suc n)
-    ≡ better (best_of size pages n) (option_map (λ r. record { number = n; rank = r }) (page_rank FullestFirst size (get_or pages n d)))
-best-page size pages n d within = best-more (page_rank FullestFirst size) pages n d within
+    ≡ better (best_of size pages n) (option_map (λ r. record { number = n; rank = r }) (page_order FullestFirst size (get_or pages n d)))
+best-page size pages n d within = best-more (page_order FullestFirst size) pages n d within
 
 -- a page with a place that is fuller is better, and no other one is
 pub better-fuller : (best : Option Found) (n free : ℕ) → is_fuller free best ≡ true
@@ -42,12 +42,12 @@ better-none (Some found) = refl
 
 -- after the last page it is the best of all
 pub best-all : (size : Size) (pages : List AtlasState) (n : ℕ) → length pages ≤ n
-    → best_of size pages n ≡ first_least (map (page_rank FullestFirst size) pages)
-best-all size pages n all = ap (λ (l : List AtlasState). first_least (map (page_rank FullestFirst size) l)) (take_all n pages all)
+    → best_of size pages n ≡ first_least (map (page_order FullestFirst size) pages)
+best-all size pages n all = ap (λ (l : List AtlasState). first_least (map (page_order FullestFirst size) l)) (take_all n pages all)
 
 -- a page that isn't fuller changes nothing, nor does one without a place
 pub fuller-no : (best : Option Found) (n : ℕ) (size : Size) (page : AtlasState) → is_fuller (free_space page) best ≡ false
-    → best ≡ better best (found_at n (page_rank FullestFirst size page))
+    → best ≡ better best (found_at n (page_order FullestFirst size page))
 fuller-no best n size page emptier = by_place (has_place size page)
   where
     by_place : (b : Bool) → best ≡ better best (found_at n (cond b (Some (free_space page)) None))
@@ -55,42 +55,42 @@ fuller-no best n size page emptier = by_place (has_place size page)
     by_place false = sym (better-none best)
 
 pub fuller-placeless : (best : Option Found) (n : ℕ) (size : Size) (page : AtlasState) → has_place size page ≡ false
-    → best ≡ better best (found_at n (page_rank FullestFirst size page))
+    → best ≡ better best (found_at n (page_order FullestFirst size page))
 fuller-placeless best n size page none =
     sym (better-none best) ∙ sym (ap (λ (b : Bool). better best (found_at n (cond b (Some (free_space page)) None))) none)
 
 -- one that is, and has a place, is the best
 pub fuller-yes : (best : Option Found) (n : ℕ) (size : Size) (page : AtlasState) → is_fuller (free_space page) best ≡ true → has_place size page ≡ true
-    → Some (record { number = n; rank = free_space page }) ≡ better best (found_at n (page_rank FullestFirst size page))
+    → Some (record { number = n; rank = free_space page }) ≡ better best (found_at n (page_order FullestFirst size page))
 fuller-yes best n size page fuller fits =
     sym (better-fuller best n (free_space page) fuller) ∙ sym (ap (λ (b : Bool). better best (found_at n (cond b (Some (free_space page)) None))) fits)
 
 -- the page that is chosen is open
 pub chosen-within : (size : Size) (pages : List AtlasState) (n : ℕ) → chosen_of FullestFirst size pages ≡ Some n → n < length pages
-chosen-within size pages n chosen = rw chosen at (best-within (page_rank FullestFirst size) pages)
+chosen-within size pages n chosen = rw chosen at (best-within (page_order FullestFirst size) pages)
 
 -- and has a place
 pub chosen-place : (size : Size) (pages : List AtlasState) (n : ℕ) → chosen_of FullestFirst size pages ≡ Some n
     → IfSome (slice_get pages n) (λ page. has_place size page ≡ true)
-chosen-place size pages n chosen = by_found (first_least (map (page_rank FullestFirst size) pages)) refl chosen
+chosen-place size pages n chosen = by_found (first_least (map (page_order FullestFirst size) pages)) refl chosen
   where
-    ranked : (b : Bool) (free r : ℕ) → cond b (Some free) None ≡ Some r → b ≡ true
-    ranked true free r h = refl
-    ranked false free r h = absurd (cc)
+    ordered : (b : Bool) (free r : ℕ) → cond b (Some free) None ≡ Some r → b ≡ true
+    ordered true free r h = refl
+    ordered false free r h = absurd (cc)
 
-    by_page : (o : Option AtlasState) (r : ℕ) → option_map (page_rank FullestFirst size) o ≡ Some (Some r) → IfSome o (λ page. has_place size page ≡ true)
+    by_page : (o : Option AtlasState) (r : ℕ) → option_map (page_order FullestFirst size) o ≡ Some (Some r) → IfSome o (λ page. has_place size page ≡ true)
     by_page None r h = absurd (cc)
     by_page (Some page) r h =
-        let rank : page_rank FullestFirst size page ≡ Some r = cc in
-        ranked (has_place size page) (free_space page) r rank
+        let order : page_order FullestFirst size page ≡ Some r = cc in
+        ordered (has_place size page) (free_space page) r order
 
-    by_found : (o : Option Found) → first_least (map (page_rank FullestFirst size) pages) ≡ o → option_map (λ (found : Found). found.number) o ≡ Some n
+    by_found : (o : Option Found) → first_least (map (page_order FullestFirst size) pages) ≡ o → option_map (λ (found : Found). found.number) o ≡ Some n
         → IfSome (slice_get pages n) (λ page. has_place size page ≡ true)
     by_found None is h = absurd (cc)
     by_found (Some found) is h =
         let same : found.number ≡ n = cc in
-        let at = first_least-is (map (page_rank FullestFirst size) pages) found is in
-        by_page (slice_get pages n) found.rank (sym (slice_get-map (page_rank FullestFirst size) pages n) ∙ ap (slice_get (map (page_rank FullestFirst size) pages)) (sym same) ∙ at.at)
+        let at = first_least-is (map (page_order FullestFirst size) pages) found is in
+        by_page (slice_get pages n) found.rank (sym (slice_get-map (page_order FullestFirst size) pages n) ∙ ap (slice_get (map (page_order FullestFirst size) pages)) (sym same) ∙ at.at)
 
 pub not-not : (b : Bool) → b ≡ not (not b)
 not-not true = refl
@@ -109,8 +109,8 @@ place-reason size page keeps told is = both told (has_place size page) (rw is (e
 
 -- one page further, after a step of the search
 pub best-step : (size : Size) (pages : List AtlasState) (n : ℕ) (page : AtlasState) → n < length pages → page ≡ get_or pages n page
-    → better (best_of size pages n) (found_at n (page_rank FullestFirst size page)) ≡ best_of size pages (n + 1)
+    → better (best_of size pages n) (found_at n (page_order FullestFirst size page)) ≡ best_of size pages (n + 1)
 best-step size pages n page within at =
     rw (add-one n)
-    (ap (λ (p : AtlasState). better (best_of size pages n) (found_at n (page_rank FullestFirst size p))) at
+    (ap (λ (p : AtlasState). better (best_of size pages n) (found_at n (page_order FullestFirst size p))) at
     ∙ sym (best-page size pages n page within))

@@ -20,18 +20,18 @@ free_space page = page.frame.width * page.frame.height - allocated_space page
 
 -- how far behind a page stands, where pages may have a place: all stand alike, or each by what is free on it, which is
 -- least on the fullest
-abbrev pub rank_by : PageChoice → AtlasState → ℕ
-rank_by FirstFit page = 0
-rank_by FullestFirst page = free_space page
+abbrev pub order_by : PageChoice → AtlasState → ℕ
+order_by FirstFit page = 0
+order_by FullestFirst page = free_space page
 
--- the rank of a page for a size; none where it has no place for it
-abbrev pub page_rank : PageChoice → Size → AtlasState → Option ℕ
-page_rank choice size page = if has_place size page then Some (rank_by choice page) else None
+-- the order of a page for a size; none where it has no place for it
+abbrev pub page_order : PageChoice → Size → AtlasState → Option ℕ
+page_order choice size page = if has_place size page then Some (order_by choice page) else None
 
--- of some pages the number of the one that gets a size, the first of least rank; none where no page has a place
+-- of some pages the number of the one that gets a size, the first of least order; none where no page has a place
 abbrev pub chosen_of : PageChoice → Size → List AtlasState → Option ℕ
 chosen_of choice size pages =
-    option_map (λ found. found.number) (first_least (map (page_rank choice size) pages))
+    option_map (λ found. found.number) (first_least (map (page_order choice size) pages))
 
 -- the number of the open page that gets a size
 abbrev pub chosen_page : PagesState → Size → Option ℕ

@@ -43,7 +43,7 @@ pub record HasOtherFrame (frame : Frame) (saved : List AtlasSnapshot) (page : �
   pub is_saved : slice_get saved page ≡ Some snapshot
   pub other : snapshot_frame snapshot ≢ frame
 
--- the rule whose breach is this fault is broken; want of memory breaks none
+-- the rule whose breach is this fault is broken; that memory ran out breaks none
 abbrev pub ArePagesBroken : PagesSnapshot → PagesRestoreFault → Type 0
 ArePagesBroken snapshot (Options fault) = pages_fault snapshot.options ≡ Some fault
 ArePagesBroken snapshot TooManyPages = snapshot.options.most_pages < length snapshot.pages.items

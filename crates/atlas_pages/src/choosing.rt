@@ -6,7 +6,7 @@ ghost use Rattle.std.specs.Prelude.{◌≡◌, ◌<◌, ◌^◌, true, None, IfO
 ghost use Rattle.std.specs.List.{AllByRecursion};
 ghost use Rattle.shelf_model.specs.Atlas.{KeepsPromises};
 ghost use Rattle.etagere_base.specs.Least.{better};
-ghost use Rattle.atlas_pages.specs.Choosing.{chosen_of, has_place, page_rank};
+ghost use Rattle.atlas_pages.specs.Choosing.{chosen_of, has_place, page_order};
 ghost use Rattle.atlas_pages.specs.Private.Fullest as fullest;
 ghost use Rattle.atlas_pages.specs.Private.Fullest.{found_at, found_of};
 ghost use Rattle.atlas_pages.specs.Private.Taking.{NeedsSplitAmong, TakesPlace};
@@ -98,7 +98,7 @@ fn fuller(
 ) -> Option<Candidate>
     requires { KeepsPromises page.now }
     ensures { found_of result ≡ better (found_of best)
-        (found_at number (page_rank PageChoice.FullestFirst size page.now)) }
+        (found_at number (page_order PageChoice.FullestFirst size page.now)) }
 {
     let free_space = page.free_space() as u32;
     if !is_fuller(best, free_space) {

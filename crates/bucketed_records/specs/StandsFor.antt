@@ -165,7 +165,7 @@ pub record IsShared (atlas : BucketRecords) : Type 0 where
       atlas.shelves
   pub unused_end : (bucket_walk atlas.buckets atlas.unused).end ≡ no_link
 
--- records keep the rule whose breach is this fault; want of memory breaks none, and there are no free lists
+-- records keep the rule whose breach is this fault; that memory ran out breaks none, and there are no free lists
 abbrev pub Keeps : BucketRecords → RestoreFault → Type 0
 Keeps atlas faults.Frame = IsBucketedFrame atlas.frame
 Keeps atlas faults.Counts = HasCounts atlas

@@ -48,7 +48,7 @@ abbrev pub AreRead : BucketRecords → ℕ → Type 0
 AreRead atlas links = AreReadFrom atlas [] 0 atlas.shelves links
 
 -- so many links of these records were read before a refusal for this: none where no walk begins, and
--- fewer than all up to the first shelf that does not pass only for want of memory
+-- fewer than all up to the first shelf that does not pass only where memory ran out
 abbrev pub IsRead : BucketRecords → ℕ → RestoreFault → Type 0
 IsRead atlas steps Frame = steps ≡ 0
 IsRead atlas steps Counts = steps ≡ 0

@@ -44,7 +44,7 @@ fn snapshot_frame(snapshot: &LinkedSnapshot) -> Frame
 }
 
 /// The allocated space that a snapshot says, in square pixels, if it is this one.
-fn said_space(snapshot: &LinkedSnapshot, space: u64) -> Option<u32>
+fn told_space(snapshot: &LinkedSnapshot, space: u64) -> Option<u32>
     ensures said { IfSome result (λ _. snapshot.now.allocated_space ≡ pos space) }
     ensures same { IfSome result (λ area. area ≡ space) }
     ensures none { IfNone result (snapshot.now.allocated_space ≡ pos space → ⊥) }
@@ -111,7 +111,7 @@ pub fn judged_snapshot(
     if ends_idle(&lists.kept.shelves) {
         return Err(RestoreFault::Neighbours);
     }
-    let Some(space) = said_space(snapshot, lists.kept.space) else {
+    let Some(space) = told_space(snapshot, lists.kept.space) else {
         return Err(RestoreFault::Space);
     };
     Ok(JudgedSnapshot {

@@ -44,7 +44,7 @@ module _ {K V : Type 0} (eq : K → K → Bool) where
     pub spared : length placed.evicted.items ≤ evictable old
     pub large : IsLarge old.atlas.frame size placed.rectangle
 
-  -- why a size isn't placed; want of memory says nothing but that it isn't too large
+  -- why a size isn't placed; that memory ran out says nothing but that it isn't too large
   abbrev pub IsReason : MapState K V → Size → MapFault K V → Type 0
   IsReason old size TooLarge = IsTooLarge old size
   IsReason old size (Memory evicted) = ¬ (IsTooLarge old size)

@@ -45,7 +45,7 @@ pub record PlacesNew (old : PaddedCacheState) (key : ℕ) (size : Size) (placed 
   pub spared : length placed.evicted.items ≤ evictable old.cache
   pub large : HasSize size placed.rectangle
 
--- why a size isn't placed in a cache; want of memory says nothing but that it isn't too large
+-- why a size isn't placed in a cache; that memory ran out says nothing but that it isn't too large
 abbrev pub IsReason : CacheState → Size → GlyphFault → Type 0
 IsReason cache size TooLarge = IsTooLarge cache size
 IsReason cache size (Memory evicted) = ¬ (IsTooLarge cache size)

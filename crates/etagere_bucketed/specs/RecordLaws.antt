@@ -19,7 +19,7 @@ BrokenStandsForNone =
     (atlas : BucketRecords) (state : BucketedState) (fault : RestoreFault) → Breaks atlas fault → StandsFor atlas state
     → fault ≡ Memory
 
--- where records stand for a state, an answer that names a rule that they break is want of memory
+-- where records stand for a state, an answer that names a rule that they break says that memory ran out
 abbrev pub OnlyMemoryIsWanting : Type 0
 OnlyMemoryIsWanting =
     (atlas : BucketRecords) (state : BucketedState) (answer : Result BucketedState RestoreFault) → StandsFor atlas state

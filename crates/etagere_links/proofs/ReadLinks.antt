@@ -104,7 +104,7 @@ pub until-all : (count more : ℕ) (before : List ℕ) (walks : List Walked) →
 until-all count more before walks once ends =
     ap (λ (ws : List Walked). links_until count more before ws) (sym (append-nil walks)) ∙ until-front count more before walks [] once ends
 
--- the links that are read up to a walk that is refused, whose fault isn't want of memory
+-- the links that are read up to a walk that is refused, whose fault isn't that memory ran out
 pub until-fault : (count more : ℕ) (before : List ℕ) (front back : List Walked) (walked : Walked) (marks : List Bool) (records : ℕ) (fault : WalkFault) → AllByRecursion (λ (walked : Walked). walked.end ≡ no_link) front
     → IsMarkedBy marks (before ++ met_by front) → BreaksOff marks records walked fault → ((k : ℕ) → times k walked.met ≤ 1) → fault ≢ Memory
     → links_until count more before (front ++ walked ∷ back) ≡ links_in front + links_by walked fault

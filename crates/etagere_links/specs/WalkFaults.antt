@@ -18,7 +18,7 @@ first_fault marks count walked =
     else if walked.end == no_link then None
     else Some Circular
 
--- a walk is refused for what is wrong with it first, or for want of memory
+-- a walk is refused for what is wrong with it first, or where memory ran out
 abbrev pub IsFirst : List Bool → ℕ → Walked → WalkFault → Type 0
 IsFirst marks count walked Memory = Unit {0}
 IsFirst marks count walked fault = first_fault marks count walked ≡ Some fault

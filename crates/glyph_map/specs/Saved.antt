@@ -32,7 +32,7 @@ module _ {K V : Type 0} where
     pub found : slice_get pairs place ≡ Some pair
     pub again : is_some (lookup (eq pair.0) (drop (place + 1) pairs)) ≡ true
 
-  -- the rule whose breach is this fault is broken; want of memory breaks none
+  -- the rule whose breach is this fault is broken; that memory ran out breaks none
   abbrev pub IsMapBroken : (K → K → Bool) → CacheSnapshot → List (K × V) → MapRestoreFault → Type 0
   IsMapBroken eq snapshot pairs (Cache fault) =
       IsCacheBroken snapshot fault × (fault ≢ cache_faults.Memory)

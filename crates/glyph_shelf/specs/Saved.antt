@@ -59,7 +59,7 @@ pub record LacksKey (snapshot : CacheSnapshot) : Type 0 where
   pub allocated : is_allocated atlas id ≡ true
   pub unsaved : times id (ids_saved snapshot) ≡ 0
 
--- the rule whose breach is this fault is broken; want of memory breaks none
+-- the rule whose breach is this fault is broken; that memory ran out breaks none
 abbrev pub IsCacheBroken : CacheSnapshot → CacheRestoreFault → Type 0
 IsCacheBroken snapshot (Atlas fault) = IsBroken (snapshot_records snapshot.atlas) fault × (fault ≢ rules.Memory)
 IsCacheBroken snapshot Memory = Unit {0}

@@ -67,7 +67,7 @@ fn streamed(rt: &(impl Print + AllocGlobal), script: &Script) -> Result<(), Stre
     }
 }
 
-/// Writes the fault of options. Want of memory for a new atlas ends the run.
+/// Writes the fault of options. Where memory runs out for a new atlas, the run ends.
 fn say_options(rt: &impl Print, fault: OptionsFault) -> Result<()> {
     match fault {
         OptionsFault::Memory => bail!("no memory"),

@@ -74,7 +74,7 @@ snapshot_records snapshot =
       allocated_space = snapshot.allocated_space;
     }
 
--- the rule whose breach is this fault is broken; want of memory breaks none
+-- the rule whose breach is this fault is broken; that memory ran out breaks none
 abbrev pub IsBroken : AtlasRecords → RestoreFault → Type 0
 IsBroken atlas Memory = Unit {0}
 IsBroken atlas fault = Keeps atlas fault → ⊥

@@ -130,7 +130,7 @@ pub record IsShared (atlas : AtlasRecords) : Type 0 where
       (walked_entries atlas)
   pub unused_item_end : (unused_item_walk atlas.records).end ≡ no_link
 
--- records keep the rule whose breach is this fault; want of memory breaks none
+-- records keep the rule whose breach is this fault; that memory ran out breaks none
 abbrev pub Keeps : AtlasRecords → RestoreFault → Type 0
 Keeps atlas faults.Frame = IsFrame longest_side atlas.frame
 Keeps atlas faults.Counts = HasCounts atlas

@@ -32,7 +32,7 @@ links_followed records =
     (item_walks records))
     [] (shelf_walks records)
 
--- so many links were followed before a refusal for this, of so many: fewer only for want of memory
+-- so many links were followed before a refusal for this, of so many: fewer only where memory ran out
 abbrev pub StopsAfter : ℕ → ℕ → RestoreFault → Type 0
 StopsAfter all steps Memory = steps ≤ all
 StopsAfter all steps fault = steps ≡ all

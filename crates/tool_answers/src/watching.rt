@@ -13,7 +13,7 @@ use std::alloc::{AllocError, Global};
 /// The page of a script.
 pub fn watch(alloc: Global, script: &[u8]) -> Result<Answer, Failure> {
     let mut replies: Vec<u8> = Vec::new(alloc);
-    // The slice can't fail to be read, and the replies only for want of memory.
+    // The slice can't fail to be read, and the replies only where memory runs out.
     let mut reader = script;
     let outcome = replay(alloc, &mut reader, &mut replies).map_err(|_| Failure::Fault(
         ReplayFault::Memory,

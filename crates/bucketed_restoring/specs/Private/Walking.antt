@@ -31,7 +31,7 @@ BreaksWalk links marks walked Sharing =
 BreaksWalk links marks walked Memory = Unit {0}
 BreaksWalk links marks walked fault = ⊥
 
--- so many links were read before a refusal for this, of so many: fewer only for want of memory
+-- so many links were read before a refusal for this, of so many: fewer only where memory ran out
 abbrev pub StopsAfter : ℕ → ℕ → RestoreFault → Type 0
 StopsAfter all steps Memory = steps ≤ all
 StopsAfter all steps fault = steps ≡ all

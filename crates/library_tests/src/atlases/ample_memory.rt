@@ -1,4 +1,4 @@
-//! Long runs, lines and inputs with ample memory: no call answers that it is out of memory, and each answer is the one of
+//! Long runs, lines and inputs with ample memory: no call answers that memory ran out, and each answer is the one of
 //! the rules.
 
 use crate::assertions::{equal, holds};

@@ -22,7 +22,7 @@ use Rattle.shelf_records.specs.AtlasRecords.{AtlasRecords}
 use Rattle.shelf_records.specs.Private.Restoring.{HasChain, HasFree, HasItemLists, HasShelfLists, chain_entry, free_fault, free_numbers}
 use Rattle.shelf_restoring.specs.RestoringSteps.{StopsAfter, free_walks, item_walks, links_followed, links_of_all, shelf_walks}
 
--- so many links were followed before a walk is refused for this: fewer than all only for want of memory
+-- so many links were followed before a walk is refused for this: fewer than all only where memory ran out
 pub record IsStopped (all steps : ℕ) (fault : WalkFault) : Type 0 where
   pub exact : fault ≢ Memory → steps ≡ all
   pub bound : fault ≡ Memory → steps ≤ all

@@ -1,5 +1,5 @@
--- A restored atlas has as many items in use as walks have met; and records that stand for a state are refused for
--- want of memory alone.
+-- A restored atlas has as many items in use as walks have met; and records that stand for a state are refused only
+-- where memory ran out.
 use Rattle.std.proofs.Common.{◌≡◌, List, length, refl, ap, sym, ◌∙◌}
 use Rattle.etagere_base.specs.declared.faults.RestoreFault.{RestoreFault}
 use Rattle.etagere_base.specs.declared.faults.RestoreFault.TheVariants.{Frame, Counts, Link, Shelves, Runs, Neighbours, FreeList, Sharing, Unused, Space, Memory}
@@ -17,7 +17,7 @@ module _ (atlas : AtlasRecords) where
   walked-count entries met =
       ap (λ (es : List Entry). length (item_numbers es)) met ∙ sym (items_in_use-spelled atlas (walked_entries atlas))
 
-  -- records that stand for what they spell are refused for want of memory alone
+  -- records that stand for what they spell are refused only where memory ran out
   pub stands-whole : StandsFor atlas (state_spelled atlas) → (fault : RestoreFault) → IsBroken atlas fault → fault ≡ Memory
   stands-whole stands Frame broken = absurd (broken (stands.keeps Frame))
   stands-whole stands Counts broken = absurd (broken (stands.keeps Counts))

@@ -6,7 +6,7 @@ use Rattle.etagere_base.proofs.EachLemmas.{Each-get}
 use Rattle.shelf_model.specs.Atlas.{KeepsPromises}
 use Rattle.atlas_pages.specs.declared.choosing.Candidate.{Candidate}
 use Rattle.atlas_pages.specs.declared.options.PageChoice.TheVariants.{FullestFirst}
-use Rattle.atlas_pages.specs.Choosing.{page_rank}
+use Rattle.atlas_pages.specs.Choosing.{page_order}
 use Rattle.atlas_pages.specs.Private.Fullest.{found_at, found_of}
 use Rattle.atlas_pages.proofs.Fullest.{best-all, best-step, chosen-place, chosen-within}
 use Rattle.atlas_pages.proofs.choosing.fullest_with_place.Goals as goal
@@ -22,7 +22,7 @@ pub loop-number-preserved : goal.loop-number-preserved
 loop-number-preserved c =
     let page = c.index-pages-number.result in
     c.fuller-best.ensures
-    ∙ ap (λ (best : Option Found). better best (found_at c.loop-number.number (page_rank FullestFirst c.args.size page))) c.loop-number.invariant
+    ∙ ap (λ (best : Option Found). better best (found_at c.loop-number.number (page_order FullestFirst c.args.size page))) c.loop-number.invariant
     ∙ best-step c.args.size c.args.pages.now c.loop-number.number page c.loop-number-test.true c.index-pages-number.is
 
 pub returns-clause-chosen : goal.returns-clause-chosen
