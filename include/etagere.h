@@ -295,8 +295,8 @@ EtagereStatus etagere_atlas_allocate(EtagereAtlas *atlas, EtagereSize size, Etag
 
 /* Takes back the rectangle that is allocated under an id, and merges what is free with its neighbours.
  * Answers ETAGERE_OK; ETAGERE_NULL_HANDLE; ETAGERE_UNKNOWN_ID exactly where nothing is allocated under the id. Takes
- * no memory. Looks at the record and those beside it, and finds the shelf by binary search; where shelves merge, others
- * move in the list by height. */
+ * no memory. Looks at the record and those beside it, and finds the shelf by binary search; where shelves merge, the next
+ * allocation moves them in the list by height. */
 EtagereStatus etagere_atlas_deallocate(EtagereAtlas *atlas, uint32_t id);
 
 /* Gives the rectangle that is allocated under an id, as it was first given. The atlas stays.

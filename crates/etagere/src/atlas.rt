@@ -224,7 +224,8 @@ impl AtlasAllocator {
     /// and of a shelf with its entry in the list by height. A split for which there are unused records takes none, nor
     /// does a size that needs no split. Finds the first shelf that is tall enough where it did last time, or by binary
     /// search, and goes on by height; of each shelf that may have an item wide enough it searches the free list up to
-    /// the first that is. Where a shelf is split, one end of the list by height moves to make room for the new one.
+    /// the first that is. Before that the list by height follows the shelves that were split or merged since the last
+    /// search: each goes where it belongs by binary search, and an end of the list moves; many are sorted anew.
     #[inline(always)]
     pub fn allocate(&mut self, size: Size) -> Result<Option<Allocation>, AllocError>
         ensures placed { IfOk result
@@ -369,7 +370,7 @@ impl AtlasAllocator {
     ///
     /// `Err` comes exactly where nothing is allocated under the id; then nothing changes. Takes no memory. It looks at
     /// the record of the id, and at those beside it and its shelf, whose entry in the list by height it finds at once
-    /// or by binary search. Where shelves merge, the nearer end of that list moves.
+    /// or by binary search. Which shelves merge is only noted: the next allocation moves them in that list.
     pub fn deallocate(&mut self, id: AllocId) -> Result<(), UnknownId>
         ensures ok { OnOk result (self.new ≡ returned self.old id) }
         ensures unknown { IsErr result ↔ (is_allocated self.old id ≡ false) }
@@ -447,8 +448,8 @@ impl AtlasAllocator {
     /// Returns the first fault; `Memory` only where there is no other, the growth needs records and there was no
     /// memory. Nothing changes after a fault. Takes memory for the records that it needs as far as too few are unused,
     /// and for the entries in the list by height of shelf records that are made. Where no column becomes wider or
-    /// taller and none is added, it takes constant time. Else it goes through all shelves, for wider columns through
-    /// all items too, and then sorts the shelves.
+    /// taller and none is added, it takes constant time, once the list by height follows as in `allocate`. Else it
+    /// goes through all shelves, for wider columns through all items too, and then sorts the shelves.
     pub fn grow(&mut self, size: Size) -> Result<(), AtlasGrowFault>
         ensures ok { OnOk result (self.new ≡ atlas_grown self.old size) }
         ensures fault { IfSome (grow_fault self.old size) (λ fault. result ≡ Err fault) }

@@ -141,10 +141,5 @@ pub fn restore_atlas(
         return Err(RestoreFault::Memory);
     };
     let items_in_use = walked.items.met.len() as u32;
-    Ok(AtlasAllocator::of_judged(
-        atlas,
-        by_height,
-        pending,
-        items_in_use,
-    ))
+    Ok(AtlasAllocator::of_judged(atlas, by_height, pending, items_in_use))
 }

@@ -106,8 +106,8 @@ pub extern "C" fn etagere_atlas_allocate(
 /// Takes back the rectangle that is allocated under an id, and merges what is free with its neighbours.
 ///
 /// Answers ETAGERE_OK; ETAGERE_NULL_HANDLE; ETAGERE_UNKNOWN_ID exactly where nothing is allocated under the id. Takes
-/// no memory. Looks at the record and those beside it, and finds the shelf by binary search; where shelves merge, others
-/// move in the list by height.
+/// no memory. Looks at the record and those beside it, and finds the shelf by binary search; where shelves merge, the next
+/// allocation moves them in the list by height.
 #[unsafe(no_mangle)]
 pub extern "C" fn etagere_atlas_deallocate(atlas: &mut EtagereAtlas, id: u32) -> u32
     ensures null { (result ≡ statuses.null_handle) ↔ (atlas.old.state ≡ None) }

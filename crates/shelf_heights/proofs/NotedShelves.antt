@@ -1,11 +1,20 @@
 -- What is known of shelves once it was noted that one has changed, once the list lost one or followed one, and with an entry more.
-use Rattle.std.proofs.Common.{◌≡◌, ◌≢◌, ℕ, ◌<◌, ◌≤◌, Bool, true, false, List, [], ◌∷◌, length, refl, ap, arith, sym, ◌∙◌}
+use Rattle.std.proofs.Common.{◌≡◌, ◌≢◌, ℕ, ◌<◌, ◌≤◌, Bool, true, false, List, [], ◌∷◌, length, set, refl, ap, arith, sym, ◌∙◌}
 use Rattle.std.proofs.lemmas.List.{length-append, length-set}
 use Rattle.std.specs.Prelude.{◌==◌}
 use Rattle.shelf_records.specs.declared.records.LinkedShelf.{LinkedShelf}
 use Rattle.shelf_heights.specs.Private.Pending.{Notes, forgotten, is_in_use, is_listed, is_noted, listed_as, noted_as, standing_at, unlisted, with_entry}
 use Rattle.shelf_heights.specs.declared.pending.Standing.{Standing}
 use Rattle.shelf_heights.proofs.Noted.{standing-added, standing-other, standing-own}
+
+-- what an entry that was written says as before is so of each shelf
+field-kept : {X : Type 0} (field : Standing → X) (standing : List Standing) (shelf : ℕ) (one : Standing) (k : ℕ) → shelf < length standing → field one ≡ field (standing_at standing shelf)
+    → field (standing_at (set standing shelf one) k) ≡ field (standing_at standing k)
+field-kept field standing shelf one k known same = by_number (k == shelf) refl
+  where
+    by_number : (b : Bool) → (k == shelf) ≡ b → field (standing_at (set standing shelf one) k) ≡ field (standing_at standing k)
+    by_number true e = let own : k ≡ shelf = grind arith in rw own (ap field (standing-own standing shelf one known) ∙ same)
+    by_number false e = let other : k ≢ shelf = grind arith in ap field (standing-other standing shelf k one other)
 
 -- it was noted that a shelf has changed
 module _ (notes : Notes) (shelf : ℕ) (in_use : Bool) (known : shelf < length notes.standing) where
@@ -26,11 +35,7 @@ module _ (notes : Notes) (shelf : ℕ) (in_use : Bool) (known : shelf < length n
 
   -- the list has the shelves that it had
   pub noted-listed : (k : ℕ) → is_listed (noted_as shelf in_use notes) k ≡ is_listed notes k
-  noted-listed k = by_test (k == shelf) refl
-    where
-      by_test : (b : Bool) → (k == shelf) ≡ b → is_listed (noted_as shelf in_use notes) k ≡ is_listed notes k
-      by_test true e = let own : k ≡ shelf = grind arith in rw own (ap (λ (s : Standing). s.listed) noted-own)
-      by_test false e = let other : k ≢ shelf = grind arith in ap (λ (s : Standing). s.listed) (noted-other k other)
+  noted-listed k = field-kept (λ (s : Standing). s.listed) notes.standing shelf (record (standing_at notes.standing shelf) { in_use = in_use; noted = true }) k known refl
 
   -- one that has not changed is another one
   pub unnoted-differs : (k : ℕ) → is_noted (noted_as shelf in_use notes) k ≡ false → k ≢ shelf
@@ -77,18 +82,10 @@ module _ (notes : Notes) (shelf : ℕ) (known : shelf < length notes.standing) w
   unlisted-so = ap (λ (s : Standing). s.listed) unlisted-own
 
   pub unlisted-in_use : (k : ℕ) → is_in_use (unlisted shelf notes) k ≡ is_in_use notes k
-  unlisted-in_use k = by_test (k == shelf) refl
-    where
-      by_test : (b : Bool) → (k == shelf) ≡ b → is_in_use (unlisted shelf notes) k ≡ is_in_use notes k
-      by_test true e = let own : k ≡ shelf = grind arith in rw own (ap (λ (s : Standing). s.in_use) unlisted-own)
-      by_test false e = let other : k ≢ shelf = grind arith in ap (λ (s : Standing). s.in_use) (unlisted-other k other)
+  unlisted-in_use k = field-kept (λ (s : Standing). s.in_use) notes.standing shelf (record (standing_at notes.standing shelf) { listed = false }) k known refl
 
   pub unlisted-noted : (k : ℕ) → is_noted (unlisted shelf notes) k ≡ is_noted notes k
-  unlisted-noted k = by_test (k == shelf) refl
-    where
-      by_test : (b : Bool) → (k == shelf) ≡ b → is_noted (unlisted shelf notes) k ≡ is_noted notes k
-      by_test true e = let own : k ≡ shelf = grind arith in rw own (ap (λ (s : Standing). s.noted) unlisted-own)
-      by_test false e = let other : k ≢ shelf = grind arith in ap (λ (s : Standing). s.noted) (unlisted-other k other)
+  unlisted-noted k = field-kept (λ (s : Standing). s.noted) notes.standing shelf (record (standing_at notes.standing shelf) { listed = false }) k known refl
 
 -- the list followed a shelf
 module _ (notes : Notes) (shelf : ℕ) (one : LinkedShelf) (known : shelf < length notes.standing) where
@@ -105,18 +102,10 @@ module _ (notes : Notes) (shelf : ℕ) (one : LinkedShelf) (known : shelf < leng
   listed-so = ap (λ (s : Standing). s.listed) listed-own
 
   pub listed-in_use : (k : ℕ) → is_in_use (listed_as shelf one notes) k ≡ is_in_use notes k
-  listed-in_use k = by_test (k == shelf) refl
-    where
-      by_test : (b : Bool) → (k == shelf) ≡ b → is_in_use (listed_as shelf one notes) k ≡ is_in_use notes k
-      by_test true e = let own : k ≡ shelf = grind arith in rw own (ap (λ (s : Standing). s.in_use) listed-own)
-      by_test false e = let other : k ≢ shelf = grind arith in ap (λ (s : Standing). s.in_use) (listed-other k other)
+  listed-in_use k = field-kept (λ (s : Standing). s.in_use) notes.standing shelf (record (standing_at notes.standing shelf) { listed = true }) k known refl
 
   pub listed-noted : (k : ℕ) → is_noted (listed_as shelf one notes) k ≡ is_noted notes k
-  listed-noted k = by_test (k == shelf) refl
-    where
-      by_test : (b : Bool) → (k == shelf) ≡ b → is_noted (listed_as shelf one notes) k ≡ is_noted notes k
-      by_test true e = let own : k ≡ shelf = grind arith in rw own (ap (λ (s : Standing). s.noted) listed-own)
-      by_test false e = let other : k ≢ shelf = grind arith in ap (λ (s : Standing). s.noted) (listed-other k other)
+  listed-noted k = field-kept (λ (s : Standing). s.noted) notes.standing shelf (record (standing_at notes.standing shelf) { listed = true }) k known refl
 
 -- a shelf is noted no more
 module _ (notes : Notes) (shelf : ℕ) (left : List ℕ) (known : shelf < length notes.standing) where
@@ -130,15 +119,7 @@ module _ (notes : Notes) (shelf : ℕ) (left : List ℕ) (known : shelf < length
   forgotten-other k other = standing-other notes.standing shelf k (record (standing_at notes.standing shelf) { noted = false }) other
 
   pub forgotten-in_use : (k : ℕ) → is_in_use (forgotten shelf left notes) k ≡ is_in_use notes k
-  forgotten-in_use k = by_test (k == shelf) refl
-    where
-      by_test : (b : Bool) → (k == shelf) ≡ b → is_in_use (forgotten shelf left notes) k ≡ is_in_use notes k
-      by_test true e = let own : k ≡ shelf = grind arith in rw own (ap (λ (s : Standing). s.in_use) forgotten-own)
-      by_test false e = let other : k ≢ shelf = grind arith in ap (λ (s : Standing). s.in_use) (forgotten-other k other)
+  forgotten-in_use k = field-kept (λ (s : Standing). s.in_use) notes.standing shelf (record (standing_at notes.standing shelf) { noted = false }) k known refl
 
   pub forgotten-listed : (k : ℕ) → is_listed (forgotten shelf left notes) k ≡ is_listed notes k
-  forgotten-listed k = by_test (k == shelf) refl
-    where
-      by_test : (b : Bool) → (k == shelf) ≡ b → is_listed (forgotten shelf left notes) k ≡ is_listed notes k
-      by_test true e = let own : k ≡ shelf = grind arith in rw own (ap (λ (s : Standing). s.listed) forgotten-own)
-      by_test false e = let other : k ≢ shelf = grind arith in ap (λ (s : Standing). s.listed) (forgotten-other k other)
+  forgotten-listed k = field-kept (λ (s : Standing). s.listed) notes.standing shelf (record (standing_at notes.standing shelf) { noted = false }) k known refl
