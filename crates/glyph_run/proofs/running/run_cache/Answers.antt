@@ -7,11 +7,11 @@ use Rattle.glyph_run.proofs.running.run_cache.Goals as goal
 
 pub returns-clause-run : goal.returns-clause-run
 returns-clause-run c =
-    let is : c.in_ok-cache.cache ≡ empty_cache (atlas_frame c.args.size c.args.options.now) (non_zero_usize_get c.args.capacity) = search rules in
+    let is : c.in_ok-cache.cache ≡ empty_cache (atlas_frame c.args.size c.args.options.now) (non_zero_usize_get c.args.capacity) = search (rules, c.new.ensures.ok, c.in_ok-cache.ensures.cases) in
     subst (λ (s : CacheState). RunsTo s.atlas.frame s.capacity c.args.commands.now c.answer_all.result.items) is c.answer_all.ensures.run
 
 pub returns-clause-promises : goal.returns-clause-promises
 returns-clause-promises c =
-    let is : c.in_ok-cache.cache ≡ empty_cache (atlas_frame c.args.size c.args.options.now) (non_zero_usize_get c.args.capacity) = search rules in
+    let is : c.in_ok-cache.cache ≡ empty_cache (atlas_frame c.args.size c.args.options.now) (non_zero_usize_get c.args.capacity) = search (rules, c.new.ensures.ok, c.in_ok-cache.ensures.cases) in
     subst (λ (s : CacheState). RunKeepsPromisesThroughout s.atlas.frame s.capacity c.args.commands.now c.answer_all.result.items) is
     c.answer_all.ensures.promises
