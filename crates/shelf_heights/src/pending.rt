@@ -269,26 +269,30 @@ fn push_unless(numbers: &mut Vec<u16>, is_there: bool, number: usize)
     }
 }
 
-/// Makes the kept records these, for which there is room.
+/// Makes the kept records these, for which there is room. Those that are there are written over at once.
 fn copy_all(kept: &mut Vec<LinkedShelf>, shelves: &[LinkedShelf])
     requires { length shelves.now ≤ vec_capacity kept.old }
     ensures items { kept.new.items ≡ shelves.now }
     ensures capacity { vec_capacity kept.new ≡ vec_capacity kept.old }
 {
-    kept.clear();
-    for shelf in shelves {
+    kept.truncate(shelves.len());
+    let (front, back) = shelves.split_at(kept.len());
+    kept.copy_from_slice(front);
+    for shelf in back {
         kept.push_reserved(*shelf);
     }
 }
 
-/// Makes entries of so many shelves, for which there is room, of which nothing is known.
+/// Makes entries of so many shelves, for which there is room, of which nothing is known. Those that are there are written
+/// over at once.
 fn forget_all(standing: &mut Vec<Standing>, count: usize)
     requires { count ≤ vec_capacity standing.old }
     ensures items { standing.new.items ≡ replicate count spec.unknown }
     ensures capacity { vec_capacity standing.new ≡ vec_capacity standing.old }
 {
-    standing.clear();
-    for _shelf in 0..count {
+    standing.truncate(count);
+    standing.fill(UNKNOWN);
+    for _shelf in standing.len()..count {
         standing.push_reserved(UNKNOWN);
     }
 }

@@ -6,6 +6,7 @@ pub mod EarliestShelves
 pub mod EmptyShelves
 pub mod FreedBounds
 pub mod FreedByHeight
+pub mod LaterNotes
 pub mod LeastOffers
 pub mod MergedByHeight
 pub mod MetShelves

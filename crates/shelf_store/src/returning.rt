@@ -49,9 +49,7 @@ pub fn return_item(
         pending.old.notes by_height.old.items }
     ensures records { records.new ≡ returned.item_returned number records.old }
     ensures by_height { by_height.new.items
-        ≡ noting.raised_unless (is_noted pending.old.notes (shelf_of records.old.items number))
-        (shelf_of records.old.items number) (noting.freed_width records.old.items number)
-        by_height.old.items }
+        ≡ noting.returned_by_height number records.old pending.old.notes by_height.old.items }
     ensures notes { pending.new.notes ≡ noting.returned_notes number records.old pending.old.notes }
     ensures room { pending.new.room ≡ pending.old.room }
     ensures made_unused { result ≡ returned.unused_by number records.old }
@@ -60,11 +58,13 @@ pub fn return_item(
 {
     let merged = merge_item(records, shelf, number);
     let width = width_of(records.items(), merged.item);
-    raise_unless_noted(by_height, pending, shelf, width);
     if is_alone(records.items(), merged.item) {
         records.set_empty_present(shelf, true);
-        merged.made_unused + merge_shelves(records, pending, shelf)
+        let made_unused = merge_shelves(records, pending, shelf);
+        raise_unless_noted(by_height, pending, shelf, width);
+        merged.made_unused + made_unused
     } else {
+        raise_unless_noted(by_height, pending, shelf, width);
         merged.made_unused
     }
 }

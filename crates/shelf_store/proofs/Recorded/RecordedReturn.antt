@@ -8,10 +8,10 @@ use Rattle.shelf_records.specs.RecordLists.{Records}
 use Rattle.shelf_model.specs.Atlas.{KeepsPromises, without_id}
 use Rattle.shelf_model.specs.Places.{allocations}
 use Rattle.shelf_records.specs.AtlasRecords.{is_allocated_at, item_at, shelf_of}
-use Rattle.shelf_heights.specs.Private.Pending.{AreByHeightButNoted, Notes, is_noted}
+use Rattle.shelf_heights.specs.Private.Pending.{AreByHeightButNoted, Notes}
 use Rattle.shelf_store.specs.Private.ItemReturned.{CanReturn, item_returned, unused_by}
 use Rattle.shelf_records.specs.Private.Kept.{AreKept, state_of}
-use Rattle.shelf_store.specs.Private.ReturnedNotes.{CanReturnByHeight, freed_width, raised_unless, returned_notes}
+use Rattle.shelf_store.specs.Private.ReturnedNotes.{CanReturnByHeight, returned_by_height, returned_notes}
 use Rattle.shelf_records.specs.Private.Reading.{record_of, recorded_area}
 use Rattle.shelf_model.specs.Returning.{has_id, returned}
 use Rattle.shelf_model.specs.Space.{allocated_space}
@@ -75,7 +75,7 @@ after-return frame records new id number made_unused area kept named made counts
 -- the shelves stand by height after a return, but for those that have changed
 pub by_height-after : (frame : Frame) (records : Records) (notes : Notes) (by_height : List BoundedShelf) (id number : ℕ) → AreKept frame records → AreByHeightButNoted frame records notes by_height → record_of records.items id ≡ Some number
     → AreByHeightButNoted frame (item_returned number records) (returned_notes number records notes)
-    (raised_unless (is_noted notes (shelf_of records.items number)) (shelf_of records.items number) (freed_width records.items number) by_height)
+    (returned_by_height number records notes by_height)
 by_height-after frame records notes by_height id number kept are named = (returns-item frame records number kept (record-marked records.items id number named).0).by_height notes by_height are
 
 -- the item of the record that an id names can be returned

@@ -25,13 +25,14 @@ use Rattle.shelf_store.specs.Private.ItemReturned.{CanMergeItem, CanMergeShelves
 use Rattle.shelf_heights.specs.Private.Pending.{AreByHeightButNoted, HoldsButNoted, Notes, is_in_use, is_noted, once_where}
 use Rattle.shelf_records.specs.Private.Kept.{AreKept, atlas_of, bare, state_of}
 use Rattle.shelf_records.proofs.Spelled.Witnessed.{HasFlag, IsPlaced}
-use Rattle.shelf_store.specs.Private.ReturnedNotes.{CanReturnByHeight, freed_width, raised_unless, returned_notes, shelves_merged_notes}
+use Rattle.shelf_store.specs.Private.ReturnedNotes.{CanReturnByHeight, freed_width, raised_unless, returned_by_height, returned_notes, shelves_merged_notes}
 use Rattle.shelf_model.specs.Returning.{freed_shelf, returned}
 use Rattle.shelf_model.specs.State.{Shelf, AtlasState, items_in_use}
 use Rattle.shelf_records.specs.StandsFor.{HasCounts}
 use Rattle.shelf_model.specs.Valid.{IsShelf, IsValid}
 use Rattle.shelf_heights.specs.declared.by_height.BoundedShelf.{BoundedShelf}
 use Rattle.shelf_store.proofs.ByHeight.FreedByHeight.{FreesByHeight, frees-by_height}
+use Rattle.shelf_store.proofs.ByHeight.LaterNotes.{merged_all-later, raised-later}
 use Rattle.shelf_heights.proofs.Noted.{in_use-within, once-true}
 use Rattle.shelf_model.proofs.Places.Heights.{column_height-append, column_height-none}
 use Rattle.shelf_model.proofs.Returned.ReturnedValid.{returned-valid}
@@ -107,7 +108,7 @@ pub record ReturnsItem (frame : Frame) (records : Records) (number : ℕ) : Type
   pub by_height :
       (notes : Notes) (by_height : List BoundedShelf) → AreByHeightButNoted frame records notes by_height
       → AreByHeightButNoted frame (item_returned number records) (returned_notes number records notes)
-      (raised_unless (is_noted notes (shelf_of records.items number)) (shelf_of records.items number) (freed_width records.items number) by_height)
+      (returned_by_height number records notes by_height)
 
 -- records after a return, by the lists that they spell
 record IsReturned (atlas : AtlasRecords) (step : Step) (old : List Entry) (change : Notes → Notes) (shelf width : ℕ) (state : AtlasState) (unused : List ℕ) : Type 0 where
@@ -117,7 +118,7 @@ record IsReturned (atlas : AtlasRecords) (step : Step) (old : List Entry) (chang
   counted : length lists.unused_items ≡ step.made_unused + length unused
   holds :
       (notes : Notes) (by_height : List BoundedShelf) → HoldsButNoted atlas old notes by_height
-      → HoldsButNoted (with_records atlas step.records) lists.entries (change notes) (raised_unless (is_noted notes shelf) shelf width by_height)
+      → HoldsButNoted (with_records atlas step.records) lists.entries (change notes) (raised_unless (is_noted (change notes) shelf) shelf width by_height)
 
 -- what holds of kept records holds of the atlas that they are of, and back
 holds-kept : (frame : Frame) (records : Records) (notes : Notes) (by_height : List BoundedShelf) → AreByHeightButNoted frame records notes by_height → HoldsButNoted (atlas_of frame records) (walked_lists records).entries notes by_height
@@ -130,7 +131,7 @@ holds-walked frame records new lists notes by_height walked holds =
     (record { listed = holds.listed; in_use = holds.in_use; order = holds.order; settled = holds.settled; bounds = holds.bounds; known = holds.known; few = holds.few })
 
 -- records that spell lists keep every rule again where what they spell is valid
-kept-again : (frame : Frame) (records new : Records) (id left_unused : ℕ) (change : Notes → Notes) (shelf width : ℕ) → AreKept frame records → SameLengths records new → IsReturned (atlas_of frame records) (record { records = new; made_unused = left_unused }) (walked_lists records).entries change shelf width (returned (state_of frame records) id) (walked_lists records).unused_items → (AreKept frame new × (state_of frame new ≡ returned (state_of frame records) id)) × (items_in_use (state_of frame new).shelves + left_unused ≡ items_in_use (state_of frame records).shelves) × ((notes : Notes) (by_height : List BoundedShelf) → AreByHeightButNoted frame records notes by_height → AreByHeightButNoted frame new (change notes) (raised_unless (is_noted notes shelf) shelf width by_height))
+kept-again : (frame : Frame) (records new : Records) (id left_unused : ℕ) (change : Notes → Notes) (shelf width : ℕ) → AreKept frame records → SameLengths records new → IsReturned (atlas_of frame records) (record { records = new; made_unused = left_unused }) (walked_lists records).entries change shelf width (returned (state_of frame records) id) (walked_lists records).unused_items → (AreKept frame new × (state_of frame new ≡ returned (state_of frame records) id)) × (items_in_use (state_of frame new).shelves + left_unused ≡ items_in_use (state_of frame records).shelves) × ((notes : Notes) (by_height : List BoundedShelf) → AreByHeightButNoted frame records notes by_height → AreByHeightButNoted frame new (change notes) (raised_unless (is_noted (change notes) shelf) shelf width by_height))
 kept-again frame records new id left_unused change shelf width kept lengths is =
     let lists : Lists = is.lists in
     let linked : IsLinked new lists = is.flagged.spelled.linked in
@@ -162,7 +163,7 @@ kept-again frame records new id left_unused change shelf width kept lengths is =
         state,
       ),
       omega (arith, in_use, old_count, new_count, is.counted, lengths.items),
-      λ notes by_height holds. holds-walked frame records new lists (change notes) (raised_unless (is_noted notes shelf) shelf width by_height) walked (is.holds notes by_height (holds-kept frame records notes by_height holds)),
+      λ notes by_height holds. holds-walked frame records new lists (change notes) (raised_unless (is_noted (change notes) shelf) shelf width by_height) walked (is.holds notes by_height (holds-kept frame records notes by_height holds)),
     )
 
 -- the id of an allocated item
@@ -235,7 +236,8 @@ returned-there frame records number has kept allocated flagged =
             spelled = shelves-after frame state.peak_items (length has.before) (returned state (id_at records.items number)) (map (spelled_shelf middle) (has.before ++ edited ∷ has.after)) (front ++ new ∷ back)
                 (map (spelled_shelf (with_records atlas two.records)) merges.entries) at freed.spelled merges.merged;
             counted = omega (arith, merges.counted, freed.counted);
-            holds = λ notes by_height holds. merges.holds notes (raised_unless (is_noted notes shelf) shelf (freed_width records.items number) by_height) (freed.frees notes by_height (start notes by_height holds));
+            holds = λ notes by_height holds. raised-later (with_records atlas two.records) merges.entries notes (shelves_merged_notes shelf three notes) shelf (freed_width records.items number) by_height (merged_all-later shelf three notes)
+                (merges.holds notes (raised_unless (is_noted notes shelf) shelf (freed_width records.items number) by_height) (freed.frees notes by_height (start notes by_height holds)));
           };
       remains = remaining.0;
       can_item = can-merge-item (around_of has.before has.after unused gone) shelf number has.front has.back has.free (witnesses kept).valid.frame valid allocated flagged.spelled;

@@ -5,12 +5,14 @@ use Rattle.shelf_records.specs.RecordEdits.{shelf_changed}
 use Rattle.shelf_records.specs.RecordLists.{Records}
 use Rattle.shelf_records.specs.AtlasRecords.{shelf_of, width_of}
 use Rattle.shelf_heights.specs.Private.Pending.{Notes, is_noted}
+use Rattle.shelf_heights.specs.declared.by_height.BoundedShelf.{BoundedShelf}
 use Rattle.shelf_store.specs.Private.ItemReturned.{emptiness_said, has_one_free, item_merged, merged_width}
-use Rattle.shelf_store.specs.Private.ReturnedNotes.{freed_width, raised_unless}
+use Rattle.shelf_store.specs.Private.ReturnedNotes.{freed_width, raised_unless, returned_by_height, returned_notes, shelves_merged_notes}
+use Rattle.shelf_store.proofs.ByHeight.LaterNotes.{returned-later}
 use Rattle.shelf_store.proofs.Spelled.NotEmptied.{StaysInUse, stays-in-use}
 use Rattle.shelf_store.proofs.Spelled.ReturnedLengths.{merged-lengths}
 use Rattle.shelf_store.proofs.returning.return_item.Goals as goal
-use Rattle.shelf_store.proofs.returning.return_item.Goals.{After-raise_unless_noted, After-is_alone, After-set_empty_present}
+use Rattle.shelf_store.proofs.returning.return_item.Goals.{After-is_alone, After-set_empty_present, After-width_of-width}
 
 pub merge_item-merged-requires-clause-fits : goal.merge_item-merged-requires-clause-fits
 merge_item-merged-requires-clause-fits c = rw c.requires.shelf (c.requires.fits.item)
@@ -18,12 +20,6 @@ merge_item-merged-requires-clause-fits c = rw c.requires.shelf (c.requires.fits.
 pub width_of-width-requires : goal.width_of-width-requires
 width_of-width-requires c =
     rw (c.items.ensures, c.merge_item-merged.ensures.records, c.merge_item-merged.ensures.item, c.requires.shelf) (c.requires.fits.remaining.there)
-
-pub raise_unless_noted-requires-clause-known : goal.raise_unless_noted-requires-clause-known
-raise_unless_noted-requires-clause-known c = rw c.requires.shelf (c.requires.by_height.known)
-
-pub raise_unless_noted-requires-clause-stands : goal.raise_unless_noted-requires-clause-stands
-raise_unless_noted-requires-clause-stands c = rw c.requires.shelf (c.requires.by_height.stands)
 
 pub is_alone-requires : goal.is_alone-requires
 is_alone-requires c =
@@ -35,19 +31,23 @@ set_empty_present-requires c =
     rw (c.merge_item-merged.ensures.records, c.requires.shelf)
     (omega (arith, c.requires.fits.item.here.in_range, (merged-lengths shelf c.args.number c.args.records.now).shelves))
 
--- the bound that rises is that of the item's shelf, and it rises to what becomes free
-rises : (c : After-raise_unless_noted) → (let shelf = shelf_of c.args.records.now.items c.args.number in c.raise_unless_noted.new.by_height.items ≡ raised_unless (is_noted c.args.pending.now.notes shelf) shelf (freed_width c.args.records.now.items c.args.number) c.args.by_height.now.items)
-rises c =
-    let items : List LinkedItem = c.args.records.now.items in
-    let wide : c.width_of-width.result ≡ merged_width c.args.shelf c.args.number c.args.records.now =
+-- what remains is as wide as what becomes free
+wide : (c : After-width_of-width) → c.width_of-width.result ≡ freed_width c.args.records.now.items c.args.number
+wide c =
     c.width_of-width.ensures
     ∙ ap (λ (is : List LinkedItem). width_of is c.merge_item-merged.result.item) (c.items.ensures ∙ ap (λ (r : Records). r.items) c.merge_item-merged.ensures.records)
-    ∙ ap (width_of (item_merged c.args.shelf c.args.number c.args.records.now).records.items) c.merge_item-merged.ensures.item in
-    let notes : Notes = c.args.pending.now.notes in
-    c.raise_unless_noted.ensures.by_height
-    ∙ ap (λ s. raised_unless (is_noted notes s) s c.width_of-width.result c.args.by_height.now.items) c.requires.shelf
-    ∙ ap (λ w. raised_unless (is_noted notes (shelf_of items c.args.number)) (shelf_of items c.args.number) w c.args.by_height.now.items)
-    (wide ∙ ap (λ s. merged_width s c.args.number c.args.records.now) c.requires.shelf ∙ c.requires.by_height.width)
+    ∙ ap (width_of (item_merged c.args.shelf c.args.number c.args.records.now).records.items) c.merge_item-merged.ensures.item
+    ∙ ap (λ s. merged_width s c.args.number c.args.records.now) c.requires.shelf
+    ∙ c.requires.by_height.width
+
+-- so the bound that rises is that of the item's shelf, and it rises to what becomes free
+rises : (shelf number width : ℕ) (records : Records) (notes before : Notes) (by_height new : List BoundedShelf) → new ≡ raised_unless (is_noted notes shelf) shelf width by_height → shelf ≡ shelf_of records.items number → width ≡ freed_width records.items number → notes ≡ returned_notes number records before
+    → new ≡ returned_by_height number records before by_height
+rises shelf number width records notes before by_height new raises own wide noted =
+    raises
+    ∙ ap (λ s. raised_unless (is_noted notes s) s width by_height) own
+    ∙ ap (λ w. raised_unless (is_noted notes (shelf_of records.items number)) (shelf_of records.items number) w by_height) wide
+    ∙ ap (λ (n : Notes). raised_unless (is_noted n (shelf_of records.items number)) (shelf_of records.items number) (freed_width records.items number) by_height) noted
 
 -- the item that remains stands alone just where its shelf is empty
 emptied : (c : After-is_alone) → (let shelf = shelf_of c.args.records.now.items c.args.number in has_one_free shelf (item_merged shelf c.args.number c.args.records.now).records ≡ c.is_alone.result)
@@ -63,38 +63,50 @@ said c is_empty =
     rw (c.set_empty_present.ensures, c.merge_item-merged.ensures.records, c.requires.shelf)
     (ap (λ (b : Bool). shelf_changed shelf (λ (here : LinkedShelf). record here { is_empty = b }) merged) (sym is_empty))
 
-pub merge_shelves-requires-clause-fits : goal.merge_shelves-requires-clause-fits
-merge_shelves-requires-clause-fits c =
-    let at = goal.at.merge_shelves-requires-clause-fits c in
+pub merge_shelves-made_unused-requires-clause-fits : goal.merge_shelves-made_unused-requires-clause-fits
+merge_shelves-made_unused-requires-clause-fits c =
+    let at = goal.at.merge_shelves-made_unused-requires-clause-fits c in
     rw (said at.After-set_empty_present (emptied at.After-is_alone ∙ c.if-is_alone.true), c.requires.shelf) (c.requires.fits.shelves)
 
-pub merge_shelves-requires-clause-notes : goal.merge_shelves-requires-clause-notes
-merge_shelves-requires-clause-notes c =
-    let at = goal.at.merge_shelves-requires-clause-notes c in
+pub merge_shelves-made_unused-requires-clause-notes : goal.merge_shelves-made_unused-requires-clause-notes
+merge_shelves-made_unused-requires-clause-notes c =
+    let at = goal.at.merge_shelves-made_unused-requires-clause-notes c in
     rw (said at.After-set_empty_present (emptied at.After-is_alone ∙ c.if-is_alone.true), c.requires.shelf) (c.requires.by_height.shelves)
+
+-- what is noted once shelves merged is what a return notes
+noted : (c : After-set_empty_present) (new : Notes) → (let shelf = shelf_of c.args.records.now.items c.args.number in has_one_free shelf (item_merged shelf c.args.number c.args.records.now).records ≡ true → new ≡ shelves_merged_notes c.args.shelf c.set_empty_present.new.self c.args.pending.now.notes → new ≡ returned_notes c.args.number c.args.records.now c.args.pending.now.notes)
+noted c new is_empty merged = merged ∙ rw (said c is_empty, c.requires.shelf) refl
+
+pub raise_unless_noted-requires-clause-stands : goal.raise_unless_noted-requires-clause-stands
+raise_unless_noted-requires-clause-stands c none =
+    let at = goal.at.raise_unless_noted-requires-clause-stands c in
+    let shelf : ℕ = shelf_of c.args.records.now.items c.args.number in
+    let notes = noted at.After-set_empty_present c.merge_shelves-made_unused.new.pending.notes (emptied at.After-is_alone ∙ c.if-is_alone.true) c.merge_shelves-made_unused.ensures.notes in
+    let unnoted : is_noted (returned_notes c.args.number c.args.records.now c.args.pending.now.notes) shelf ≡ false = rw (← notes, ← c.requires.shelf) none in
+    rw c.requires.shelf (c.requires.by_height.stands ((returned-later c.args.number c.args.records.now c.args.pending.now.notes).before shelf unnoted))
 
 pub returns-then-is_alone-clause-records : goal.returns-then-is_alone-clause-records
 returns-then-is_alone-clause-records c =
     let at = goal.at.returns-then-is_alone-clause-records c in
-    rw (c.merge_shelves.ensures.records, said at.After-set_empty_present (emptied at.After-is_alone ∙ c.if-is_alone.true), c.requires.shelf) refl
+    rw (c.merge_shelves-made_unused.ensures.records, said at.After-set_empty_present (emptied at.After-is_alone ∙ c.if-is_alone.true), c.requires.shelf) refl
 
 pub returns-then-is_alone-clause-by_height : goal.returns-then-is_alone-clause-by_height
-returns-then-is_alone-clause-by_height c = rises (goal.at.returns-then-is_alone-clause-by_height c).After-raise_unless_noted
+returns-then-is_alone-clause-by_height c =
+    let at = goal.at.returns-then-is_alone-clause-by_height c in
+    rises c.args.shelf c.args.number c.width_of-width.result c.args.records.now c.merge_shelves-made_unused.new.pending.notes c.args.pending.now.notes c.args.by_height.now.items c.raise_unless_noted.new.by_height.items
+    c.raise_unless_noted.ensures.by_height c.requires.shelf (wide at.After-width_of-width)
+    (noted at.After-set_empty_present c.merge_shelves-made_unused.new.pending.notes (emptied at.After-is_alone ∙ c.if-is_alone.true) c.merge_shelves-made_unused.ensures.notes)
 
 pub returns-then-is_alone-clause-notes : goal.returns-then-is_alone-clause-notes
 returns-then-is_alone-clause-notes c =
     let at = goal.at.returns-then-is_alone-clause-notes c in
-    rw (
-      c.merge_shelves.ensures.notes,
-      said at.After-set_empty_present (emptied at.After-is_alone ∙ c.if-is_alone.true),
-      c.requires.shelf,
-    ) refl
+    noted at.After-set_empty_present c.merge_shelves-made_unused.new.pending.notes (emptied at.After-is_alone ∙ c.if-is_alone.true) c.merge_shelves-made_unused.ensures.notes
 
 pub returns-then-is_alone-clause-made_unused : goal.returns-then-is_alone-clause-made_unused
 returns-then-is_alone-clause-made_unused c =
     let at = goal.at.returns-then-is_alone-clause-made_unused c in
     rw (
-      c.merge_shelves.ensures.made_unused,
+      c.merge_shelves-made_unused.ensures.made_unused,
       c.merge_item-merged.ensures.made_unused,
       said at.After-set_empty_present (emptied at.After-is_alone ∙ c.if-is_alone.true),
       c.requires.shelf,
@@ -112,7 +124,11 @@ returns-else-is_alone-clause-records c =
     rw (c.merge_item-merged.ensures.records, c.requires.shelf) (sym still.records)
 
 pub returns-else-is_alone-clause-by_height : goal.returns-else-is_alone-clause-by_height
-returns-else-is_alone-clause-by_height c = rises (goal.at.returns-else-is_alone-clause-by_height c).After-raise_unless_noted
+returns-else-is_alone-clause-by_height c =
+    let at = goal.at.returns-else-is_alone-clause-by_height c in
+    let still = stays at.After-is_alone c.if-is_alone.false in
+    rises c.args.shelf c.args.number c.width_of-width.result c.args.records.now c.args.pending.now.notes c.args.pending.now.notes c.args.by_height.now.items c.raise_unless_noted-else-is_alone.new.by_height.items
+    c.raise_unless_noted-else-is_alone.ensures.by_height c.requires.shelf (wide at.After-width_of-width) (sym (still.unnoted c.args.pending.now.notes))
 
 pub returns-else-is_alone-clause-notes : goal.returns-else-is_alone-clause-notes
 returns-else-is_alone-clause-notes c =

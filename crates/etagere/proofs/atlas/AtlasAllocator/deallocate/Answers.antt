@@ -4,7 +4,7 @@ use Rattle.shelf_records.specs.RecordLists.{Records}
 use Rattle.shelf_model.specs.Atlas.{KeepsPromises, Restores, without_id}
 use Rattle.shelf_records.specs.AtlasRecords.{is_allocated_at, shelf_of}
 use Rattle.shelf_heights.specs.Private.Pending.{is_noted}
-use Rattle.shelf_store.specs.Private.ReturnedNotes.{freed_width}
+use Rattle.shelf_store.specs.Private.ReturnedNotes.{freed_width, returned_notes}
 use Rattle.shelf_store.proofs.ByHeight.MergedByHeight.{length-raised_unless}
 use Rattle.shelf_model.specs.ById.{TakesAway, Undoes}
 use Rattle.shelf_model.specs.Places.{allocations, is_allocated}
@@ -84,7 +84,7 @@ invariant_of-self c =
       columns = omega (
         arith,
         ap length c.return_item.ensures.by_height,
-        length-raised_unless (is_noted c.self.inside.pending.notes (shelf_of c.self.inside.records.items c.in-Some.number)) (shelf_of c.self.inside.records.items c.in-Some.number) (freed_width c.self.inside.records.items c.in-Some.number) c.self.inside.by_height.items,
+        length-raised_unless (is_noted (returned_notes c.in-Some.number c.self.inside.records c.self.inside.pending.notes) (shelf_of c.self.inside.records.items c.in-Some.number)) (shelf_of c.self.inside.records.items c.in-Some.number) (freed_width c.self.inside.records.items c.in-Some.number) c.self.inside.by_height.items,
         c.self.invariant.columns,
       );
       room_to_note = omega (
