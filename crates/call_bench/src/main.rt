@@ -86,9 +86,11 @@ fn call_and_end<A: Called>(
 /// Makes the calls of the commands, and counts the rectangles that were given.
 fn call_all<A: Called>(alloc: Global, atlas: &mut A, commands: &[A::Command]) -> Result<u64> {
     let mut ids = Vec::with_capacity(alloc, commands.len())?;
+    let mut given = 0_u64;
     for command in commands {
         let id = atlas.call(*command, ids.as_slice())?;
+        given = given.saturating_add(u64::from(id.is_some()));
         ids.push(id)?;
     }
-    Ok(ids.iter().filter(|id| id.is_some()).count() as u64)
+    Ok(given)
 }

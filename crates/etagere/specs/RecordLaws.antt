@@ -19,7 +19,7 @@ BrokenStandsForNone =
     (atlas : AtlasRecords) (state : AtlasState) (fault : RestoreFault) → IsBroken atlas fault
     → StandsFor atlas state → fault ≡ Memory
 
--- where records stand for a state, an answer that names a rule that they break is want of memory
+-- where records stand for a state, an answer that names a rule that they break says that memory ran out
 abbrev pub OnlyMemoryIsWanting : Type 0
 OnlyMemoryIsWanting =
     (atlas : AtlasRecords) (state : AtlasState) (answer : Result AtlasState RestoreFault) → StandsFor atlas state

@@ -3,18 +3,15 @@
 //! Definitions: `ByHeight`. Each shelf has beside it a width that none of its free items passes, so a search
 //! passes over a shelf by one comparison.
 
-ghost use Rattle.std.specs.Prelude.{◌≡◌, ◌+◌, ◌*◌, ◌<◌, ◌≤◌, ◌^◌, OnErr, OnOk, drop, insert, length, nat_lt, remove, take, true};
+ghost use Rattle.std.specs.Prelude.{◌≡◌, ◌+◌, ◌*◌, ◌<◌, ◌≤◌, ◌^◌, drop, insert, length, nat_lt, remove, take, true};
 ghost use Rattle.std.specs.List.{AllByRecursion};
 ghost use Rattle.etagere_base.specs.Lists.{times};
 ghost use Rattle.etagere_links.specs.Links.{no_link};
-ghost use Rattle.shelf_records.specs.Records.{shelf_chain};
-ghost use Rattle.shelf_records.specs.RecordUses.{missing};
 ghost use Rattle.shelf_heights.specs.Private.ByHeight as spec;
 ghost use Rattle.shelf_heights.specs.Private.ByHeight.{AreInOrder, IsStart};
 
 use crate::by_height::{BoundedShelf, ShelvesByHeight};
-use shelf_records::{LinkedShelf, Records};
-use std::alloc::AllocError;
+use shelf_records::LinkedShelf;
 
 /// Where the shelves begin that don't come before an order, and how many shelves were looked at for it.
 #[derive(Clone, Copy)]
@@ -426,8 +423,13 @@ pub fn put_in(
 }
 
 /// Moves the shelf at this position to where it stands in the order by the records as they are now, in which its height
-/// may have changed.
-pub fn settle(shelves: &[LinkedShelf], by_height: &mut ShelvesByHeight, shelf: usize, index: usize)
+/// may have changed, and gives its position.
+pub fn settle(
+    shelves: &[LinkedShelf],
+    by_height: &mut ShelvesByHeight,
+    shelf: usize,
+    index: usize,
+) -> usize
     requires index { index < length by_height.old.items }
     requires shelf { (spec.bounded_at by_height.old.items index).shelf ≡ shelf }
     requires once { times shelf (spec.numbers_by_height by_height.old.items) ≤ 1 }
@@ -437,6 +439,8 @@ pub fn settle(shelves: &[LinkedShelf], by_height: &mut ShelvesByHeight, shelf: u
         ≡ spec.put_in shelves.now
         (record { widest = spec.bound_of shelf by_height.old.items; shelf = shelf })
         (spec.taken_out shelf by_height.old.items) }
+    ensures within { result < length by_height.new.items }
+    ensures stands { (spec.bounded_at by_height.new.items result).shelf ≡ shelf }
     ensures capacity { by_height.new.capacity ≡ by_height.old.capacity }
     ensures len { length by_height.new.items ≡ length by_height.old.items }
 {
@@ -444,6 +448,7 @@ pub fn settle(shelves: &[LinkedShelf], by_height: &mut ShelvesByHeight, shelf: u
     if to != index {
         move_to(by_height, shelf, index, to);
     }
+    to
 }
 
 /// Moves the shelf at one position to another one, and keeps that. Never inlined, so that a shelf that stays costs no call.
@@ -459,30 +464,6 @@ fn move_to(by_height: &mut ShelvesByHeight, shelf: usize, from: usize, to: usize
     by_height.keep_position(shelf, to);
 }
 
-/// Makes room for the shelves of so many records, of which those that are missing are to be made: an
-/// unused one has its room. The error comes only where some are missing and there was no memory.
-pub fn reserve_by_height(
-    records: &Records,
-    by_height: &mut ShelvesByHeight,
-    wanted: u32,
-) -> Result<(), AllocError>
-    requires { length records.now.shelves ≤ by_height.old.capacity }
-    ensures items { by_height.new.items ≡ by_height.old.items }
-    ensures room { OnOk result
-        (length records.now.shelves
-        + missing shelf_chain wanted records.now.unused_shelves records.now.shelves
-        ≤ by_height.new.capacity) }
-    ensures capacity { by_height.old.capacity ≤ by_height.new.capacity }
-    ensures short { OnErr result
-        (0 < missing shelf_chain wanted records.now.unused_shelves records.now.shelves) }
-{
-    let missing = records.missing_shelves(wanted as usize);
-    if missing > 0 {
-        by_height.reserve(records.shelves().len() + missing)?;
-    }
-    Ok(())
-}
-
 /// Raises the bound of a shelf to this width, where it is less.
 pub fn raise(shelves: &[LinkedShelf], by_height: &mut ShelvesByHeight, shelf: usize, width: u16)
     requires order { AreInOrder shelves.now by_height.old.items }
@@ -491,6 +472,18 @@ pub fn raise(shelves: &[LinkedShelf], by_height: &mut ShelvesByHeight, shelf: us
     ensures capacity { by_height.old.capacity ≤ by_height.new.capacity }
 {
     let index = position_of(shelves, by_height, shelf);
+    raise_at(by_height, index, width);
+}
+
+/// Raises the bound of the shelf at this position to this width, where it is less.
+pub fn raise_at(by_height: &mut ShelvesByHeight, index: usize, width: u16)
+    requires index { index < length by_height.old.items }
+    requires once { times (spec.bounded_at by_height.old.items index).shelf
+        (spec.numbers_by_height by_height.old.items) ≤ 1 }
+    ensures by_height { by_height.new.items
+        ≡ spec.raised (spec.bounded_at by_height.old.items index).shelf width by_height.old.items }
+    ensures capacity { by_height.old.capacity ≤ by_height.new.capacity }
+{
     let mut one = by_height.get(index);
     if one.widest < width {
         one.widest = width;

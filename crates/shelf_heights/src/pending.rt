@@ -152,13 +152,10 @@ impl PendingShelves {
         ensures notes { self.new.notes ≡ spec.noted_as shelf in_use self.old.notes }
         ensures room { self.new.room ≡ self.old.room }
     {
-        let known = self.standing[shelf];
+        let known = &mut self.standing[shelf];
         push_unless(&mut self.noted, known.noted, shelf);
-        self.standing[shelf] = Standing {
-            listed: known.listed,
-            in_use,
-            noted: true,
-        };
+        known.in_use = in_use;
+        known.noted = true;
     }
 
     /// Makes an entry for the shelf of this number, where there is none. Until the list follows the shelf, any record

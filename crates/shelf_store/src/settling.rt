@@ -18,7 +18,7 @@ use crate::starting::{newly_bounded, sort_shelves};
 use etagere_base::Frame;
 use etagere_links::Link;
 use shelf_heights::by_height::ShelvesByHeight;
-use shelf_heights::heights::{position_of, put_in, raise, reserve_by_height, settle, take_out};
+use shelf_heights::heights::{position_of, put_in, raise_at, settle, take_out};
 use shelf_heights::pending::{PendingShelves, follow};
 use shelf_records::Records;
 use std::alloc::{AllocError, Global};
@@ -52,10 +52,29 @@ pub fn reserve_shelves(
         (0 < missing shelf_chain wanted records.now.unused_shelves records.now.shelves) }
 {
     let missing = records.missing_shelves(wanted as usize);
-    if missing > 0 {
-        pending.reserve(records.shelves().len() + missing)?;
+    if missing == 0 {
+        return Ok(());
     }
-    reserve_by_height(records, by_height, wanted)
+    reserve_room(by_height, pending, records.shelves().len() + missing)
+}
+
+/// Makes room for so many shelves, and for notes of them. Never inlined, so that where no record is missing no call is
+/// made.
+#[inline(never)]
+fn reserve_room(
+    by_height: &mut ShelvesByHeight,
+    pending: &mut PendingShelves,
+    room: usize,
+) -> Result<(), AllocError>
+    ensures items { by_height.new.items ≡ by_height.old.items }
+    ensures notes { pending.new.notes ≡ pending.old.notes }
+    ensures room { OnOk result (room ≤ by_height.new.capacity) }
+    ensures room_to_note { OnOk result (room ≤ pending.new.room) }
+    ensures capacity { by_height.old.capacity ≤ by_height.new.capacity }
+    ensures more_room { pending.old.room ≤ pending.new.room }
+{
+    pending.reserve(room)?;
+    by_height.reserve(room)
 }
 
 /// The notes of a list that follows these records.
@@ -301,8 +320,8 @@ fn move_listed(
 {
     let index = position_of(pending.kept(), by_height, shelf);
     pending.list(shelf, records.shelves()[shelf]);
-    settle(pending.kept(), by_height, shelf, index);
-    raise(pending.kept(), by_height, shelf, frame.column_width as u16);
+    let index = settle(pending.kept(), by_height, shelf, index);
+    raise_at(by_height, index, frame.column_width as u16);
 }
 
 /// Puts a shelf that the list hasn't where its record puts it. It is looked for first behind the one before it: what is left

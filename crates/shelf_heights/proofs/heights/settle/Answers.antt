@@ -1,6 +1,7 @@
-use Rattle.std.proofs.Common.{◌≡◌, ap, arith, subst, sym, ◌∙◌}
+use Rattle.std.proofs.Common.{◌≡◌, List, ap, arith, length, subst, sym, ◌∙◌}
+use Rattle.std.proofs.lemmas.List.Edits.{get_or-insert_at, length-insert}
 use Rattle.std.specs.Prelude.{insert, remove}
-use Rattle.shelf_heights.specs.Private.ByHeight.{AreInOrder, bound_of, put_in}
+use Rattle.shelf_heights.specs.Private.ByHeight.{AreInOrder, bound_of, bounded_at, put_in}
 use Rattle.shelf_heights.specs.declared.by_height.BoundedShelf.{BoundedShelf}
 use Rattle.shelf_heights.proofs.ByHeight.Edited.{bounded_as}
 use Rattle.shelf_heights.proofs.ByHeight.Positions.{StandsAt, put-back, put_in-at, stands-there}
@@ -35,3 +36,23 @@ returns-else-to-index-clause-by_height c =
     ∙ ap (λ n. insert (remove by_height c.args.index) n one) stays
     ∙ put_in-at c.args.shelves.now one to (remove by_height c.args.index) c.start_beside-to.ensures.within c.start_beside-to.ensures.before c.start_beside-to.ensures.after
     ∙ ap (put_in c.args.shelves.now one) at.taken
+
+pub returns-then-to-index-clause-within : goal.returns-then-to-index-clause-within
+returns-then-to-index-clause-within c =
+    let by_height = c.args.by_height.now.items in
+    let others = remove by_height c.args.index in
+    omega (
+      arith,
+      ap length c.move_to.ensures.items,
+      length-insert others c.start_beside-to.result (bounded_at by_height c.args.index) c.start_beside-to.ensures.within,
+      c.start_beside-to.ensures.within,
+    )
+
+pub returns-then-to-index-clause-stands : goal.returns-then-to-index-clause-stands
+returns-then-to-index-clause-stands c =
+    let by_height = c.args.by_height.now.items in
+    let others = remove by_height c.args.index in
+    let to = c.start_beside-to.result in
+    ap (λ (l : List BoundedShelf). (bounded_at l to).shelf) c.move_to.ensures.items
+    ∙ ap (λ (one : BoundedShelf). one.shelf) (get_or-insert_at others to (bounded_at by_height c.args.index) (record { widest = 0; shelf = 0 }) c.start_beside-to.ensures.within)
+    ∙ c.requires.shelf

@@ -1,17 +1,18 @@
 use Rattle.std.proofs.Common.{◌≡◌, ◌<◌, ℕ, true, List, ap, arith, get_or, length, refl, subst, sym, ◌∙◌}
 use Rattle.etagere_base.proofs.FrameSides.{column_width-le, sides_low}
 use Rattle.shelf_records.specs.declared.records.LinkedShelf.{LinkedShelf}
-use Rattle.shelf_heights.specs.Private.ByHeight.{AreInOrder, bound_of, put_in, taken_out}
+use Rattle.shelf_heights.specs.Private.ByHeight.{AreInOrder, bound_of, put_in, raised, taken_out}
 use Rattle.shelf_heights.specs.Private.Pending.{AreByHeightButNoted, IsSettled, Notes, is_listed, is_noted, listed_as}
 use Rattle.shelf_heights.specs.declared.by_height.BoundedShelf.{BoundedShelf}
+use Rattle.shelf_heights.proofs.ByHeight.Edited.{in_order-once}
 use Rattle.shelf_heights.proofs.NotedShelves.{listed-known, listed-noted, listed-so}
-use Rattle.shelf_store.proofs.ByHeight.SettledShelves.{in_use-there, listed-stands, others-order, put-holds, put-in_place, put-settled, raised-bounded, raised-holds}
+use Rattle.shelf_store.proofs.ByHeight.SettledShelves.{in_use-there, others-order, put-holds, put-in_place, put-settled, raised-bounded, raised-holds}
 use Rattle.shelf_store.specs.Private.Settling.{AreInPlace, IsBounded}
 use Rattle.etagere_base.specs.declared.frames.Frame.{Frame}
 use Rattle.shelf_records.specs.RecordLists.{Records}
 use Rattle.shelf_records.proofs.Spelled.StandsKept.{witnesses}
 use Rattle.shelf_store.proofs.settling.move_listed.Goals as goal
-use Rattle.shelf_store.proofs.settling.move_listed.Goals.{After-kept-2, After-kept-3, After-shelves}
+use Rattle.shelf_store.proofs.settling.move_listed.Goals.{After-kept-2, After-raise_at, After-settle-index, After-shelves}
 
 -- the shelf is there
 there : (c : After-shelves) → c.args.shelf < length c.args.records.now.shelves
@@ -53,14 +54,14 @@ still-others c =
     others-order c.args.frame.now c.args.records.now c.args.pending.now.notes c.args.by_height.now.items c.requires.kept c.requires.by_height c.args.shelf c.requires.known c.requires.noted
     (one c) (read c) refl c.requires.in_use c.requires.in_place c.list.ensures.entries (is_read c)
 
-pub settle-requires-clause-order : goal.settle-requires-clause-order
-settle-requires-clause-order c =
-    rw (c.kept-2.ensures, c.list.ensures.notes, c.position_of-index.ensures.same) (still-others (goal.at.settle-requires-clause-order c).After-kept-2)
+pub settle-index-requires-clause-order : goal.settle-index-requires-clause-order
+settle-index-requires-clause-order c =
+    rw (c.kept-2.ensures, c.list.ensures.notes, c.position_of-index.ensures.same) (still-others (goal.at.settle-index-requires-clause-order c).After-kept-2)
 
 -- the list once it followed the shelf
-settled : (c : After-kept-3) → c.settle.new.by_height.items ≡ put_in (listed_as c.args.shelf c.index-shelves-shelf.result c.args.pending.now.notes).kept (record { widest = bound_of c.args.shelf c.args.by_height.now.items; shelf = c.args.shelf }) (taken_out c.args.shelf c.args.by_height.now.items)
+settled : (c : After-settle-index) → c.settle-index.new.by_height.items ≡ put_in (listed_as c.args.shelf c.index-shelves-shelf.result c.args.pending.now.notes).kept (record { widest = bound_of c.args.shelf c.args.by_height.now.items; shelf = c.args.shelf }) (taken_out c.args.shelf c.args.by_height.now.items)
 settled c =
-    rw (c.settle.ensures.by_height, c.kept-2.ensures, c.list.ensures.notes, c.position_of-index.ensures.same) refl
+    rw (c.settle-index.ensures.by_height, c.kept-2.ensures, c.list.ensures.notes, c.position_of-index.ensures.same) refl
 
 -- what holds of it
 record Follows (frame : Frame) (records : Records) (notes : Notes) (by_height : List BoundedShelf) (shelf : ℕ) : Type 0 where
@@ -89,43 +90,42 @@ followed c =
       listed = listed-so notes c.args.shelf (read c) c.requires.known;
     }
 
-follows : (c : After-kept-3) → Follows c.args.frame.now c.args.records.now (listed_as c.args.shelf c.index-shelves-shelf.result c.args.pending.now.notes) (put_in (listed_as c.args.shelf c.index-shelves-shelf.result c.args.pending.now.notes).kept (record { widest = bound_of c.args.shelf c.args.by_height.now.items; shelf = c.args.shelf }) (taken_out c.args.shelf c.args.by_height.now.items)) c.args.shelf
-    → Follows c.args.frame.now c.args.records.now c.list.new.self.notes c.settle.new.by_height.items c.args.shelf
+follows : (c : After-settle-index) → Follows c.args.frame.now c.args.records.now (listed_as c.args.shelf c.index-shelves-shelf.result c.args.pending.now.notes) (put_in (listed_as c.args.shelf c.index-shelves-shelf.result c.args.pending.now.notes).kept (record { widest = bound_of c.args.shelf c.args.by_height.now.items; shelf = c.args.shelf }) (taken_out c.args.shelf c.args.by_height.now.items)) c.args.shelf
+    → Follows c.args.frame.now c.args.records.now c.list.new.self.notes c.settle-index.new.by_height.items c.args.shelf
 follows c put =
-    subst (λ (notes : Notes). Follows c.args.frame.now c.args.records.now notes c.settle.new.by_height.items c.args.shelf) (sym c.list.ensures.notes)
+    subst (λ (notes : Notes). Follows c.args.frame.now c.args.records.now notes c.settle-index.new.by_height.items c.args.shelf) (sym c.list.ensures.notes)
     (subst (λ (by_height : List BoundedShelf). Follows c.args.frame.now c.args.records.now (listed_as c.args.shelf c.index-shelves-shelf.result c.args.pending.now.notes) by_height c.args.shelf) (sym (settled c)) put)
 
-pub raise-requires-clause-order : goal.raise-requires-clause-order
-raise-requires-clause-order c =
-    let at = goal.at.raise-requires-clause-order c in
-    rw c.kept-3.ensures ((follows at.After-kept-3 (followed at.After-kept-2)).holds.order)
+pub raise_at-requires-clause-once : goal.raise_at-requires-clause-once
+raise_at-requires-clause-once c =
+    let at = goal.at.raise_at-requires-clause-once c in
+    let is = follows at.After-settle-index (followed at.After-kept-2) in
+    rw c.settle-index.ensures.stands (in_order-once c.list.new.self.notes.kept c.settle-index.new.by_height.items c.args.shelf is.holds.order)
 
-pub raise-requires-clause-stands : goal.raise-requires-clause-stands
-raise-requires-clause-stands c =
-    let at = goal.at.raise-requires-clause-stands c in
-    let is = follows at.After-kept-3 (followed at.After-kept-2) in
-    listed-stands c.args.frame.now c.args.records.now c.list.new.self.notes c.settle.new.by_height.items c.requires.kept is.holds c.args.shelf is.listed
+-- the bound that rises is that of the shelf
+risen : (c : After-raise_at) → c.raise_at.new.by_height.items ≡ raised c.args.shelf c.args.frame.now.column_width c.settle-index.new.by_height.items
+risen c = c.raise_at.ensures.by_height ∙ ap (λ n. raised n c.args.frame.now.column_width c.settle-index.new.by_height.items) c.settle-index.ensures.stands
 
 pub returns-clause-by_height : goal.returns-clause-by_height
 returns-clause-by_height c =
     let at = goal.at.returns-clause-by_height c in
-    let is = follows at.After-kept-3 (followed at.After-kept-2) in
-    subst (AreByHeightButNoted c.args.frame.now c.args.records.now c.list.new.self.notes) (sym c.raise.ensures.by_height)
-    (raised-holds c.args.frame.now c.args.records.now c.list.new.self.notes c.settle.new.by_height.items c.requires.kept is.holds c.args.shelf is.known is.noted c.args.frame.now.column_width)
+    let is = follows at.After-settle-index (followed at.After-kept-2) in
+    subst (AreByHeightButNoted c.args.frame.now c.args.records.now c.list.new.self.notes) (sym (risen at.After-raise_at))
+    (raised-holds c.args.frame.now c.args.records.now c.list.new.self.notes c.settle-index.new.by_height.items c.requires.kept is.holds c.args.shelf is.known is.noted c.args.frame.now.column_width)
 
 pub returns-clause-in_place : goal.returns-clause-in_place
 returns-clause-in_place c =
     let at = goal.at.returns-clause-in_place c in
-    (follows at.After-kept-3 (followed at.After-kept-2)).in_place
+    (follows at.After-settle-index (followed at.After-kept-2)).in_place
 
 pub returns-clause-settled : goal.returns-clause-settled
 returns-clause-settled c =
     let at = goal.at.returns-clause-settled c in
-    (follows at.After-kept-3 (followed at.After-kept-2)).settled
+    (follows at.After-settle-index (followed at.After-kept-2)).settled
 
 pub returns-clause-bounded : goal.returns-clause-bounded
 returns-clause-bounded c =
     let at = goal.at.returns-clause-bounded c in
-    let is = follows at.After-kept-3 (followed at.After-kept-2) in
-    subst (IsBounded c.args.frame.now c.args.records.now c.args.shelf) (sym c.raise.ensures.by_height)
-    (raised-bounded c.args.frame.now c.args.records.now c.list.new.self.notes c.settle.new.by_height.items c.requires.kept is.holds c.args.shelf is.known is.noted c.args.frame.now.column_width (omega arith))
+    let is = follows at.After-settle-index (followed at.After-kept-2) in
+    subst (IsBounded c.args.frame.now c.args.records.now c.args.shelf) (sym (risen at.After-raise_at))
+    (raised-bounded c.args.frame.now c.args.records.now c.list.new.self.notes c.settle-index.new.by_height.items c.requires.kept is.holds c.args.shelf is.known is.noted c.args.frame.now.column_width (omega arith))

@@ -13,20 +13,20 @@ noted standing numbers shelf one false counts below was some = counted-noted sta
 pub push_unless-requires-clause-room : goal.push_unless-requires-clause-room
 push_unless-requires-clause-room c = λ none.
     let below = entry-in c.self.inside c.args.self.now c.args.shelf c.self.view_is c.requires in
-    let known = read-standing c.self.inside.standing.items c.args.shelf c.index-known.result.now below c.index-known.ensures in
+    let known = read-standing c.self.inside.standing.items c.args.shelf c.index_mut-known.result.now below c.index_mut-known.ensures.value in
     omega (arith, room-left c.self.inside.standing.items c.self.inside.noted.items c.args.shelf c.self.invariant.counts below (ap (λ (s : Standing). s.noted) known ∙ none), c.self.invariant.fits)
 
 pub invariant_of-self : goal.invariant_of-self
 invariant_of-self c =
     let standing : List Standing = c.self.inside.standing.items in
     let below = entry-in c.self.inside c.args.self.now c.args.shelf c.self.view_is c.requires in
-    let known = read-standing standing c.args.shelf c.index-known.result.now below c.index-known.ensures in
-    let one : Standing = record { listed = c.index-known.result.now.listed; in_use = c.args.in_use; noted = true } in
+    let known = read-standing standing c.args.shelf c.index_mut-known.result.now below c.index_mut-known.ensures.value in
+    let one : Standing = record { listed = c.index_mut-known.result.now.listed; in_use = c.args.in_use; noted = true } in
     let long = length-set standing c.args.shelf one in
     record {
       equal = omega (arith, c.self.invariant.equal, long);
       counts = subst (AreCounted (set standing c.args.shelf one)) (sym c.push_unless.ensures.items)
-          (noted standing c.self.inside.noted.items c.args.shelf one c.index-known.result.now.noted c.self.invariant.counts below (ap (λ (s : Standing). s.noted) known) refl);
+          (noted standing c.self.inside.noted.items c.args.shelf one c.index_mut-known.result.now.noted c.self.invariant.counts below (ap (λ (s : Standing). s.noted) known) refl);
       fits = omega (arith, c.self.invariant.fits, c.push_unless.ensures.capacity, long);
       few = omega (arith, c.self.invariant.few, long);
     }
