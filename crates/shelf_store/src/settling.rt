@@ -23,8 +23,11 @@ use shelf_heights::pending::{PendingShelves, follow};
 use shelf_records::Records;
 use std::alloc::{AllocError, Global};
 
+/// Where no more than so many have changed, each is moved by itself.
+const FEW: usize = 4;
+
 /// Where more than so many have changed, and more than an eighth, all shelves in use are sorted anew.
-const FEW: usize = 32;
+const MANY: usize = 32;
 
 /// Makes room for the shelves of so many records, and for notes of them, of which those that are missing are to be made: an
 /// unused one has its room. The error comes only where some are missing and there was no memory.
@@ -148,13 +151,19 @@ fn settle_noted(
     ensures capacity { by_height.old.capacity ≤ by_height.new.capacity }
     ensures room { pending.new.room ≡ pending.old.room }
 {
-    if pending.len() > FEW && pending.len() > by_height.len() / 8 {
+    if are_many(pending.len(), by_height.len()) {
         sort_shelves(frame, records, by_height);
         settle_notes(frame, records, by_height, pending);
     } else {
         take_out_moved(frame, records, by_height, pending);
         settle_each(frame, records, by_height, pending);
     }
+}
+
+/// Whether so many of the shelves have changed that it is less work to sort all: as many as the list has, or many and more
+/// than an eighth.
+fn are_many(changed: usize, listed: usize) -> bool {
+    changed > FEW && (changed >= listed || (changed > MANY && changed > listed / 8))
 }
 
 /// Takes those out of the list that have changed and are out of use, or begin elsewhere by now.
