@@ -32,7 +32,7 @@ use crate::places::PagedAllocation;
 use crate::saving::{PagesSnapshot, restored_pages, saved_pages};
 use etagere::{AllocId, AtlasAllocator, Rectangle, Size, UnknownId};
 use etagere_base::atlas_frame;
-use shelf_store::choosing::fits_when_empty;
+use shelf_search::choosing::fits_when_empty;
 use std::alloc::{AllocError, Global};
 use std::io::{self, Write};
 use std::marker::Model;

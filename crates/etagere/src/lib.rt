@@ -3,8 +3,8 @@
 //! The calls are in `atlas`, the form of `restore` that counts its steps in `laws`, the iterator in `listing`, and what
 //! callers in C keep in `plain`. The layers below are crates of their own, not meant for users: `shelf_model` has the
 //! model and its laws, `shelf_records` what records spell and are saved as, `shelf_heights` the shelves by height,
-//! `shelf_store` what calls do to records, and `shelf_restoring` how a snapshot is judged. The bucketed atlas of
-//! `etagere_bucketed` is re-exported.
+//! `shelf_notes` what is noted beside these, `shelf_search` what calls find out from records, `shelf_store` what they
+//! change, and `shelf_restoring` how a snapshot is judged. The bucketed atlas of `etagere_bucketed` is re-exported.
 #![tactic(auto)]
 
 mod atlas;

@@ -12,7 +12,7 @@ ghost use Rattle.shelf_records.specs.Private.Reading as reading;
 
 use etagere_base::{AllocId, Allocation, Frame, INDEX_MODULUS};
 use shelf_records::{LinkedItem, Records};
-use shelf_store::looking::recorded_rectangle;
+use shelf_search::looking::recorded_rectangle;
 use std::alloc::AllocError;
 use std::iter::FusedIterator;
 use std::marker::Model;

@@ -12,7 +12,7 @@ use crate::allocating::Allocates;
 use atlas_pages::{AtlasPages, PagedAllocation};
 use etagere::Size;
 use etagere_base::atlas_frame;
-use shelf_store::choosing::fits_when_empty;
+use shelf_search::choosing::fits_when_empty;
 use std::alloc::AllocError;
 
 impl Allocates for AtlasPages {

@@ -4,7 +4,9 @@ pub mod LeftOver
 pub mod MovedLists
 pub mod PairedShelves
 pub mod PassedBounds
+pub mod PlacesRise
 pub mod Positions
+pub mod RisingNumbers
 pub mod SameBounds
 pub mod ShiftedLists
 pub mod SortedKeys

@@ -1,4 +1,1 @@
 pub mod ByHeight
-pub mod Followed
-pub mod Noted
-pub mod NotedShelves

@@ -3,4 +3,3 @@ pub mod ByHeight
 pub mod FrontRoom
 pub mod ListFields
 pub mod OneBound
-pub mod Pending

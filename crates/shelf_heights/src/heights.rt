@@ -45,6 +45,15 @@ pub fn chain_order(along: u16, across: u16) -> u32
     u32::from(along) * 65536 + u32::from(across)
 }
 
+/// Where the shelf of this number begins, as one number.
+pub fn chain_order_of(shelves: &[LinkedShelf], shelf: usize) -> u32
+    requires { shelf < length shelves.now }
+    ensures { result ≡ spec.chain_order shelves.now shelf }
+{
+    let record = &shelves[shelf];
+    chain_order(record.x, record.y)
+}
+
 /// Where a shelf stands in the order.
 pub fn order_of(shelves: &[LinkedShelf], shelf: usize) -> u64
     requires { shelf < length shelves.now }

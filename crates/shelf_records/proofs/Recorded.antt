@@ -1,4 +1,4 @@
--- What records say of what is allocated, of what is chosen, and of what is drawn.
+-- What records say of what is allocated.
 pub mod Members
 pub mod RecordedAllocations
 pub mod RecordsOfIds

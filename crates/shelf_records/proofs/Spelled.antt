@@ -1,5 +1,7 @@
 -- What linked records spell, and how each edit of them changes it.
+pub mod EntryValues
 pub mod HeightsBefore
+pub mod KeptShelves
 pub mod RecordValues
 pub mod SpelledNumbers
 pub mod SpelledPlaces

@@ -1,26 +1,16 @@
--- The shelves in use by height: how the list is searched and changed.
-pub mod BestByHeight
+-- The shelves in use by height: how the list follows what changes, and is made anew.
 pub mod CollectedShelves
-pub mod EarliestChosen
-pub mod EarliestShelves
-pub mod EmptyShelves
+pub mod Followed
 pub mod FreedBounds
 pub mod FreedByHeight
 pub mod LaterNotes
-pub mod LeastOffers
 pub mod MergedByHeight
 pub mod MetShelves
 pub mod NewByHeight
 pub mod NumberedBounds
-pub mod PassedShelves
-pub mod PlacesRise
 pub mod RoomByHeight
-pub mod RisingNumbers
-pub mod SearchableShelves
-pub mod SearchedOnes
 pub mod SettledShelves
-pub mod Searches
-pub mod SplitOrders
 pub mod SplitByHeight
+pub mod SplitOrders
 pub mod TakenBounds
 pub mod TakenByHeight

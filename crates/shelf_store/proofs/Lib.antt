@@ -1,5 +1,4 @@
 pub mod ByHeight
 pub mod Grown
 pub mod Recorded
-pub mod Searched
 pub mod Spelled

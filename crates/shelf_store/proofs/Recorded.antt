@@ -1,6 +1,4 @@
--- What records say of what is allocated, of what is chosen, and of what is drawn.
-pub mod DrawnLines
-pub mod DrawnWalks
+-- What records say of what is allocated, and of what is taken and returned.
 pub mod RecordedArea
 pub mod RecordedListing
 pub mod RecordedReturn

@@ -1,7 +1,6 @@
 -- What linked records spell, and how each edit of them changes it.
 pub mod AbsorbedItems
 pub mod EmptinessSaid
-pub mod EntryValues
 pub mod FreshKept
 pub mod GivenItems
 pub mod ItemFits

@@ -25,8 +25,8 @@ use crate::settling::{reserve_shelves, settle_notes};
 use crate::starting::{reorder_shelves, sort_shelves};
 use etagere_base::{Frame, LONGEST_SIDE, ResizeFault, Size, resize_fault};
 use shelf_heights::by_height::ShelvesByHeight;
-use shelf_heights::pending::PendingShelves;
 use shelf_model::faults::AtlasGrowFault;
+use shelf_notes::pending::PendingShelves;
 use shelf_records::Records;
 use std::alloc::AllocError;
 

@@ -12,7 +12,7 @@ ghost use Rattle.shelf_records.specs.AtlasRecords.{shelf_of};
 ghost use Rattle.shelf_store.specs.Private.ItemReturned as returned;
 ghost use Rattle.shelf_store.specs.Private.ItemReturned.{CanMergeItem, CanMergeShelves, CanReturn, FreeNextIsThere, HeightsFit, AreThere, WidthsFit};
 ghost use Rattle.shelf_heights.specs.Private.ByHeight.{AreInOrder, numbers_by_height};
-ghost use Rattle.shelf_heights.specs.Private.Pending.{is_noted};
+ghost use Rattle.shelf_notes.specs.Private.Pending.{is_noted};
 ghost use Rattle.shelf_store.specs.Private.ReturnedNotes as noting;
 ghost use Rattle.shelf_store.specs.Private.ReturnedNotes.{CanMergeAllNotes, CanMergeNamedNotes, CanMergeNotes, CanReturnByHeight};
 ghost use Rattle.etagere_links.specs.Edits.{link_at};
@@ -23,7 +23,7 @@ ghost use Rattle.shelf_records.specs.Records.{shelf_chain};
 use etagere_links::{Chain, Link, previous_of};
 use shelf_heights::by_height::ShelvesByHeight;
 use shelf_heights::heights::raise;
-use shelf_heights::pending::PendingShelves;
+use shelf_notes::pending::PendingShelves;
 use shelf_records::{LinkedItem, LinkedShelf, Records};
 
 /// The item that remains where one was freed, and how many item records became unused.

@@ -9,18 +9,18 @@ ghost use Rattle.shelf_records.specs.RecordUses.{missing};
 ghost use Rattle.shelf_records.specs.Records.{shelf_chain};
 ghost use Rattle.shelf_heights.specs.Private.ByHeight.{AreByHeight, AreInOrder, chain_order, numbers_by_height};
 ghost use Rattle.etagere_base.specs.Lists.{times};
-ghost use Rattle.shelf_heights.specs.Private.Pending.{AreByHeightButNoted, IsSettled, is_in_use, is_listed, is_noted};
+ghost use Rattle.etagere_links.specs.Links.{no_link};
+ghost use Rattle.shelf_notes.specs.Private.Pending.{is_in_use, is_listed, is_noted};
 ghost use Rattle.shelf_records.specs.Private.Kept.{AreKept};
-ghost use Rattle.shelf_store.specs.Private.Settling.{AreInPlace, AreSettled, IsBounded, IsInPlace};
+ghost use Rattle.shelf_store.specs.Private.Settling.{AreByHeightButNoted, AreInPlace, AreSettled, Follows, IsBounded, IsInPlace, IsSettled};
 
-use crate::choosing::chain_order_of;
 use crate::starting::{newly_bounded, sort_shelves};
 use etagere_base::Frame;
 use etagere_links::Link;
 use shelf_heights::by_height::ShelvesByHeight;
-use shelf_heights::heights::{position_of, put_in, raise_at, settle, take_out};
-use shelf_heights::pending::{PendingShelves, follow};
-use shelf_records::Records;
+use shelf_heights::heights::{chain_order_of, position_of, put_in, raise_at, settle, take_out};
+use shelf_notes::pending::PendingShelves;
+use shelf_records::{LinkedShelf, Records};
 use std::alloc::{AllocError, Global};
 
 /// Where no more than so many have changed, each is moved by itself.
@@ -111,6 +111,20 @@ pub fn settle_notes(
     ensures room { pending.new.room ≡ pending.old.room }
 {
     follow(pending, records.shelves(), by_height);
+}
+
+/// Makes the notes those of a list that follows these records, which has just the shelves in use.
+fn follow(pending: &mut PendingShelves, shelves: &[LinkedShelf], by_height: &ShelvesByHeight)
+    requires order { AreInOrder shelves.now by_height.now.items }
+    requires room { length shelves.now ≤ pending.old.room }
+    requires few { length shelves.now ≤ no_link }
+    ensures notes { Follows shelves.now by_height.now.items pending.new.notes }
+    ensures room { pending.new.room ≡ pending.old.room }
+{
+    pending.restart(shelves);
+    for index in 0..by_height.len() {
+        pending.put_to_use(by_height.shelf(index));
+    }
 }
 
 /// Makes the list follow what was noted.

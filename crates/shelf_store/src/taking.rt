@@ -16,8 +16,8 @@ use crate::settling::reserve_shelves;
 use etagere_base::{AllocId, INDEX_MODULUS};
 use etagere_links::Link;
 use shelf_heights::by_height::ShelvesByHeight;
-use shelf_heights::pending::PendingShelves;
 use shelf_model::placements::Placement;
+use shelf_notes::pending::PendingShelves;
 use shelf_records::{LinkedItem, LinkedShelf, Records};
 use std::alloc::AllocError;
 

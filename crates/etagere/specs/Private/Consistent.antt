@@ -1,7 +1,7 @@
 -- What the fields of an atlas keep, and the state that they stand for.
 use Rattle.std.specs.Prelude.{◌≡◌, ◌≤◌, length}
 use Rattle.etagere.specs.declared.atlas.AtlasAllocator.TheInside.{Inside}
-use Rattle.shelf_heights.specs.Private.Pending.{AreByHeightButNoted}
+use Rattle.shelf_store.specs.Private.Settling.{AreByHeightButNoted}
 use Rattle.shelf_records.specs.Private.Kept.{AreKept, state_of}
 use Rattle.shelf_model.specs.Space.{allocated_space}
 use Rattle.shelf_model.specs.State.{AtlasState, items_in_use}

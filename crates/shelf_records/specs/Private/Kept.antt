@@ -3,6 +3,7 @@
 use Rattle.std.specs.Prelude.{◌≡◌, ℕ, ◌≤◌, Option, Some, List, pos, slice_get}
 use Rattle.etagere_base.specs.Lists.{times}
 use Rattle.etagere_base.specs.declared.frames.Frame.{Frame}
+use Rattle.etagere_base.specs.declared.geometry.Size.{Size}
 use Rattle.std.specs.List.{AllByRecursion}
 use Rattle.etagere_links.specs.Edits.{link_at}
 use Rattle.etagere_links.specs.Walks.{walk_by}
@@ -11,7 +12,7 @@ use Rattle.shelf_records.specs.Records.{free_list, item_chain, shelf_chain}
 use Rattle.shelf_records.specs.AtlasRecords.{AtlasRecords, spelled_state}
 use Rattle.shelf_records.specs.Private.Restoring.{Fits}
 use Rattle.shelf_records.specs.StandsFor.{StandsFor}
-use Rattle.shelf_model.specs.Choice.{Placement}
+use Rattle.shelf_model.specs.Choice.{Placement, placement_of}
 use Rattle.shelf_model.specs.Space.{space_in}
 use Rattle.shelf_model.specs.State.{AtlasState}
 
@@ -63,3 +64,10 @@ pub record Locates (records : Records) (found placement : Placement) : Type 0 wh
   pub shelf : found.shelf ≡ entry.number
   pub item : slice_get entry.items placement.item ≡ Some found.item
   pub same : found ≡ record placement { shelf = found.shelf; item = found.item }
+
+-- what was found for a size is its placement, by the numbers of records
+pub record Finds (frame : Frame) (records : Records) (size : Size) (found : Placement)
+    : Type 0 where
+  pub placement : Placement
+  pub placed : placement_of (state_of frame records) size ≡ Some placement
+  pub located : Locates records found placement

@@ -8,8 +8,8 @@ use Rattle.shelf_records.specs.Records.{shelf_chain}
 use Rattle.shelf_heights.specs.Private.ByHeight.{newly_bounded}
 use Rattle.shelf_records.specs.Private.Kept.{AreKept}
 use Rattle.shelf_heights.specs.declared.by_height.BoundedShelf.{BoundedShelf}
-use Rattle.shelf_store.proofs.Searched.Following.{IsLeft, IsStep, none-left, step-left}
-use Rattle.shelf_store.proofs.Searched.LinkedParts.{shelves-left}
+use Rattle.shelf_records.proofs.AllLists.Following.{IsLeft, IsStep, none-left, step-left}
+use Rattle.shelf_records.proofs.AllLists.LinkedParts.{shelves-left}
 use Rattle.shelf_records.proofs.Spelled.StandsKept.{witnesses}
 
 -- the shelves in use, new by height

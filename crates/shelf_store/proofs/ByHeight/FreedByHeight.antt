@@ -11,7 +11,8 @@ use Rattle.shelf_records.specs.RecordLists.{Records, Entry, IsEntry, first_item_
 use Rattle.etagere_links.proofs.FieldChanges.{field_at-kept}
 use Rattle.shelf_records.specs.AtlasRecords.{AtlasRecords, across_of, along_of, height_of, spelled_shelf}
 use Rattle.shelf_heights.specs.Private.ByHeight.{chain_order}
-use Rattle.shelf_heights.specs.Private.Pending.{HoldsButNoted, Notes, is_noted}
+use Rattle.shelf_store.specs.Private.Settling.{HoldsButNoted}
+use Rattle.shelf_notes.specs.Private.Pending.{Notes, is_noted}
 use Rattle.shelf_store.specs.Private.ItemReturned.{emptiness_said, item_merged, names_one_free}
 use Rattle.shelf_store.specs.Private.ReturnedNotes.{freed_width, raised_unless}
 use Rattle.shelf_model.specs.State.{Shelf}

@@ -10,9 +10,10 @@ use Rattle.shelf_records.specs.AtlasRecords.{AtlasRecords, shelf_of}
 use Rattle.shelf_records.specs.RecordLists.{Entry, Records, first_item_of}
 use Rattle.shelf_records.specs.Records.{shelf_chain}
 use Rattle.shelf_heights.specs.Private.ByHeight.{order_of, raised}
-use Rattle.shelf_heights.specs.Private.Pending.{HoldsButNoted, IsBoundIn, Notes, is_noted, noted_as, standing_at}
+use Rattle.shelf_store.specs.Private.Settling.{HoldsButNoted, IsBoundIn}
+use Rattle.shelf_notes.specs.Private.Pending.{Notes, is_noted, noted_as, standing_at}
 use Rattle.shelf_heights.specs.declared.by_height.BoundedShelf.{BoundedShelf}
-use Rattle.shelf_heights.specs.declared.pending.Standing.{Standing}
+use Rattle.shelf_notes.specs.declared.pending.Standing.{Standing}
 use Rattle.shelf_heights.proofs.ByHeight.Edited.{numbers-raised}
 use Rattle.shelf_store.specs.Private.ItemReturned.{emptiness_said, empty_next, item_merged, shelf_merged}
 use Rattle.shelf_store.specs.Private.ReturnedNotes.{named_shelf_merged_notes, next_absorbed_notes, raised_unless, returned_notes, shelf_merged_notes, shelf_of_item_absorbed_notes, shelves_merged_notes}

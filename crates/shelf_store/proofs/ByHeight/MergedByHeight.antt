@@ -11,13 +11,14 @@ use Rattle.shelf_records.specs.RecordLists.{Records, Entry, shelf_numbers}
 use Rattle.shelf_records.proofs.AllLists.LinkedFrames.{shelf_numbers-append}
 use Rattle.shelf_records.specs.AtlasRecords.{AtlasRecords, height_of, item_at, spelled_shelf}
 use Rattle.shelf_heights.specs.Private.ByHeight.{IsBound, chain_order}
-use Rattle.shelf_heights.specs.Private.Pending.{HoldsButNoted, IsSettled, Notes, is_in_use, is_listed, is_noted, noted_as, once_where}
+use Rattle.shelf_store.specs.Private.Settling.{HoldsButNoted, IsSettled}
+use Rattle.shelf_notes.specs.Private.Pending.{Notes, is_in_use, is_listed, is_noted, noted_as, once_where}
 use Rattle.shelf_model.specs.State.{Item, Shelf}
 use Rattle.shelf_heights.specs.declared.by_height.BoundedShelf.{BoundedShelf}
-use Rattle.shelf_heights.specs.declared.pending.Standing.{Standing}
+use Rattle.shelf_notes.specs.declared.pending.Standing.{Standing}
 use Rattle.shelf_heights.proofs.ByHeight.Edited.{Each-raised, bounded_as, in_order-raised, numbers-raised}
-use Rattle.shelf_heights.proofs.Noted.{in_use-within, once-le, once-true}
-use Rattle.shelf_heights.proofs.NotedShelves.{noted-in_use, noted-known, noted-listed, noted-other, unnoted-before, unnoted-differs}
+use Rattle.shelf_notes.proofs.Noted.{in_use-within, once-le, once-true}
+use Rattle.shelf_notes.proofs.NotedShelves.{noted-in_use, noted-known, noted-listed, noted-other, unnoted-before, unnoted-differs}
 use Rattle.shelf_store.proofs.ByHeight.FreedBounds.{IsWithin, within-more}
 use Rattle.shelf_records.proofs.Spelled.RecordValues.{SameShelf, map-agrees}
 use Rattle.shelf_store.specs.Private.ReturnedNotes.{raised_unless}

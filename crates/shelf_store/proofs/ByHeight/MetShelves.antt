@@ -8,7 +8,7 @@ use Rattle.shelf_records.specs.RecordLists.{Records, shelf_walk}
 use Rattle.shelf_heights.specs.Private.ByHeight.{newly_bounded}
 use Rattle.shelf_records.specs.Private.Kept.{AreKept}
 use Rattle.shelf_heights.specs.declared.by_height.BoundedShelf.{BoundedShelf}
-use Rattle.shelf_store.proofs.Searched.LinkedParts.{shelf-within, shelves-left}
+use Rattle.shelf_records.proofs.AllLists.LinkedParts.{shelf-within, shelves-left}
 use Rattle.shelf_records.proofs.Spelled.StandsKept.{witnesses}
 
 -- the shelves of these numbers, new by height

@@ -26,13 +26,12 @@ use Rattle.shelf_model.specs.State.{Item, is_free, total_width}
 use Rattle.shelf_model.specs.Valid.{IsShelf}
 use Rattle.shelf_heights.specs.declared.by_height.BoundedShelf.{BoundedShelf}
 use Rattle.shelf_store.proofs.ByHeight.CollectedShelves.{in_use}
-use Rattle.shelf_store.proofs.ByHeight.LeastOffers.{same-place}
-use Rattle.shelf_store.proofs.ByHeight.PlacesRise.{LiesWithin, kept-within, places-rise}
-use Rattle.shelf_store.proofs.ByHeight.RisingNumbers.{rise-same}
+use Rattle.shelf_heights.proofs.ByHeight.PlacesRise.{LiesWithin, kept-within, places-rise, same-place}
+use Rattle.shelf_heights.proofs.ByHeight.RisingNumbers.{rise-same}
 use Rattle.shelf_records.proofs.Judged.EqualTimes.{length-fewer}
 use Rattle.shelf_model.proofs.Places.ColumnShelves.{columns-le-shelves}
 use Rattle.shelf_records.proofs.Recorded.Members.{Each-member}
-use Rattle.shelf_store.proofs.Searched.LinkedParts.{shelves-part}
+use Rattle.shelf_records.proofs.AllLists.LinkedParts.{shelves-part}
 use Rattle.shelf_store.proofs.Spelled.FreshKept.{fresh-kept, fresh-met}
 use Rattle.shelf_store.proofs.Spelled.KeptCounts.{shelf_numbers-length}
 use Rattle.shelf_store.proofs.Spelled.NumberedLists.{numbered-at, numbered-each, numbered-field, numbered-length}

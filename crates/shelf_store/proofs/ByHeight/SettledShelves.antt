@@ -15,19 +15,19 @@ use Rattle.shelf_records.specs.RecordLists.{Records, shelf_numbers, shelf_walk, 
 use Rattle.shelf_records.specs.Private.Kept.{AreKept, bare}
 use Rattle.shelf_records.specs.declared.records.LinkedShelf.{LinkedShelf}
 use Rattle.shelf_heights.specs.Private.ByHeight.{AreByHeight, AreInOrder, chain_order, numbers_by_height, order_of, put_in, raised, taken_out}
-use Rattle.shelf_heights.specs.Private.Pending.{AreByHeightButNoted, AreTied, Follows, IsBoundIn, IsSettled, Notes, forgotten, is_in_use, is_listed, is_noted, listed_as, once_where, unlisted}
+use Rattle.shelf_notes.specs.Private.Pending.{AreTied, Notes, forgotten, is_in_use, is_listed, is_noted, listed_as, once_where, unlisted}
 use Rattle.shelf_heights.specs.declared.by_height.BoundedShelf.{BoundedShelf}
-use Rattle.shelf_heights.specs.declared.pending.Standing.{Standing}
+use Rattle.shelf_notes.specs.declared.pending.Standing.{Standing}
 use Rattle.shelf_heights.proofs.ByHeight.Edited.{Each-put_in, Each-raised, Each-taken_out, bounded_as, by_height-in_order, in_order-among, in_order-put_in, in_order-raised, in_order-taken_out, numbers-raised, numbers-taken_out, times-put_in}
 use Rattle.shelf_heights.proofs.ByHeight.Positions.{stands-within}
-use Rattle.shelf_heights.proofs.Noted.{once-false, once-true}
-use Rattle.shelf_heights.proofs.NotedShelves.{forgotten-in_use, forgotten-known, forgotten-listed, forgotten-other, listed-in_use, listed-known, listed-noted, listed-other, listed-so, unlisted-in_use, unlisted-known, unlisted-noted, unlisted-other, unlisted-so}
+use Rattle.shelf_notes.proofs.Noted.{once-false, once-true}
+use Rattle.shelf_notes.proofs.NotedShelves.{forgotten-in_use, forgotten-known, forgotten-listed, forgotten-other, listed-in_use, listed-known, listed-noted, listed-other, listed-so, unlisted-in_use, unlisted-known, unlisted-noted, unlisted-other, unlisted-so}
 use Rattle.shelf_records.proofs.Judged.EqualTimes.{length-fewer}
 use Rattle.shelf_store.proofs.ByHeight.NewByHeight.{wide-bound}
 use Rattle.shelf_store.proofs.ByHeight.RoomByHeight.{shelves-count}
 use Rattle.shelf_store.proofs.ByHeight.SplitByHeight.{used-once}
 use Rattle.shelf_store.proofs.ByHeight.SplitOrders.{StandsSame, order-stands, orders-apart}
-use Rattle.shelf_store.specs.Private.Settling.{AreInPlace, AreSettled, IsBounded, IsInPlace}
+use Rattle.shelf_store.specs.Private.Settling.{AreByHeightButNoted, AreInPlace, AreSettled, Follows, IsBoundIn, IsBounded, IsInPlace, IsSettled}
 
 -- how often a number stands where another was left out
 times-left : (k n : ℕ) (ns : List ℕ) → k ≢ n → times k (remove_place n ns) ≡ times k ns

@@ -11,15 +11,15 @@ use Rattle.shelf_records.specs.RecordLists.{Records, shelf_numbers, walked_lists
 use Rattle.shelf_records.specs.declared.records.LinkedShelf.{LinkedShelf}
 use Rattle.shelf_records.specs.AtlasRecords.{height_of, spelled_shelf}
 use Rattle.shelf_heights.specs.Private.ByHeight.{AreByHeight, AreInOrder, IsBound, chain_order, numbers_by_height, order_of}
-use Rattle.shelf_heights.specs.Private.Pending.{AreByHeightButNoted, IsSettled, Notes, is_in_use, is_listed, is_noted, noted_as, once_where, with_entry}
+use Rattle.shelf_notes.specs.Private.Pending.{Notes, is_in_use, is_listed, is_noted, noted_as, once_where, with_entry}
 use Rattle.shelf_records.specs.Private.Kept.{AreKept, bare}
-use Rattle.shelf_store.specs.Private.Settling.{AreSettled}
+use Rattle.shelf_store.specs.Private.Settling.{AreByHeightButNoted, AreSettled, IsSettled}
 use Rattle.shelf_model.specs.State.{Shelf}
 use Rattle.shelf_heights.specs.declared.by_height.BoundedShelf.{BoundedShelf}
-use Rattle.shelf_heights.specs.declared.pending.Standing.{Standing}
+use Rattle.shelf_notes.specs.declared.pending.Standing.{Standing}
 use Rattle.shelf_heights.proofs.ByHeight.Edited.{by_height-in_order, in_order-among}
-use Rattle.shelf_heights.proofs.Noted.{in_use-within, once-true}
-use Rattle.shelf_heights.proofs.NotedShelves.{entry-known, entry-longer, entry-standing, noted-in_use, noted-known, noted-listed, noted-other, unnoted-before, unnoted-differs}
+use Rattle.shelf_notes.proofs.Noted.{in_use-within, once-true}
+use Rattle.shelf_notes.proofs.NotedShelves.{entry-known, entry-longer, entry-standing, noted-in_use, noted-known, noted-listed, noted-other, unnoted-before, unnoted-differs}
 use Rattle.shelf_store.proofs.ByHeight.NumberedBounds.{BoundsIn, IsBoundOf, bounds-numbered, bounds-split, numbered-bounds}
 use Rattle.shelf_store.proofs.ByHeight.SplitOrders.{StandsSame, order-stands}
 use Rattle.shelf_records.proofs.Spelled.StandsKept.{witnesses}

@@ -18,8 +18,8 @@ use Rattle.shelf_model.specs.Choice.{Placement}
 use Rattle.shelf_heights.specs.Private.ByHeight.{order_of, chain_order}
 use Rattle.shelf_records.specs.Private.Kept.{AreKept}
 use Rattle.shelf_store.specs.Private.PlacementTaken.{placement_taken, shelf_split_for, with_item_given, with_rest_written}
-use Rattle.shelf_store.proofs.ByHeight.PlacesRise.{LiesWithin, kept-within, places-rise}
-use Rattle.shelf_store.proofs.ByHeight.RisingNumbers.{rise-same}
+use Rattle.shelf_heights.proofs.ByHeight.PlacesRise.{LiesWithin, kept-within, places-rise}
+use Rattle.shelf_heights.proofs.ByHeight.RisingNumbers.{rise-same}
 use Rattle.shelf_records.proofs.Recorded.Members.{Each-member}
 use Rattle.shelf_store.proofs.Spelled.GivenItems.{front-shelves, given-shelves}
 use Rattle.shelf_records.proofs.Spelled.RecordValues.{SameShelf, shelf-other, shelf_values, shelves-same, SameShelf-then}

@@ -10,10 +10,10 @@ use Rattle.shelf_records.specs.declared.records.LinkedShelf.{LinkedShelf}
 use Rattle.shelf_records.specs.AtlasRecords.{spelled_shelf}
 use Rattle.shelf_model.specs.Choice.{Placement}
 use Rattle.shelf_heights.specs.Private.ByHeight.{AreByHeight, IsBound}
-use Rattle.shelf_heights.specs.Private.Pending.{AreByHeightButNoted, Notes}
+use Rattle.shelf_notes.specs.Private.Pending.{Notes}
 use Rattle.shelf_records.specs.Private.Kept.{AreKept, bare}
 use Rattle.shelf_store.specs.Private.PlacementTaken.{free_item, id_of, item_record, placement_taken, rest_shelf, rests_used_for, shelf_record, taken_notes, with_rest_notes, with_shelf_rest}
-use Rattle.shelf_store.specs.Private.Settling.{AreSettled}
+use Rattle.shelf_store.specs.Private.Settling.{AreByHeightButNoted, AreSettled}
 use Rattle.shelf_model.specs.State.{Shelf, empty_shelf}
 use Rattle.shelf_model.specs.Taking.{taken_shelf}
 use Rattle.shelf_heights.specs.declared.by_height.BoundedShelf.{BoundedShelf}

@@ -19,8 +19,8 @@ use Rattle.shelf_records.proofs.Spelled.Witnessed.{HasFlag, IsPlaced}
 use Rattle.shelf_store.specs.Private.RecordsGrown.{allocated_ends, counted_from, ends_column_at, ends_free_at, filled_ends_of, is_filled_end, last_from, needed_of}
 use Rattle.shelf_model.specs.State.{Shelf, is_empty}
 use Rattle.shelf_store.proofs.Grown.GrowSteps.{counted-next, counted-none, last-next, last-none}
-use Rattle.shelf_store.proofs.Searched.Following.{IsLeft}
-use Rattle.shelf_store.proofs.Searched.LinkedParts.{items-left, shelves-left}
+use Rattle.shelf_records.proofs.AllLists.Following.{IsLeft}
+use Rattle.shelf_records.proofs.AllLists.LinkedParts.{items-left, shelves-left}
 use Rattle.shelf_records.proofs.Spelled.SpelledPlaces.{free-spelled}
 use Rattle.shelf_records.proofs.Recorded.Members.{Each-times}
 use Rattle.shelf_records.proofs.Spelled.StandsKept.{witnesses}

@@ -35,7 +35,7 @@ use Rattle.shelf_store.proofs.Grown.HalfGrown.{HasInserted, Inserts, IsGrowing, 
 use Rattle.shelf_store.proofs.Grown.MadeLinked.{numbers_from}
 use Rattle.shelf_store.proofs.Grown.NextRecords.{item-next, shelf-next}
 use Rattle.shelf_store.proofs.Grown.UsedRecords.{fewer-left, shelf-unused, used-length, used-other}
-use Rattle.shelf_store.proofs.Spelled.EntryValues.{free_count-free}
+use Rattle.shelf_records.proofs.Spelled.EntryValues.{free_count-free}
 use Rattle.shelf_records.proofs.Spelled.RecordValues.{SameItem, SameShelf, SameShelf-then, item-same, shelf-other, shelf_values, shelves-same}
 use Rattle.shelf_store.proofs.Spelled.SpelledLists.{IsSpelledBut}
 use Rattle.shelf_store.proofs.Spelled.SpelledMerges.{unmarked-same}

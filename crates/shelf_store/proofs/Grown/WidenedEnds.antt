@@ -33,7 +33,7 @@ use Rattle.shelf_store.proofs.Grown.MadeLinked.{numbers_from}
 use Rattle.shelf_store.proofs.Grown.NextRecords.{item-next}
 use Rattle.shelf_store.proofs.Grown.UsedRecords.{fewer-left, shelf-unused, used-length}
 use Rattle.shelf_store.proofs.Grown.WidenedItems.{HasEnd, end-free, end-owners, end-places, end-spelled, end-values, ends-spelled, some-end, wide-owners, wide-places, wide-spelled}
-use Rattle.shelf_store.proofs.Spelled.EntryValues.{IsWidened, free_count-same, widened, widths}
+use Rattle.shelf_records.proofs.Spelled.EntryValues.{IsWidened, free_count-same, widened, widths}
 use Rattle.shelf_records.proofs.Spelled.RecordValues.{SameItem, SameShelf, map-agrees, shelves-same}
 use Rattle.shelf_store.proofs.Spelled.SpelledMerges.{before-other, free-first, not-member, unmarked-same}
 use Rattle.shelf_store.proofs.Spelled.SpelledSplits.{shelf-parts}

@@ -25,7 +25,7 @@ use Rattle.shelf_model.specs.State.{Item, is_free}
 use Rattle.shelf_model.proofs.Grown.GrownShelf.{free_item, wider_end}
 use Rattle.shelf_store.proofs.Grown.UsedRecords.{used-length, used-other}
 use Rattle.shelf_store.proofs.Spelled.AbsorbedItems.{frees-keep_values, items-keep_values}
-use Rattle.shelf_store.proofs.Spelled.EntryValues.{IsWidened, LieFrom-append, LieFrom-back, LieFrom-front, free_count, free_count-allocated, free_count-append, free_count-free, free_count-same, widths, widths-same}
+use Rattle.shelf_records.proofs.Spelled.EntryValues.{IsWidened, LieFrom-append, LieFrom-back, LieFrom-front, free_count, free_count-allocated, free_count-append, free_count-free, free_count-same, widths, widths-same}
 use Rattle.shelf_store.proofs.Spelled.ItemsAround.{free-item, free-none, widths-append}
 use Rattle.shelf_records.proofs.Spelled.RecordValues.{LieFrom-same, SameItem, SameItem-then, item-same, item_values, items-same, map-agrees, owners-same}
 

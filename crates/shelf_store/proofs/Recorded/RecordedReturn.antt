@@ -8,7 +8,8 @@ use Rattle.shelf_records.specs.RecordLists.{Records}
 use Rattle.shelf_model.specs.Atlas.{KeepsPromises, without_id}
 use Rattle.shelf_model.specs.Places.{allocations}
 use Rattle.shelf_records.specs.AtlasRecords.{is_allocated_at, item_at, shelf_of}
-use Rattle.shelf_heights.specs.Private.Pending.{AreByHeightButNoted, Notes}
+use Rattle.shelf_store.specs.Private.Settling.{AreByHeightButNoted}
+use Rattle.shelf_notes.specs.Private.Pending.{Notes}
 use Rattle.shelf_store.specs.Private.ItemReturned.{CanReturn, item_returned, unused_by}
 use Rattle.shelf_records.specs.Private.Kept.{AreKept, state_of}
 use Rattle.shelf_store.specs.Private.ReturnedNotes.{CanReturnByHeight, returned_by_height, returned_notes}
@@ -21,7 +22,7 @@ use Rattle.shelf_model.proofs.Promises.{promises}
 use Rattle.shelf_store.proofs.Recorded.RecordedArea.{kept-area}
 use Rattle.shelf_records.proofs.Recorded.RecordsOfIds.{marked-within, record-marked}
 use Rattle.shelf_model.proofs.Returned.ReturnedAllocated.{returned-allocated}
-use Rattle.shelf_store.proofs.Spelled.EntryValues.{id_at}
+use Rattle.shelf_records.proofs.Spelled.EntryValues.{id_at}
 use Rattle.shelf_store.proofs.Spelled.ItemReturned.{ReturnsItem, allocated-id, returns-item}
 use Rattle.shelf_records.proofs.Spelled.StandsKept.{witnesses}
 

@@ -8,11 +8,10 @@ use Rattle.etagere_base.specs.declared.ids.Allocation.{Allocation}
 use Rattle.shelf_records.specs.RecordLists.{Records}
 use Rattle.shelf_model.specs.Choice.{Placement, area, rectangle_of_placement, splits}
 use Rattle.shelf_heights.specs.Private.ByHeight.{AreByHeight}
-use Rattle.shelf_heights.specs.Private.Pending.{AreByHeightButNoted, Notes}
-use Rattle.shelf_records.specs.Private.Kept.{AreKept, state_of}
+use Rattle.shelf_notes.specs.Private.Pending.{Notes}
+use Rattle.shelf_records.specs.Private.Kept.{AreKept, Finds, state_of}
 use Rattle.shelf_store.specs.Private.PlacementTaken.{CanTakeFrom, id_of, placement_taken, taken_notes}
-use Rattle.shelf_store.specs.Private.Searching.{Finds}
-use Rattle.shelf_store.specs.Private.Settling.{AreSettled}
+use Rattle.shelf_store.specs.Private.Settling.{AreByHeightButNoted, AreSettled}
 use Rattle.shelf_model.specs.Space.{allocated_space}
 use Rattle.shelf_model.specs.State.{AtlasState, items_in_use}
 use Rattle.shelf_model.specs.Taking.{taken}

@@ -19,7 +19,7 @@ use Rattle.etagere_links.proofs.RecordFrames.{map-unlinked, map-made_unused, len
 use Rattle.shelf_records.specs.AtlasRecords.{is_allocated_at, item_place_of, shelf_of, item_at}
 use Rattle.shelf_records.specs.StandsFor.{LieFrom}
 use Rattle.shelf_model.specs.State.{Item}
-use Rattle.shelf_store.proofs.Spelled.EntryValues.{widths, LieFrom-front, LieFrom-back, LieFrom-append, widths-same, free_count, free_count-append, free_count-same, IsWidened, widened}
+use Rattle.shelf_records.proofs.Spelled.EntryValues.{widths, LieFrom-front, LieFrom-back, LieFrom-append, widths-same, free_count, free_count-append, free_count-same, IsWidened, widened}
 use Rattle.shelf_records.proofs.Spelled.RecordValues.{item_values, SameItem, items-same, item-same, SameItem-then, map-agrees, LieFrom-same, owners-same}
 
 -- what items say where one became as wide as it and the next together, and all others but the next say the same

@@ -25,7 +25,7 @@ use Rattle.shelf_model.specs.Choice.{Placement}
 use Rattle.shelf_records.proofs.Spelled.Witnessed.{HasFlag}
 use Rattle.shelf_store.specs.Private.PlacementTaken.{id_of, item_record, rest_item}
 use Rattle.shelf_model.specs.State.{Item, Shelf}
-use Rattle.shelf_store.proofs.Spelled.EntryValues.{IsGiven, id_at}
+use Rattle.shelf_records.proofs.Spelled.EntryValues.{IsGiven, id_at}
 use Rattle.shelf_records.proofs.Spelled.RecordValues.{SameItem, SameItem-then, item-same}
 use Rattle.shelf_store.proofs.Spelled.SpelledFronts.{IsFront, IsRestItem, front-values, front_given-spelled}
 use Rattle.shelf_store.proofs.Spelled.SpelledLists.{with_records, IsSpelled, EditsItems, items-edited-but}

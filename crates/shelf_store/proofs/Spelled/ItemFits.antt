@@ -18,7 +18,7 @@ use Rattle.shelf_records.specs.AtlasRecords.{AtlasRecords, is_allocated_at, spel
 use Rattle.shelf_store.specs.Private.ItemReturned.{CanMergeItem, Step, free_next, next_absorbed}
 use Rattle.shelf_model.specs.State.{total_width}
 use Rattle.shelf_model.specs.Valid.{IsShelf}
-use Rattle.shelf_store.proofs.Spelled.EntryValues.{widths}
+use Rattle.shelf_records.proofs.Spelled.EntryValues.{widths}
 use Rattle.shelf_store.proofs.Spelled.ItemMerged.{wide-items}
 use Rattle.shelf_store.proofs.Spelled.ItemsAround.{widths-append, widths-total}
 use Rattle.shelf_store.proofs.Spelled.NeighboursThere.{free-next-there, named-is, are-there}

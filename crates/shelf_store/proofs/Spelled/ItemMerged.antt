@@ -21,7 +21,7 @@ use Rattle.shelf_model.specs.Returning.{freed, freed_shelf, is_free_before, retu
 use Rattle.shelf_model.specs.State.{Item, Shelf}
 use Rattle.shelf_model.specs.Valid.{IsItem, IsShelf}
 use Rattle.shelf_model.proofs.Returned.MergedNear.{merged_items-freed}
-use Rattle.shelf_store.proofs.Spelled.EntryValues.{LieFrom-back, widths}
+use Rattle.shelf_records.proofs.Spelled.EntryValues.{LieFrom-back, widths}
 use Rattle.shelf_store.proofs.Spelled.ItemsAround.{free-next, freed-here, place-here, place-next}
 use Rattle.shelf_store.proofs.Spelled.MergedAround.{is_first_free}
 use Rattle.shelf_store.proofs.Spelled.NextMerged.{MergesNext, merges-next}

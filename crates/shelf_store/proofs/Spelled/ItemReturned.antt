@@ -22,7 +22,8 @@ use Rattle.shelf_records.specs.AtlasRecords.{AtlasRecords, is_allocated_at, item
 use Rattle.shelf_model.specs.Merging.{both_empty, combined_shelves, merged_shelf}
 use Rattle.shelf_model.specs.Places.{column_height}
 use Rattle.shelf_store.specs.Private.ItemReturned.{CanMergeItem, CanMergeShelves, CanReturn, IsLinkedBack, IsRemaining, Step, emptiness_said, item_merged, item_returned, merged_width, unused_by, shelves_merged}
-use Rattle.shelf_heights.specs.Private.Pending.{AreByHeightButNoted, HoldsButNoted, Notes, is_in_use, is_noted, once_where}
+use Rattle.shelf_store.specs.Private.Settling.{AreByHeightButNoted, HoldsButNoted}
+use Rattle.shelf_notes.specs.Private.Pending.{Notes, is_in_use, is_noted, once_where}
 use Rattle.shelf_records.specs.Private.Kept.{AreKept, atlas_of, bare, state_of}
 use Rattle.shelf_records.proofs.Spelled.Witnessed.{HasFlag, IsPlaced}
 use Rattle.shelf_store.specs.Private.ReturnedNotes.{CanReturnByHeight, freed_width, raised_unless, returned_by_height, returned_notes, shelves_merged_notes}
@@ -33,11 +34,11 @@ use Rattle.shelf_model.specs.Valid.{IsShelf, IsValid}
 use Rattle.shelf_heights.specs.declared.by_height.BoundedShelf.{BoundedShelf}
 use Rattle.shelf_store.proofs.ByHeight.FreedByHeight.{FreesByHeight, frees-by_height}
 use Rattle.shelf_store.proofs.ByHeight.LaterNotes.{merged_all-later, raised-later}
-use Rattle.shelf_heights.proofs.Noted.{in_use-within, once-true}
+use Rattle.shelf_notes.proofs.Noted.{in_use-within, once-true}
 use Rattle.shelf_model.proofs.Places.Heights.{column_height-append, column_height-none}
 use Rattle.shelf_model.proofs.Returned.ReturnedValid.{returned-valid}
 use Rattle.shelf_store.proofs.Spelled.EmptinessSaid.{IsFlagged, emptiness_said-flagged, flags-same}
-use Rattle.shelf_store.proofs.Spelled.EntryValues.{id_at}
+use Rattle.shelf_records.proofs.Spelled.EntryValues.{id_at}
 use Rattle.shelf_store.proofs.Spelled.ItemFits.{can-merge-item}
 use Rattle.shelf_store.proofs.Spelled.RemainingItem.{item-remaining}
 use Rattle.shelf_store.proofs.Spelled.ItemLocated.{HasItem, in-use-counted, located}

@@ -13,7 +13,7 @@ use Rattle.shelf_model.specs.Merging.{both_free, combined_items}
 use Rattle.shelf_model.specs.Returning.{freed, is_free_at, is_free_before, place_at}
 use Rattle.shelf_records.specs.StandsFor.{LieFrom}
 use Rattle.shelf_model.specs.State.{Item, is_free, total_width}
-use Rattle.shelf_store.proofs.Spelled.EntryValues.{widths, place-before, place-after}
+use Rattle.shelf_records.proofs.Spelled.EntryValues.{widths, place-before, place-after}
 use Rattle.shelf_store.proofs.Spelled.MergedAround.{free_item, is_first_free, freed-after, merged-next, merged-next-none, merged-previous, merged-previous-none}
 
 -- a fact of lists holds of each where it holds of the empty one, and of each with a last element

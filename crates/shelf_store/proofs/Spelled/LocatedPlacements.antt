@@ -24,7 +24,7 @@ use Rattle.shelf_records.specs.StandsFor.{LieFrom}
 use Rattle.shelf_model.specs.State.{Item, Shelf, AtlasState, is_free, total_width}
 use Rattle.shelf_model.specs.Valid.{IsItem}
 use Rattle.shelf_model.proofs.Chosen.Placed.{IsPlaced as IsChosenFor, placement_of-placed}
-use Rattle.shelf_store.proofs.Spelled.EntryValues.{widths, LieFrom-back, free_count, free_count-append, free_count-free}
+use Rattle.shelf_records.proofs.Spelled.EntryValues.{widths, LieFrom-back, free_count, free_count-append, free_count-free}
 use Rattle.shelf_store.proofs.Spelled.ItemsAround.{free-item, widths-total, place-apart}
 use Rattle.shelf_store.proofs.Spelled.TakenItemSpelled.{IsPlacedAt, free_spot}
 use Rattle.shelf_model.proofs.Taken.TakenShelves.{IsTaking, taking}

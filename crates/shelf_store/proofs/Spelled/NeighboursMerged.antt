@@ -21,7 +21,8 @@ use Rattle.shelf_store.specs.Private.ItemReturned.{Step, CanMergeShelves, Height
 use Rattle.shelf_store.specs.Private.ReturnedNotes.{CanMergeAllNotes, CanMergeNamedNotes, CanMergeNotes, named_shelf_merged_notes, shelf_merged_notes, shelves_merged_notes}
 use Rattle.shelf_model.specs.State.{Shelf}
 use Rattle.shelf_heights.specs.declared.by_height.BoundedShelf.{BoundedShelf}
-use Rattle.shelf_heights.specs.Private.Pending.{HoldsButNoted, Notes}
+use Rattle.shelf_store.specs.Private.Settling.{HoldsButNoted}
+use Rattle.shelf_notes.specs.Private.Pending.{Notes}
 use Rattle.shelf_model.proofs.Places.Heights.{column_height-merged_at, heights-le}
 use Rattle.shelf_store.proofs.Spelled.EmptinessSaid.{IsFlagged}
 use Rattle.shelf_store.proofs.Spelled.ItemsAround.{by_end}

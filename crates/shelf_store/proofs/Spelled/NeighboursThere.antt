@@ -19,7 +19,7 @@ use Rattle.etagere_links.proofs.WalkedLists.{once-part}
 use Rattle.shelf_records.specs.AtlasRecords.{AtlasRecords, is_allocated_at}
 use Rattle.shelf_store.specs.Private.ItemReturned.{FreeNextIsThere, AreThere, free_named, free_next}
 use Rattle.shelf_records.proofs.Spelled.Witnessed.{IsPlaced}
-use Rattle.shelf_store.proofs.Spelled.EntryValues.{free_count, free_count-append, free_count-free}
+use Rattle.shelf_records.proofs.Spelled.EntryValues.{free_count, free_count-append, free_count-free}
 use Rattle.shelf_store.proofs.Spelled.SpelledLists.{IsSpelled}
 use Rattle.shelf_records.proofs.Recorded.Members.{IsAmong, among}
 

@@ -20,7 +20,7 @@ use Rattle.shelf_records.proofs.Spelled.Witnessed.{IsPlaced}
 use Rattle.shelf_store.specs.Private.ReturnedNotes.{named_width}
 use Rattle.shelf_model.specs.State.{Item}
 use Rattle.shelf_store.proofs.Spelled.AbsorbedItems.{Absorbs, IsRest, rest-of, free-widens, widened-absorbs}
-use Rattle.shelf_store.proofs.Spelled.EntryValues.{IsWidened, LieFrom-back, free_count, free_count-append, free_count-free, widths}
+use Rattle.shelf_records.proofs.Spelled.EntryValues.{IsWidened, LieFrom-back, free_count, free_count-append, free_count-free, widths}
 use Rattle.shelf_store.proofs.Spelled.ItemsAround.{free-item, map-parts, next-merged, next-stays, place-apart, widths-append}
 use Rattle.shelf_store.proofs.Spelled.MergedAround.{free_item, is_first_free, remove-mapped}
 use Rattle.shelf_records.proofs.Spelled.RecordValues.{SameItem, SameShelf, items-same, map-agrees, shelves-same}

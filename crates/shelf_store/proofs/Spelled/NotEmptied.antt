@@ -9,7 +9,7 @@ use Rattle.shelf_records.specs.Records.{shelf_chain}
 use Rattle.shelf_records.specs.AtlasRecords.{along_of, is_empty_at}
 use Rattle.shelf_store.specs.Private.ItemReturned.{IsLinkedBack, IsRemaining, Step, are_both_empty, emptiness_said, has_one_free, item_merged, empty_named, empty_next, named_shelf_merged, shelf_merged, shelf_next_absorbed, shelves_merged}
 use Rattle.shelf_store.specs.Private.ReturnedNotes.{named_shelf_merged_notes, next_absorbed_notes, shelf_merged_notes, shelves_merged_notes}
-use Rattle.shelf_heights.specs.Private.Pending.{Notes}
+use Rattle.shelf_notes.specs.Private.Pending.{Notes}
 
 -- a shelf that says again what it says
 same-said : (shelf : ℕ) (is_empty : Bool) (shelves : List LinkedShelf) → is_empty_at shelves shelf ≡ is_empty → with_empty shelf is_empty shelves ≡ shelves

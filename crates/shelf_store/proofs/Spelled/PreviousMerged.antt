@@ -24,7 +24,7 @@ use Rattle.shelf_store.specs.Private.ReturnedNotes.{named_width}
 use Rattle.shelf_model.specs.Returning.{is_free_before}
 use Rattle.shelf_model.specs.State.{Item}
 use Rattle.shelf_store.proofs.Spelled.AbsorbedItems.{Absorbs, IsRest, rest-of, absorbed-items, allocated-absorbs}
-use Rattle.shelf_store.proofs.Spelled.EntryValues.{IsFreed, free_count-none}
+use Rattle.shelf_records.proofs.Spelled.EntryValues.{IsFreed, free_count-none}
 use Rattle.shelf_store.proofs.Spelled.ItemsAround.{by_end, free-before, free-item, free-none, map-parts, previous-merged, previous-stays}
 use Rattle.shelf_store.proofs.Spelled.MergedAround.{free_item}
 use Rattle.shelf_records.proofs.Spelled.RecordValues.{SameShelf, map-agrees}

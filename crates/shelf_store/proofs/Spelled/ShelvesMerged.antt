@@ -26,7 +26,8 @@ use Rattle.shelf_records.proofs.Spelled.Witnessed.{HasFlag, IsPlaced}
 use Rattle.shelf_store.specs.Private.ReturnedNotes.{next_absorbed_notes, shelf_merged_notes, shelf_of_item_absorbed_notes}
 use Rattle.shelf_model.specs.State.{Shelf, is_empty, is_free, is_one_free}
 use Rattle.shelf_heights.specs.declared.by_height.BoundedShelf.{BoundedShelf}
-use Rattle.shelf_heights.specs.Private.Pending.{HoldsButNoted, Notes}
+use Rattle.shelf_store.specs.Private.Settling.{HoldsButNoted}
+use Rattle.shelf_notes.specs.Private.Pending.{Notes}
 use Rattle.shelf_store.proofs.ByHeight.MergedByHeight.{absorbed-holds}
 use Rattle.shelf_store.proofs.Spelled.EmptinessSaid.{IsFlagged, flags-same, shelf-is}
 use Rattle.shelf_store.proofs.Spelled.ItemsAround.{free-item}

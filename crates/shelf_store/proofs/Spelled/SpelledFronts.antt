@@ -21,7 +21,7 @@ use Rattle.shelf_records.proofs.Spelled.Witnessed.{IsPlaced}
 use Rattle.shelf_records.specs.StandsFor.{LieFrom}
 use Rattle.shelf_model.specs.State.{Item}
 use Rattle.shelf_store.proofs.Spelled.AbsorbedItems.{frees-keep_values, items-keep_values}
-use Rattle.shelf_store.proofs.Spelled.EntryValues.{id_at, widths, widths-same, LieFrom-front, LieFrom-back, LieFrom-append, free_count, free_count-append, free_count-free, free_count-allocated, free_count-same}
+use Rattle.shelf_records.proofs.Spelled.EntryValues.{id_at, widths, widths-same, LieFrom-front, LieFrom-back, LieFrom-append, free_count, free_count-append, free_count-free, free_count-allocated, free_count-same}
 use Rattle.shelf_records.proofs.Spelled.RecordValues.{ItemValues, item_values, shelf_values, values-same, SameItem, SameShelf, SameItem-then, item-same, items-same, shelves-same, owners-same, LieFrom-same}
 use Rattle.shelf_store.proofs.Spelled.SpelledLists.{IsSpelledBut, EditsItems}
 use Rattle.shelf_store.proofs.Spelled.SpelledMerges.{unmarked-same, free-first, not-member, before-other, after-other}

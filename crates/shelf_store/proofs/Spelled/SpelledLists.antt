@@ -11,7 +11,7 @@ use Rattle.shelf_records.proofs.AllLists.LinkedEdits.{same-numbers, linked-apart
 use Rattle.shelf_records.specs.AtlasRecords.{AtlasRecords, is_allocated_at, item_place_of, along_of, height_of, item_at, spelled_shelf}
 use Rattle.shelf_records.specs.StandsFor.{AreStacked}
 use Rattle.shelf_model.specs.State.{Shelf}
-use Rattle.shelf_store.proofs.Spelled.EntryValues.{free_count-same}
+use Rattle.shelf_records.proofs.Spelled.EntryValues.{free_count-same}
 use Rattle.shelf_records.proofs.Spelled.RecordValues.{SameItem, SameShelf, map-agrees, LieFrom-same, owners-same}
 use Rattle.shelf_records.proofs.Spelled.Witnessed.{IsPlaced}
 use Rattle.shelf_store.proofs.Spelled.StackedEdits.{stacked-same}

@@ -21,7 +21,7 @@ use Rattle.etagere_links.proofs.RecordFrames.{length-unlinked, map-linked_betwee
 use Rattle.shelf_records.specs.AtlasRecords.{AtlasRecords, is_allocated_at, shelf_of, along_of, item_at}
 use Rattle.shelf_model.specs.State.{Item}
 use Rattle.shelf_store.proofs.Spelled.AbsorbedItems.{Absorbs, IsRest, rest-of, absorbed-places, absorbed-owners, absorbed-free, free-widens, widened-absorbs, allocated-absorbs, allocated-unmarked, frees-keep_values}
-use Rattle.shelf_store.proofs.Spelled.EntryValues.{SaysNow, IsWidened, IsFreed, IsGiven, id_at, marked, unmarked, remarked-places, free_count, free_count-append, free_count-free, free_count-allocated, free_count-none, free_count-same}
+use Rattle.shelf_records.proofs.Spelled.EntryValues.{SaysNow, IsWidened, IsFreed, IsGiven, id_at, marked, unmarked, remarked-places, free_count, free_count-append, free_count-free, free_count-allocated, free_count-none, free_count-same}
 use Rattle.shelf_records.proofs.Spelled.RecordValues.{ItemValues, item_values, shelf_values, values-same, SameItem, SameShelf, SameItem-then, items-same, shelves-same, owners-same}
 use Rattle.shelf_store.proofs.Spelled.SpelledLists.{IsSpelled, EditsItems}
 use Rattle.shelf_records.proofs.Spelled.Witnessed.{IsPlaced}

@@ -26,7 +26,7 @@ use Rattle.shelf_records.specs.AtlasRecords.{AtlasRecords, is_allocated_at, item
 use Rattle.shelf_records.proofs.Spelled.Witnessed.{HasFlag, IsPlaced}
 use Rattle.shelf_store.specs.Private.PlacementTaken.{free_item, item_record, rest_shelf, shelf_record}
 use Rattle.shelf_model.specs.State.{Item, Shelf, empty_shelf, is_empty}
-use Rattle.shelf_store.proofs.Spelled.EntryValues.{free_count-free}
+use Rattle.shelf_records.proofs.Spelled.EntryValues.{free_count-free}
 use Rattle.shelf_records.proofs.Spelled.RecordValues.{shelf_values, SameItem, SameShelf, item-same, shelves-same, shelf-other, SameShelf-then}
 use Rattle.shelf_store.proofs.Spelled.SpelledLists.{with_records, IsSpelledBut, placed-same}
 use Rattle.shelf_store.proofs.Spelled.SpelledMerges.{unmarked-same}

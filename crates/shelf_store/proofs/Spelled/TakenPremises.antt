@@ -27,7 +27,7 @@ use Rattle.shelf_records.specs.Private.Kept.{AreKept, Locates, atlas_of, state_o
 use Rattle.shelf_store.specs.Private.PlacementTaken.{CanTakeFrom, free_item, item_record, shelf_record, with_shelf_rest}
 use Rattle.shelf_model.specs.State.{Item, Shelf, AtlasState, empty_shelf, items_in_use}
 use Rattle.shelf_model.proofs.Chosen.Placed.{IsPlaced, placement_of-placed}
-use Rattle.shelf_store.proofs.Searched.FoundPlacements.{across-at}
+use Rattle.shelf_records.proofs.Spelled.KeptShelves.{across-at}
 use Rattle.shelf_store.proofs.Spelled.GivenItems.{width-read}
 use Rattle.shelf_store.proofs.Spelled.LocatedPlacements.{IsLocated}
 use Rattle.shelf_store.proofs.Spelled.NeighboursThere.{loose_shelf-there, member-neighbours, shelf-neighbours}

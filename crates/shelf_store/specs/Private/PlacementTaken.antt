@@ -13,7 +13,7 @@ use Rattle.shelf_records.specs.Records.{free_list, item_chain, shelf_chain}
 use Rattle.shelf_records.specs.RecordMerges.{item_given, front_given, shelf_split}
 use Rattle.shelf_records.specs.RecordUses.{new_item, new_shelf, rests_of, rests_used}
 use Rattle.shelf_model.specs.Choice.{Placement}
-use Rattle.shelf_heights.specs.Private.Pending.{Notes, noted_as, with_entry}
+use Rattle.shelf_notes.specs.Private.Pending.{Notes, noted_as, with_entry}
 
 -- the item record of this number
 abbrev pub item_record : List LinkedItem → ℕ → LinkedItem

@@ -9,7 +9,7 @@ use Rattle.shelf_records.specs.RecordLists.{Records, first_item_of}
 use Rattle.shelf_records.specs.Records.{shelf_chain}
 use Rattle.shelf_records.specs.AtlasRecords.{shelf_of, width_of}
 use Rattle.shelf_heights.specs.Private.ByHeight.{AreInOrder, numbers_by_height, raised}
-use Rattle.shelf_heights.specs.Private.Pending.{Notes, is_noted, noted_as}
+use Rattle.shelf_notes.specs.Private.Pending.{Notes, is_noted, noted_as}
 use Rattle.shelf_store.specs.Private.ItemReturned.{IsShelfThere, emptiness_said, empty_next, free_next, free_previous, item_merged, merged_width, shelf_merged}
 use Rattle.shelf_heights.specs.declared.by_height.BoundedShelf.{BoundedShelf}
 

@@ -1,14 +1,53 @@
 -- What holds of the notes beside the list of shelves by height while the list follows them, and once it has.
-use Rattle.std.specs.Prelude.{◌≡◌, ℕ, ◌<◌, ◌≤◌, List, false, true, length}
+use Rattle.std.specs.Prelude.{◌≡◌, ℕ, ◌<◌, ◌≤◌, List, false, true, length, []}
 use Rattle.std.specs.List.{AllByRecursion}
 use Rattle.etagere_base.specs.Lists.{times}
 use Rattle.etagere_base.specs.declared.frames.Frame.{Frame}
 use Rattle.shelf_records.specs.declared.records.LinkedShelf.{LinkedShelf}
 use Rattle.shelf_records.specs.Private.Kept.{bare}
-use Rattle.shelf_records.specs.RecordLists.{Records, shelf_numbers, walked_lists}
-use Rattle.shelf_heights.specs.Private.ByHeight.{chain_order}
-use Rattle.shelf_heights.specs.Private.Pending.{IsBoundIn, IsSettled, Notes, is_in_use, is_listed, is_noted, once_where}
+use Rattle.shelf_records.specs.RecordLists.{Entry, Records, shelf_numbers, walked_lists}
+use Rattle.shelf_heights.specs.Private.ByHeight.{AreInOrder, IsBound, chain_order, numbers_by_height}
 use Rattle.shelf_heights.specs.declared.by_height.BoundedShelf.{BoundedShelf}
+use Rattle.etagere_links.specs.Links.{no_link}
+use Rattle.shelf_records.specs.AtlasRecords.{AtlasRecords, height_of, spelled_shelf}
+use Rattle.shelf_notes.specs.Private.Pending.{Notes, is_in_use, is_listed, is_noted, once_where}
+
+-- nothing has changed since the list followed these records
+pub record Follows (shelves : List LinkedShelf) (by_height : List BoundedShelf) (notes : Notes) : Type 0 where
+  pub kept : notes.kept ≡ shelves
+  pub known : length notes.standing ≡ length shelves
+  pub noted : notes.noted ≡ []
+  pub unchanged : (k : ℕ) → is_noted notes k ≡ false
+  pub listed : (k : ℕ) → times k (numbers_by_height by_height) ≡ once_where (is_listed notes k)
+  pub in_use : (k : ℕ) → is_in_use notes k ≡ is_listed notes k
+
+-- a shelf is listed if it is in use, and then where its record puts it
+pub record IsSettled (shelves : List LinkedShelf) (notes : Notes) (shelf : ℕ) : Type 0 where
+  pub listed : is_listed notes shelf ≡ is_in_use notes shelf
+  pub place : is_listed notes shelf ≡ true → chain_order notes.kept shelf ≡ chain_order shelves shelf
+  pub height : is_listed notes shelf ≡ true → height_of notes.kept shelf ≡ height_of shelves shelf
+
+-- a width that none of the free items of a shelf passes, whichever of the entries it is
+abbrev pub IsBoundIn : AtlasRecords → List Entry → BoundedShelf → Type 0
+IsBoundIn atlas entries one =
+    AllByRecursion (λ (entry : Entry). entry.number ≡ one.shelf → IsBound one.widest (spelled_shelf atlas entry)) entries
+
+-- the list has the shelves in use in the order of their heights and places, each with a bound, but for those that have
+-- changed since it followed them
+pub record HoldsButNoted (atlas : AtlasRecords) (entries : List Entry) (notes : Notes) (by_height : List BoundedShelf)
+    : Type 0 where
+  pub listed : (k : ℕ) → times k (numbers_by_height by_height) ≡ once_where (is_listed notes k)
+  pub in_use : (k : ℕ) → times k (shelf_numbers entries) ≡ once_where (is_in_use notes k)
+  pub order : AreInOrder notes.kept by_height
+  pub settled : (k : ℕ) → is_noted notes k ≡ false → IsSettled atlas.records.shelves notes k
+  pub bounds : AllByRecursion (λ one. is_noted notes one.shelf ≡ false → IsBoundIn atlas entries one) by_height
+  pub known : length atlas.records.shelves ≤ length notes.standing
+  pub few : length atlas.records.shelves ≤ no_link
+
+-- the same of the shelves in use of these records
+abbrev pub AreByHeightButNoted : Frame → Records → Notes → List BoundedShelf → Type 0
+AreByHeightButNoted frame records notes by_height =
+    HoldsButNoted (bare frame records) (walked_lists records).entries notes by_height
 
 -- none has changed since the list followed the records: the shelves in use are listed, where their records put them
 pub record AreSettled (records : Records) (notes : Notes) : Type 0 where

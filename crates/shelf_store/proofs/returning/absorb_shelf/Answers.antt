@@ -2,7 +2,7 @@ use Rattle.std.proofs.Common.{◌≡◌, ◌<◌, false, Some, arith, length, re
 use Rattle.etagere_links.specs.Neighbours.{HasNeighbours}
 use Rattle.shelf_records.specs.RecordLists.{first_item_of}
 use Rattle.shelf_records.specs.Records.{shelf_chain}
-use Rattle.shelf_heights.proofs.NotedShelves.{noted-known}
+use Rattle.shelf_notes.proofs.NotedShelves.{noted-known}
 use Rattle.shelf_store.proofs.returning.absorb_shelf.Goals as goal
 use Rattle.shelf_store.proofs.returning.absorb_shelf.Goals.{Start}
 

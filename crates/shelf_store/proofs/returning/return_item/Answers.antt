@@ -4,7 +4,7 @@ use Rattle.shelf_records.specs.declared.records.LinkedShelf.{LinkedShelf}
 use Rattle.shelf_records.specs.RecordEdits.{shelf_changed}
 use Rattle.shelf_records.specs.RecordLists.{Records}
 use Rattle.shelf_records.specs.AtlasRecords.{shelf_of, width_of}
-use Rattle.shelf_heights.specs.Private.Pending.{Notes, is_noted}
+use Rattle.shelf_notes.specs.Private.Pending.{Notes, is_noted}
 use Rattle.shelf_heights.specs.declared.by_height.BoundedShelf.{BoundedShelf}
 use Rattle.shelf_store.specs.Private.ItemReturned.{emptiness_said, has_one_free, item_merged, merged_width}
 use Rattle.shelf_store.specs.Private.ReturnedNotes.{freed_width, raised_unless, returned_by_height, returned_notes, shelves_merged_notes}

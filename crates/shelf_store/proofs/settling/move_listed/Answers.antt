@@ -2,12 +2,12 @@ use Rattle.std.proofs.Common.{◌≡◌, ◌<◌, ℕ, true, List, ap, arith, ge
 use Rattle.etagere_base.proofs.FrameSides.{column_width-le, sides_low}
 use Rattle.shelf_records.specs.declared.records.LinkedShelf.{LinkedShelf}
 use Rattle.shelf_heights.specs.Private.ByHeight.{AreInOrder, bound_of, put_in, raised, taken_out}
-use Rattle.shelf_heights.specs.Private.Pending.{AreByHeightButNoted, IsSettled, Notes, is_listed, is_noted, listed_as}
+use Rattle.shelf_notes.specs.Private.Pending.{Notes, is_listed, is_noted, listed_as}
 use Rattle.shelf_heights.specs.declared.by_height.BoundedShelf.{BoundedShelf}
 use Rattle.shelf_heights.proofs.ByHeight.Edited.{in_order-once}
-use Rattle.shelf_heights.proofs.NotedShelves.{listed-known, listed-noted, listed-so}
+use Rattle.shelf_notes.proofs.NotedShelves.{listed-known, listed-noted, listed-so}
 use Rattle.shelf_store.proofs.ByHeight.SettledShelves.{in_use-there, others-order, put-holds, put-in_place, put-settled, raised-bounded, raised-holds}
-use Rattle.shelf_store.specs.Private.Settling.{AreInPlace, IsBounded}
+use Rattle.shelf_store.specs.Private.Settling.{AreByHeightButNoted, AreInPlace, IsBounded, IsSettled}
 use Rattle.etagere_base.specs.declared.frames.Frame.{Frame}
 use Rattle.shelf_records.specs.RecordLists.{Records}
 use Rattle.shelf_records.proofs.Spelled.StandsKept.{witnesses}

@@ -1,10 +1,10 @@
 use Rattle.std.proofs.Common.{◌≡◌, ◌<◌, List, ap, arith, get_or, length, refl, subst, ◌∙◌}
 use Rattle.shelf_records.specs.declared.records.LinkedShelf.{LinkedShelf}
 use Rattle.shelf_heights.specs.Private.ByHeight.{AreInOrder, newly_bounded, put_in, taken_out}
-use Rattle.shelf_heights.specs.Private.Pending.{AreByHeightButNoted, Notes, listed_as, once_where}
+use Rattle.shelf_notes.specs.Private.Pending.{Notes, listed_as, once_where}
 use Rattle.shelf_heights.specs.declared.by_height.BoundedShelf.{BoundedShelf}
 use Rattle.shelf_store.proofs.ByHeight.SettledShelves.{absent-stays, in_use-there, listed-stands, others-order, own-within, put-bounded, put-holds, put-in_place, put-room, put-settled}
-use Rattle.shelf_store.specs.Private.Settling.{IsBounded}
+use Rattle.shelf_store.specs.Private.Settling.{AreByHeightButNoted, IsBounded}
 use Rattle.shelf_records.proofs.Spelled.StandsKept.{witnesses}
 use Rattle.shelf_store.proofs.settling.put_in_new.Goals as goal
 use Rattle.shelf_store.proofs.settling.put_in_new.Goals.{After-kept, After-shelves}

@@ -1,6 +1,5 @@
 use Rattle.std.proofs.Common.{◌≡◌, ◌≤◌, length}
-use Rattle.shelf_heights.specs.Private.Pending.{AreByHeightButNoted}
-use Rattle.shelf_store.specs.Private.Settling.{AreInPlace}
+use Rattle.shelf_store.specs.Private.Settling.{AreByHeightButNoted, AreInPlace}
 use Rattle.shelf_store.proofs.settling.settle_each.Given as goal
 
 -- the list holds but for those that have changed, and those that it has are in place

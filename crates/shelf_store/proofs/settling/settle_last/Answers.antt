@@ -1,7 +1,7 @@
 use Rattle.std.proofs.Common.{◌-◌, ◌<◌, ℕ, List, ap, arith, get_or, length, sym, ◌∙◌}
-use Rattle.shelf_heights.specs.Private.Pending.{AreByHeightButNoted, Notes}
+use Rattle.shelf_notes.specs.Private.Pending.{Notes}
 use Rattle.shelf_store.proofs.ByHeight.SettledShelves.{popped-holds}
-use Rattle.shelf_store.specs.Private.Settling.{AreInPlace}
+use Rattle.shelf_store.specs.Private.Settling.{AreByHeightButNoted, AreInPlace}
 use Rattle.shelf_store.proofs.settling.settle_last.Goals as goal
 use Rattle.shelf_store.proofs.settling.settle_last.Goals.{After-pop}
 

@@ -1,5 +1,5 @@
 use Rattle.shelf_heights.proofs.ByHeight.Edited.{by_height-in_order}
-use Rattle.shelf_heights.specs.Private.Pending.{Follows}
+use Rattle.shelf_store.specs.Private.Settling.{Follows}
 use Rattle.shelf_records.specs.declared.records.LinkedShelf.{LinkedShelf}
 use Rattle.std.proofs.Common.{List, subst}
 use Rattle.shelf_records.proofs.Spelled.StandsKept.{witnesses}

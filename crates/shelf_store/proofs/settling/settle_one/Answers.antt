@@ -1,6 +1,6 @@
 use Rattle.std.proofs.Common.{◌≡◌, Bool, true, false, ap, arith, sym, ◌∙◌}
 use Rattle.std.specs.Prelude.{not}
-use Rattle.shelf_heights.specs.declared.pending.Standing.{Standing}
+use Rattle.shelf_notes.specs.declared.pending.Standing.{Standing}
 use Rattle.shelf_store.proofs.ByHeight.SettledShelves.{unused-bounded, unused-settled}
 use Rattle.shelf_store.proofs.settling.settle_one.Goals as goal
 

@@ -1,6 +1,6 @@
 use Rattle.std.proofs.Common.{◌≡◌, Bool, true, false, ap, arith, sym, ◌∙◌}
 use Rattle.std.specs.Prelude.{not}
-use Rattle.shelf_heights.specs.declared.pending.Standing.{Standing}
+use Rattle.shelf_notes.specs.declared.pending.Standing.{Standing}
 use Rattle.shelf_store.proofs.ByHeight.SettledShelves.{gone-holds, in_use-there, listed-within}
 use Rattle.shelf_store.proofs.settling.take_out_if_moved.Goals as goal
 

@@ -1,7 +1,7 @@
 use Rattle.std.proofs.Common.{◌+◌, ◌<◌, ℕ, List, ap, arith, length, subst, sym, take, ◌∙◌}
 use Rattle.std.proofs.lemmas.List.{take_all}
 use Rattle.etagere_base.specs.Lists.{times}
-use Rattle.shelf_heights.specs.Private.Pending.{Notes, once_where}
+use Rattle.shelf_notes.specs.Private.Pending.{Notes, once_where}
 use Rattle.shelf_store.proofs.ByHeight.SettledShelves.{AreInPlaceOf, all-in_place, one-more-in_place}
 use Rattle.shelf_store.proofs.settling.take_out_moved.Goals as goal
 

@@ -1,5 +1,6 @@
 use Rattle.std.proofs.Common.{◌≡◌, ◌≤◌, ℕ, take}
-use Rattle.shelf_heights.specs.Private.Pending.{AreByHeightButNoted, is_noted}
+use Rattle.shelf_store.specs.Private.Settling.{AreByHeightButNoted}
+use Rattle.shelf_notes.specs.Private.Pending.{is_noted}
 use Rattle.shelf_store.proofs.ByHeight.SettledShelves.{AreInPlaceOf}
 use Rattle.shelf_store.proofs.settling.take_out_moved.Given as goal
 

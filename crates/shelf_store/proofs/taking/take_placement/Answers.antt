@@ -3,7 +3,7 @@ use Rattle.shelf_records.specs.RecordLists.{Records}
 use Rattle.shelf_records.specs.RecordUses.{missing, rests_of}
 use Rattle.shelf_records.specs.Records.{shelf_chain}
 use Rattle.shelf_model.specs.Choice.{Placement}
-use Rattle.shelf_heights.specs.Private.Pending.{Notes}
+use Rattle.shelf_notes.specs.Private.Pending.{Notes}
 use Rattle.shelf_store.specs.Private.PlacementTaken.{placement_taken, shelf_split_for, with_item_given}
 use Rattle.shelf_store.proofs.ByHeight.RoomByHeight.{taken-count}
 use Rattle.shelf_store.proofs.ByHeight.SplitOrders.{length-given}

@@ -11,9 +11,9 @@ use Rattle.etagere.specs.Plain.{allocation_in, rectangle_in}
 use Rattle.etagere.specs.Private.Consistent.{IsConsistent, state_in}
 use Rattle.etagere.specs.declared.atlas.AtlasAllocator.TheInside.{Inside}
 use Rattle.shelf_heights.specs.Private.ByHeight.{AreByHeight}
-use Rattle.shelf_store.specs.Private.Settling.{AreSettled}
+use Rattle.shelf_store.specs.Private.Settling.{AreByHeightButNoted, AreSettled}
 use Rattle.shelf_records.specs.Private.Kept.{state_of}
-use Rattle.shelf_heights.specs.Private.Pending.{AreByHeightButNoted, Notes}
+use Rattle.shelf_notes.specs.Private.Pending.{Notes}
 use Rattle.shelf_store.specs.Private.PlacementTaken.{placement_taken, taken_notes}
 use Rattle.shelf_model.specs.State.{AtlasState}
 use Rattle.shelf_heights.specs.declared.by_height.BoundedShelf.{BoundedShelf}

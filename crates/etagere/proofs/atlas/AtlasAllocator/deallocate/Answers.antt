@@ -3,7 +3,7 @@ use Rattle.std.specs.Prelude.{is_some}
 use Rattle.shelf_records.specs.RecordLists.{Records}
 use Rattle.shelf_model.specs.Atlas.{KeepsPromises, Restores, without_id}
 use Rattle.shelf_records.specs.AtlasRecords.{is_allocated_at, shelf_of}
-use Rattle.shelf_heights.specs.Private.Pending.{is_noted}
+use Rattle.shelf_notes.specs.Private.Pending.{is_noted}
 use Rattle.shelf_store.specs.Private.ReturnedNotes.{freed_width, returned_notes}
 use Rattle.shelf_store.proofs.ByHeight.MergedByHeight.{length-raised_unless}
 use Rattle.shelf_model.specs.ById.{TakesAway, Undoes}

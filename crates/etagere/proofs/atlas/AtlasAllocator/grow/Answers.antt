@@ -9,8 +9,7 @@ use Rattle.shelf_model.specs.Atlas.{KeepsPromises}
 use Rattle.shelf_model.specs.Growing.{atlas_grown, grow_fault, grown_frame, records_needed, size_fault}
 use Rattle.shelf_model.specs.Places.{allocations}
 use Rattle.shelf_heights.specs.Private.ByHeight.{AreByHeight}
-use Rattle.shelf_heights.specs.Private.Pending.{AreByHeightButNoted}
-use Rattle.shelf_store.specs.Private.Settling.{AreSettled}
+use Rattle.shelf_store.specs.Private.Settling.{AreByHeightButNoted, AreSettled}
 use Rattle.shelf_store.proofs.ByHeight.NewByHeight.{columns-by_height}
 use Rattle.shelf_store.proofs.ByHeight.SplitByHeight.{settled-holds}
 use Rattle.etagere.specs.Private.Consistent.{IsConsistent, state_in}

@@ -4,7 +4,7 @@ use Rattle.std.proofs.lemmas.Int.{to_z-of_z}
 use Rattle.etagere_base.specs.Sides.{side}
 use Rattle.shelf_records.specs.AtlasRecords.{AtlasRecords, state_spelled}
 use Rattle.shelf_model.specs.Atlas.{KeepsPromises}
-use Rattle.shelf_heights.specs.Private.Pending.{AreByHeightButNoted}
+use Rattle.shelf_store.specs.Private.Settling.{AreByHeightButNoted}
 use Rattle.shelf_store.proofs.ByHeight.NewByHeight.{columns-by_height}
 use Rattle.shelf_store.proofs.ByHeight.SplitByHeight.{settled-holds}
 use Rattle.shelf_records.specs.Private.Kept.{AreKept}

@@ -1,0 +1,3 @@
+pub mod ByHeight
+pub mod Recorded
+pub mod Searched

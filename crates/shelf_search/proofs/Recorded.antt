@@ -1,0 +1,3 @@
+-- What records say of what is drawn.
+pub mod DrawnLines
+pub mod DrawnWalks

@@ -1,0 +1,187 @@
+-- Where the search along a free list has come to, step by step, and what the best candidate is of.
+use Rattle.std.proofs.Common.{◌≡◌, ℕ, zero, suc, ◌+◌, ◌<◌, ◌≤◌, Bool, true, false, cond, Option, None, Some, option_map, List, [], ◌∷◌, ◌++◌, append_assoc, length, get_or, map, refl, ap, arith, sym, ◌∙◌, subst}
+use Rattle.std.proofs.lemmas.Bool.Decides.{nat_tests}
+use Rattle.std.specs.Option.{option_map_or}
+use Rattle.std.specs.Prelude.{find, max, nat_le, nat_lt}
+use Rattle.etagere_base.specs.Lists.{times}
+use Rattle.etagere_base.proofs.TimesLemmas.{find-stands}
+use Rattle.shelf_records.specs.declared.records.LinkedItem.{LinkedItem}
+use Rattle.etagere_links.specs.Edits.{link_at}
+use Rattle.shelf_records.specs.RecordLists.{IsLinked, Records, first_free_of, free_walk, shelf_walk, walked_lists}
+use Rattle.shelf_records.specs.Records.{free_list}
+use Rattle.etagere_links.proofs.ListEnds.{times-here}
+use Rattle.shelf_records.specs.AtlasRecords.{height_of, item_at, spelled_item}
+use Rattle.shelf_search.specs.Private.Opening.{searched, widest_of}
+use Rattle.shelf_search.specs.Private.Searching.{best_candidate, better, first_wide, lower, lowest, offered, rank_of}
+use Rattle.shelf_model.specs.State.{Item}
+use Rattle.shelf_search.specs.declared.choosing.Candidate.{Candidate}
+use Rattle.shelf_search.specs.declared.choosing.Searched.TheVariants.{Found, Widest}
+use Rattle.shelf_records.proofs.Recorded.RecordsOfIds.{field_at-read}
+use Rattle.shelf_records.proofs.AllLists.Following.{IsLeft, IsStep, count_from, none-left, step-left, step-nearer}
+use Rattle.shelf_records.proofs.AllLists.LinkedParts.{free-left, free-once, free-within, shelf-within}
+
+-- an item is wide enough
+abbrev pub is_wide : Records → ℕ → ℕ → Bool
+is_wide records width item = nat_le width (item_at records.items item).width
+
+-- where the search along a free list has come to: the first wide one of what is left is that of all, and the
+-- widest of what was passed and of what is left is that of all
+pub record SearchesFree (records : Records) (width shelf widest : ℕ) (at : Option ℕ) : Type 0 where
+  pub steps : ℕ
+  pub passed : List ℕ
+  pub rest : List ℕ
+  pub left : IsLeft free_list.next records.items at steps rest
+  pub whole : passed ++ rest ≡ (free_walk records shelf).met
+  pub found : find (is_wide records width) rest ≡ first_wide records width shelf
+  pub all : max widest (widest_of records.items rest) ≡ widest_of records.items (free_walk records shelf).met
+
+-- the search begins with the whole list
+pub free-begins : (records : Records) (width shelf : ℕ) (at : Option ℕ) → IsLinked records (walked_lists records) → 1 ≤ times shelf (shelf_walk records).met → at ≡ first_free_of records.shelves shelf → SearchesFree records width shelf 0 at
+free-begins records width shelf at linked stands begins =
+    record {
+      steps = 0;
+      passed = [];
+      rest = (free_walk records shelf).met;
+      left = rw begins (free-left records shelf linked stands);
+      whole = refl;
+      found = refl;
+      all = omega arith;
+    }
+
+-- the widest is known where nothing is found
+pub nothing-found : (records : Records) (width shelf widest : ℕ) → None ≡ first_wide records width shelf → widest ≡ widest_of records.items (free_walk records shelf).met → Widest widest ≡ searched records width shelf
+nothing-found records width shelf widest none same =
+    ap Widest same ∙ ap (λ o. option_map_or Found o (Widest (widest_of records.items (free_walk records shelf).met))) none
+
+-- at the end nothing is found
+pub free-ends : (records : Records) (width shelf widest : ℕ) (at : Option ℕ) → SearchesFree records width shelf widest at → at ≡ None → Widest widest ≡ searched records width shelf
+free-ends records width shelf widest at search ends =
+    let none : search.rest ≡ [] = none-left free_list.next records.items at search.steps search.rest search.left ends in
+    let last : max widest 0 ≡ widest_of records.items (free_walk records shelf).met = ap (λ (l : List ℕ). max widest (widest_of records.items l)) (sym none) ∙ search.all in
+    nothing-found records width shelf widest (ap (find (is_wide records width)) (sym none) ∙ search.found) (omega (arith, last))
+
+-- the record at hand is one
+pub free-here : (records : Records) (width shelf widest : ℕ) (at : Option ℕ) (number : ℕ) → SearchesFree records width shelf widest at → at ≡ Some number → number < length records.items
+free-here records width shelf widest at number search is = (step-left free_list.next records.items at number search.steps search.rest search.left is).here
+
+-- how wide the record at hand is
+width-read : (records : Records) (number : ℕ) (item : LinkedItem) → number < length records.items → item ≡ get_or records.items number item → (item_at records.items number).width ≡ item.width
+width-read records number item within read =
+    ap (λ (i : Item). i.width) (field_at-read (spelled_item number) (record { width = 0; id = None }) records.items number item within read)
+
+-- a wide one is found
+pub free-found : (records : Records) (width shelf widest : ℕ) (at : Option ℕ) (number : ℕ) (item : LinkedItem) → SearchesFree records width shelf widest at → at ≡ Some number → item ≡ get_or records.items number item → width ≤ item.width → Found number ≡ searched records width shelf
+free-found records width shelf widest at number item search is read wide =
+    let step : IsStep free_list.next records.items number search.steps search.rest = step-left free_list.next records.items at number search.steps search.rest search.left is in
+    let passes : is_wide records width number ≡ true = ap (nat_le width) (width-read records number item step.here read) ∙ grind (arith, nat_tests) in
+    let first : Some number ≡ first_wide records width shelf =
+    sym (ap (find (is_wide records width)) step.whole ∙ ap (λ b. cond b (Some number) (find (is_wide records width) step.others)) passes) ∙ search.found in
+    ap (λ o. option_map_or Found o (Widest (widest_of records.items (free_walk records shelf).met))) first
+
+-- where the record at hand leads
+next-read : (items : List LinkedItem) (number : ℕ) (item : LinkedItem) → number < length items → item ≡ get_or items number item → link_at free_list.next items number ≡ item.next_unallocated
+next-read [] number item within read = absurd (omega arith)
+next-read (x ∷ xs) zero item within read = ap (λ (i : LinkedItem). i.next_unallocated) (sym read)
+next-read (x ∷ xs) (suc number) item within read = next-read xs number item (omega arith) read
+
+-- one that is not is passed
+pub free-passed : (records : Records) (width shelf widest wider : ℕ) (at next : Option ℕ) (number : ℕ) (item : LinkedItem) → SearchesFree records width shelf widest at → at ≡ Some number → item ≡ get_or records.items number item → item.width < width → wider ≡ max widest item.width → next ≡ item.next_unallocated → SearchesFree records width shelf wider next
+free-passed records width shelf widest wider at next number item search is read narrow grown follows =
+    let step : IsStep free_list.next records.items number search.steps search.rest = step-left free_list.next records.items at number search.steps search.rest search.left is in
+    let own : (item_at records.items number).width ≡ item.width = width-read records number item step.here read in
+    let fails : is_wide records width number ≡ false = ap (nat_le width) own ∙ grind (arith, nat_tests) in
+    let all : max widest (max (item_at records.items number).width (widest_of records.items step.others)) ≡ widest_of records.items (free_walk records shelf).met =
+    ap (λ (l : List ℕ). max widest (widest_of records.items l)) (sym step.whole) ∙ search.all in
+    record {
+      steps = search.steps + 1;
+      passed = search.passed ++ number ∷ [];
+      rest = step.others;
+      left = rw (follows, ← next-read records.items number item step.here read) step.left;
+      whole = append_assoc search.passed (number ∷ []) step.others ∙ ap (λ l. search.passed ++ l) (sym step.whole) ∙ search.whole;
+      found =
+          sym (ap (find (is_wide records width)) step.whole ∙ ap (λ b. cond b (Some number) (find (is_wide records width) step.others)) fails)
+          ∙ search.found;
+      all = omega (arith, all, own, grown);
+    }
+
+-- a step leaves less of the free list
+pub free-nearer : (records : Records) (width shelf widest : ℕ) (at next : Option ℕ) (number : ℕ) (item : LinkedItem) → IsLinked records (walked_lists records) → 1 ≤ times shelf (shelf_walk records).met → SearchesFree records width shelf widest at → at ≡ Some number → item ≡ get_or records.items number item → next ≡ item.next_unallocated
+    → count_from next (free_walk records shelf).met < count_from at (free_walk records shelf).met
+free-nearer records width shelf widest at next number item linked stands search is read follows =
+    let step : IsStep free_list.next records.items number search.steps search.rest = step-left free_list.next records.items at number search.steps search.rest search.left is in
+    rw (follows, ← next-read records.items number item step.here read, ← search.whole)
+    (step-nearer free_list.next records.items at number search.steps search.passed search.rest (λ k. rw search.whole (free-once records shelf linked stands k)) search.left is)
+
+-- a candidate that is the lowest of what numbers offer
+record IsOffered (offers : ℕ → Option Candidate) (numbers : List ℕ) (candidate : Candidate) : Type 0 where
+  pub number : ℕ
+  pub stands : 1 ≤ times number numbers
+  pub offer : offers number ≡ Some candidate
+
+-- the lowest of what numbers offer is offered by one of them
+lowest-offered : (offers : ℕ → Option Candidate) (numbers : List ℕ) (candidate : Candidate) → lowest (map offers numbers) ≡ Some candidate → IsOffered offers numbers candidate
+lowest-offered offers [] candidate found = absurd (cc)
+lowest-offered offers (n ∷ ns) candidate found = by_first (offers n) (lowest (map offers ns)) refl refl found (λ rest. lowest-offered offers ns candidate rest)
+  where
+    later : IsOffered offers ns candidate → IsOffered offers (n ∷ ns) candidate
+    later rest = record { number = rest.number; stands = omega (arith, rest.stands); offer = rest.offer }
+
+    first : offers n ≡ Some candidate → IsOffered offers (n ∷ ns) candidate
+    first offer = record { number = n; stands = omega (arith, times-here n ns); offer = offer }
+
+    by_test : (b : Bool) (own other : Candidate) → offers n ≡ Some own → lowest (map offers ns) ≡ Some other → cond b other own ≡ candidate → (lowest (map offers ns) ≡ Some candidate → IsOffered offers ns candidate) → IsOffered offers (n ∷ ns) candidate
+    by_test true own other offer rest same more = later (more (rest ∙ ap Some same))
+    by_test false own other offer rest same more = first (offer ∙ ap Some same)
+
+    by_first : (o p : Option Candidate) → offers n ≡ o → lowest (map offers ns) ≡ p → better o p ≡ Some candidate → (lowest (map offers ns) ≡ Some candidate → IsOffered offers ns candidate) → IsOffered offers (n ∷ ns) candidate
+    by_first None p offer rest found more = later (more (rest ∙ found))
+    by_first (Some own) None offer rest found more = first (offer ∙ found)
+    by_first (Some own) (Some other) offer rest found more =
+        let same : lower own (Some other) ≡ candidate = cc in
+        by_test (nat_lt other.rank own.rank) own other offer rest same more
+
+-- what an offer is of: its shelf, and the first wide one of its free list
+pub record Offers (records : Records) (width height shelf : ℕ) (candidate : Candidate) : Type 0 where
+  pub tall : height ≤ height_of records.shelves shelf
+  pub shelf_is : candidate.shelf ≡ shelf
+  pub rank : candidate.rank ≡ rank_of records.shelves height shelf
+  pub wide : first_wide records width shelf ≡ Some candidate.item
+
+pub offers-parts : (records : Records) (width height shelf : ℕ) (candidate : Candidate) → offered records width height shelf ≡ Some candidate → Offers records width height shelf candidate
+offers-parts records width height shelf candidate offer = by_parts (nat_le height (height_of records.shelves shelf)) (first_wide records width shelf) refl refl offer
+  where
+    by_parts : (b : Bool) (o : Option ℕ) → nat_le height (height_of records.shelves shelf) ≡ b → first_wide records width shelf ≡ o
+        → cond b (option_map (λ item. record { shelf = shelf; item = item; rank = rank_of records.shelves height shelf }) o) None ≡ Some candidate → Offers records width height shelf candidate
+    by_parts false o e f offer = absurd (cc)
+    by_parts true None e f offer = absurd (cc)
+    by_parts true (Some item) e f offer =
+        let same : record { shelf = shelf; item = item; rank = rank_of records.shelves height shelf } ≡ candidate = cc in
+        record {
+          tall = grind (arith, nat_tests);
+          shelf_is = sym (ap (λ (c : Candidate). c.shelf) same);
+          rank = sym (ap (λ (c : Candidate). c.rank) same);
+          wide = f ∙ ap (λ (c : Candidate). Some c.item) same;
+        }
+
+-- the best candidate is of a shelf in use and of a free item of it
+record IsBest (records : Records) (width height : ℕ) (candidate : Candidate) : Type 0 where
+  pub stands : 1 ≤ times candidate.shelf (shelf_walk records).met
+  pub wide : first_wide records width candidate.shelf ≡ Some candidate.item
+  pub among : 1 ≤ times candidate.item (free_walk records candidate.shelf).met
+
+best-is : (records : Records) (width height : ℕ) (candidate : Candidate) → best_candidate records width height ≡ Some candidate → IsBest records width height candidate
+best-is records width height candidate found =
+    let one : IsOffered (offered records width height) (shelf_walk records).met candidate = lowest-offered (offered records width height) (shelf_walk records).met candidate found in
+    let parts : Offers records width height one.number candidate = offers-parts records width height one.number candidate one.offer in
+    let wide : first_wide records width candidate.shelf ≡ Some candidate.item = ap (first_wide records width) parts.shelf_is ∙ parts.wide in
+    record {
+      stands = subst (λ n. 1 ≤ times n (shelf_walk records).met) (sym parts.shelf_is) one.stands;
+      wide = wide;
+      among = (find-stands (is_wide records width) (free_walk records candidate.shelf).met candidate.item wide).1;
+    }
+
+-- its shelf and its item are records
+pub best-within : (records : Records) (width height : ℕ) (candidate : Candidate) → IsLinked records (walked_lists records) → best_candidate records width height ≡ Some candidate → (candidate.shelf < length records.shelves) × (candidate.item < length records.items)
+best-within records width height candidate linked found =
+    let best : IsBest records width height candidate = best-is records width height candidate found in
+    (shelf-within records candidate.shelf linked best.stands, free-within records candidate.shelf candidate.item linked best.stands best.among)
