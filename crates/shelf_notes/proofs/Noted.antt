@@ -169,19 +169,25 @@ counted-added standing noted counts =
       counted = omega (arith, counts.counted, total-append (λ (one : Standing). once_where one.noted) standing (unknown ∷ []));
     }
 
--- entries of shelves of which nothing is known
-pub standing-unknown : (count k : ℕ) → standing_at (replicate count unknown) k ≡ unknown
-standing-unknown zero k = refl
-standing-unknown (suc count) zero = refl
-standing-unknown (suc count) (suc k) = standing-unknown count k
+-- entries of shelves of which the same is known
+pub standing-replicated : (count k : ℕ) (one : Standing) → k < count → standing_at (replicate count one) k ≡ one
+standing-replicated zero k one below = absurd (omega (arith, below))
+standing-replicated (suc count) zero one below = refl
+standing-replicated (suc count) (suc k) one below = standing-replicated count k one (omega (arith, below))
 
-pub counted-unknown : (count : ℕ) → AreCounted (replicate count unknown) []
-counted-unknown count =
+-- none of which has changed where that one hasn't
+pub replicated-unchanged : (count k : ℕ) (one : Standing) → one.noted ≡ false → (standing_at (replicate count one) k).noted ≡ false
+replicated-unchanged zero k one none = refl
+replicated-unchanged (suc count) zero one none = none
+replicated-unchanged (suc count) (suc k) one none = replicated-unchanged count k one none
+
+pub counted-unchanged : (count : ℕ) (one : Standing) → one.noted ≡ false → AreCounted (replicate count one) []
+counted-unchanged count one unchanged =
     record {
-      tied = λ k. sym (ap (λ (s : Standing). once_where s.noted) (standing-unknown count k));
+      tied = λ k. sym (ap once_where (replicated-unchanged count k one unchanged));
       counted = sym (none count);
     }
   where
-    none : (n : ℕ) → noted_count (replicate n unknown) ≡ 0
+    none : (n : ℕ) → noted_count (replicate n one) ≡ 0
     none zero = refl
-    none (suc n) = omega (arith, none n)
+    none (suc n) = omega (arith, none n, ap once_where unchanged)

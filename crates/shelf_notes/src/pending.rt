@@ -24,9 +24,16 @@ pub struct Standing {
 }
 
 /// What is known of a shelf of which nothing is.
-const UNKNOWN: Standing = Standing {
+pub const UNKNOWN: Standing = Standing {
     listed: false,
     in_use: false,
+    noted: false,
+};
+
+/// What is known of a shelf in use that the list has as it is.
+pub const IN_USE: Standing = Standing {
+    listed: true,
+    in_use: true,
     noted: false,
 };
 
@@ -207,19 +214,22 @@ impl PendingShelves {
         Some(shelf)
     }
 
-    /// Forgets all that was known, and keeps these records. There is room for them.
-    pub fn restart(&mut self, shelves: &[LinkedShelf])
+    /// Forgets all that was known, and keeps these records, of each of which the same is known now. There is room for them.
+    pub fn restart(&mut self, shelves: &[LinkedShelf], known: Standing)
         requires room { length shelves.now ≤ self.old.room }
         requires few { length shelves.now ≤ no_link }
-        ensures kept { self.new.notes.kept ≡ shelves.now }
-        ensures entries { length self.new.notes.standing ≡ length shelves.now }
-        ensures unknown { (k : ℕ) → spec.standing_at self.new.notes.standing k ≡ spec.unknown }
-        ensures noted { self.new.notes.noted ≡ [] }
+        requires unchanged { known.noted ≡ false }
+        ensures notes { self.new.notes
+            ≡ record {
+              kept = shelves.now;
+              standing = replicate (length shelves.now) known;
+              noted = [];
+            } }
         ensures room { self.new.room ≡ self.old.room }
     {
         self.noted.clear();
         copy_all(&mut self.kept, shelves);
-        forget_all(&mut self.standing, shelves.len());
+        know_all(&mut self.standing, shelves.len(), known);
     }
 
     /// Says that the list has a shelf in use, which has not changed.
@@ -229,11 +239,7 @@ impl PendingShelves {
         ensures notes { self.new.notes ≡ spec.put_to_use shelf self.old.notes }
         ensures room { self.new.room ≡ self.old.room }
     {
-        self.standing[shelf] = Standing {
-            listed: true,
-            in_use: true,
-            noted: false,
-        };
+        self.standing[shelf] = IN_USE;
     }
 }
 
@@ -250,30 +256,28 @@ fn push_unless(numbers: &mut Vec<u16>, is_there: bool, number: usize)
     }
 }
 
-/// Makes the kept records these, for which there is room. Those that are there are written over at once.
+/// Makes the kept records these, for which there is room.
 fn copy_all(kept: &mut Vec<LinkedShelf>, shelves: &[LinkedShelf])
     requires { length shelves.now ≤ vec_capacity kept.old }
     ensures items { kept.new.items ≡ shelves.now }
     ensures capacity { vec_capacity kept.new ≡ vec_capacity kept.old }
 {
-    kept.truncate(shelves.len());
-    let (front, back) = shelves.split_at(kept.len());
-    kept.copy_from_slice(front);
-    for shelf in back {
+    kept.clear();
+    for shelf in shelves {
         kept.push_reserved(*shelf);
     }
 }
 
-/// Makes entries of so many shelves, for which there is room, of which nothing is known. Those that are there are written
-/// over at once.
-fn forget_all(standing: &mut Vec<Standing>, count: usize)
+/// Makes entries of so many shelves, for which there is room, of each of which the same is known. Those that are there are
+/// written over at once.
+fn know_all(standing: &mut Vec<Standing>, count: usize, known: Standing)
     requires { count ≤ vec_capacity standing.old }
-    ensures items { standing.new.items ≡ replicate count spec.unknown }
+    ensures items { standing.new.items ≡ replicate count known }
     ensures capacity { vec_capacity standing.new ≡ vec_capacity standing.old }
 {
     standing.truncate(count);
-    standing.fill(UNKNOWN);
+    standing.fill(known);
     for _shelf in standing.len()..count {
-        standing.push_reserved(UNKNOWN);
+        standing.push_reserved(known);
     }
 }

@@ -19,7 +19,7 @@ use etagere_base::Frame;
 use etagere_links::Link;
 use shelf_heights::by_height::ShelvesByHeight;
 use shelf_heights::heights::{chain_order_of, position_of, put_in, raise_at, settle, take_out};
-use shelf_notes::pending::PendingShelves;
+use shelf_notes::pending::{IN_USE, PendingShelves, UNKNOWN};
 use shelf_records::{LinkedShelf, Records};
 use std::alloc::{AllocError, Global};
 
@@ -113,7 +113,8 @@ pub fn settle_notes(
     follow(pending, records.shelves(), by_height);
 }
 
-/// Makes the notes those of a list that follows these records, which has just the shelves in use.
+/// Makes the notes those of a list that follows these records, which has just the shelves in use: each of them once, so all
+/// records where they are as many.
 fn follow(pending: &mut PendingShelves, shelves: &[LinkedShelf], by_height: &ShelvesByHeight)
     requires order { AreInOrder shelves.now by_height.now.items }
     requires room { length shelves.now ≤ pending.old.room }
@@ -121,7 +122,11 @@ fn follow(pending: &mut PendingShelves, shelves: &[LinkedShelf], by_height: &She
     ensures notes { Follows shelves.now by_height.now.items pending.new.notes }
     ensures room { pending.new.room ≡ pending.old.room }
 {
-    pending.restart(shelves);
+    if by_height.len() == shelves.len() {
+        pending.restart(shelves, IN_USE);
+        return;
+    }
+    pending.restart(shelves, UNKNOWN);
     for index in 0..by_height.len() {
         pending.put_to_use(by_height.shelf(index));
     }

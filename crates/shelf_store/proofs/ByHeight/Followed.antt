@@ -1,13 +1,20 @@
 -- The notes of a list that follows records, as its shelves are put to use one after another.
-use Rattle.std.proofs.Common.{◌≡◌, ◌≢◌, ℕ, zero, suc, ◌+◌, ◌<◌, Bool, true, false, List, [], ◌∷◌, length, min, take, add-one, refl, ap, arith, sym, ◌∙◌}
-use Rattle.std.specs.Prelude.{◌==◌}
+use Rattle.std.proofs.Common.{◌≡◌, ◌≢◌, ℕ, zero, suc, ◌+◌, ◌<◌, ◌≤◌, Bool, true, false, List, [], ◌∷◌, length, min, replicate, take, add-one, refl, ap, arith, subst, sym, ◌∙◌}
+use Rattle.std.proofs.lemmas.List.{length-map, length-replicate}
+use Rattle.std.specs.List.{AllByRecursion}
+use Rattle.std.specs.Prelude.{◌==◌, nat_lt}
 use Rattle.etagere_base.proofs.TimesLemmas.{hit}
 use Rattle.etagere_base.specs.Lists.{times}
-use Rattle.shelf_heights.specs.Private.ByHeight.{bounded_at, numbers_by_height}
+use Rattle.shelf_heights.specs.Private.ByHeight.{AreInOrder, bounded_at, numbers_by_height}
 use Rattle.shelf_notes.specs.Private.Pending.{Notes, is_in_use, is_listed, is_noted, once_where, put_to_use, standing_at}
 use Rattle.shelf_heights.specs.declared.by_height.BoundedShelf.{BoundedShelf}
 use Rattle.shelf_notes.specs.declared.pending.Standing.{Standing}
-use Rattle.shelf_notes.proofs.Noted.{standing-other, standing-own}
+use Rattle.etagere_links.proofs.Tallies.{length-once}
+use Rattle.shelf_records.specs.declared.records.LinkedShelf.{LinkedShelf}
+use Rattle.shelf_records.proofs.Recorded.Members.{Each-member}
+use Rattle.shelf_heights.proofs.ByHeight.Edited.{in_order-once}
+use Rattle.shelf_notes.proofs.Noted.{replicated-unchanged, standing-other, standing-own, standing-past, standing-replicated}
+use Rattle.shelf_store.specs.Private.Settling.{Follows}
 
 -- how often a number stands among one more of the first shelves
 times-more : (k n : ℕ) (by_height : List BoundedShelf) → n < length by_height → times k (take (suc n) (numbers_by_height by_height)) ≡ times k (take n (numbers_by_height by_height)) + hit (bounded_at by_height n).shelf k
@@ -58,3 +65,70 @@ one-used n by_height notes shelf below read within used =
     is_both : (k : ℕ) (b : Bool) → (k == shelf) ≡ b → is_in_use (put_to_use shelf notes) k ≡ is_listed (put_to_use shelf notes) k
     is_both k true e = ap (λ (s : Standing). s.in_use) (own k e) ∙ sym (ap (λ (s : Standing). s.listed) (own k e))
     is_both k false e = ap (λ (s : Standing). s.in_use) (other k e) ∙ used.in_use k ∙ sym (ap (λ (s : Standing). s.listed) (other k e))
+
+-- each number below a bound stands among as many that are below it and stand there once
+all-stand : (n : ℕ) (ns : List ℕ) → ((k : ℕ) → times k ns ≤ 1) → AllByRecursion (λ k. k < n) ns → length ns ≡ n → (k : ℕ) → k < n → times k ns ≡ 1
+all-stand n ns once within long k below = by_count (times k ns) refl
+  where
+    more : times k ns ≡ 0 → (j : ℕ) → times j (k ∷ ns) ≤ 1
+    more none j = by_test (k == j) refl
+      where
+        by_test : (b : Bool) → (k == j) ≡ b → times j (k ∷ ns) ≤ 1
+        by_test true e =
+            let same : k ≡ j = grind arith in
+            let here : hit k j ≡ 1 = grind (arith, same) in
+            omega (arith, here, none, ap (λ m. times m ns) same)
+        by_test false e =
+            let differ : k ≢ j = grind arith in
+            let here : hit k j ≡ 0 = grind (arith, differ) in
+            omega (arith, here, once j)
+
+    by_count : (c : ℕ) → times k ns ≡ c → times k ns ≡ 1
+    by_count zero none =
+        let fits : length (k ∷ ns) ≤ n = length-once n (k ∷ ns) (more none) (λ j stands. Each-member (λ m. m < n) (k ∷ ns) j (below, within) stands) in
+        absurd (omega (arith, fits, long))
+    by_count (suc c) some = omega (arith, some, once k)
+
+-- a list as long as the records that it follows has them all, each as it is
+pub follows-all : (shelves : List LinkedShelf) (by_height : List BoundedShelf) (notes : Notes) → AreInOrder shelves by_height → length by_height ≡ length shelves → notes ≡ record { kept = shelves; standing = replicate (length shelves) (record { listed = true; in_use = true; noted = false }); noted = [] } → Follows shelves by_height notes
+follows-all shelves by_height notes order long all =
+    subst (Follows shelves by_height) (sym all)
+    (record {
+      kept = refl;
+      known = length-replicate count one;
+      noted = refl;
+      unchanged = λ k. replicated-unchanged count k one refl;
+      listed = λ k. is_listed_once k (nat_lt k count) refl;
+      in_use = λ k. is_both k (nat_lt k count) refl;
+    })
+  where
+    count : ℕ
+    count = length shelves
+
+    one : Standing
+    one = record { listed = true; in_use = true; noted = false }
+
+    numbers : List ℕ
+    numbers = numbers_by_height by_height
+
+    is_listed_once : (k : ℕ) (b : Bool) → nat_lt k count ≡ b → times k numbers ≡ once_where (standing_at (replicate count one) k).listed
+    is_listed_once k true e =
+        let below : k < count = grind arith in
+        all-stand count numbers (λ j. in_order-once shelves by_height j order) order.within (length-map by_height (λ (b : BoundedShelf). b.shelf) ∙ long) k below
+        ∙ sym (ap (λ (s : Standing). once_where s.listed) (standing-replicated count k one below))
+    is_listed_once k false e =
+        let past : count ≤ k = grind arith in
+        none_past k past (times k numbers) refl ∙ sym (ap (λ (s : Standing). once_where s.listed) (standing-past (replicate count one) k (omega (arith, past, length-replicate count one))))
+      where
+        none_past : (k : ℕ) → count ≤ k → (c : ℕ) → times k numbers ≡ c → times k numbers ≡ 0
+        none_past k past zero e = e
+        none_past k past (suc c) e = absurd (omega (arith, past, Each-member (λ m. m < count) numbers k order.within (omega (arith, e))))
+
+    is_both : (k : ℕ) (b : Bool) → nat_lt k count ≡ b → (standing_at (replicate count one) k).in_use ≡ (standing_at (replicate count one) k).listed
+    is_both k true e =
+        let below : k < count = grind arith in
+        ap (λ (s : Standing). s.in_use) (standing-replicated count k one below) ∙ sym (ap (λ (s : Standing). s.listed) (standing-replicated count k one below))
+    is_both k false e =
+        let past : count ≤ k = grind arith in
+        let gone = standing-past (replicate count one) k (omega (arith, past, length-replicate count one)) in
+        ap (λ (s : Standing). s.in_use) gone ∙ sym (ap (λ (s : Standing). s.listed) gone)

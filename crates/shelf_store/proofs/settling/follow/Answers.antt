@@ -7,7 +7,7 @@ use Rattle.shelf_heights.specs.declared.by_height.BoundedShelf.{BoundedShelf}
 use Rattle.shelf_notes.specs.declared.pending.Standing.{Standing}
 use Rattle.shelf_heights.proofs.ByHeight.Edited.{in_order-once}
 use Rattle.shelf_heights.proofs.ByHeight.Positions.{read-number}
-use Rattle.shelf_store.proofs.ByHeight.Followed.{AreUsed, one-used}
+use Rattle.shelf_store.proofs.ByHeight.Followed.{AreUsed, follows-all, one-used}
 use Rattle.shelf_store.proofs.settling.follow.Goals as goal
 use Rattle.shelf_store.proofs.settling.follow.Goals.{After-shelf}
 
@@ -48,3 +48,7 @@ returns-clause-notes c =
       listed = λ k. omega (arith, used.listed k, ap (times k) all, in_order-once c.args.shelves.now by_height k c.requires.order);
       in_use = used.in_use;
     }
+
+pub returns-then-len-shelves-clause-notes : goal.returns-then-len-shelves-clause-notes
+returns-then-len-shelves-clause-notes c =
+    follows-all c.args.shelves.now c.args.by_height.now.items c.restart.new.self.notes c.requires.order (omega arith) c.restart.ensures.notes
