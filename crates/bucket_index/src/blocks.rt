@@ -86,7 +86,7 @@ fn with_shelf(block: Block, kept: &KeptShelf) -> Block
 {
     Block {
         widest_room: block.widest_room.max(kept.widest_room),
-        has_idle: block.has_idle || kept.is_idle(),
+        has_idle: block.has_idle | kept.is_idle(),
     }
 }
 
@@ -177,7 +177,8 @@ fn raise_block(blocks: &mut [Block], number: usize, kept: &KeptShelf)
 {
     if number < blocks.len() {
         let block = &mut blocks[number];
-        *block = with_shelf(*block, kept);
+        block.widest_room = block.widest_room.max(kept.widest_room);
+        block.has_idle |= kept.is_idle();
     }
 }
 

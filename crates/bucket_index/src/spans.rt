@@ -574,6 +574,7 @@ impl Spans {
     }
 
     /// Knows a record that may have less room now.
+    #[inline(never)]
     fn narrow(&mut self, buckets: &[LinkedBucket], change: &Change)
         requires number { change.now.number < length buckets.now }
         requires room { spec.room_at buckets.now change.now.number ≤ change.now.room }

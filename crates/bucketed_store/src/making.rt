@@ -76,14 +76,13 @@ fn make_bucket(
     ensures capacity { vec_capacity buckets.old ≤ vec_capacity buckets.new }
     ensures spans { AreSpans spans.new buckets.new.items }
 {
-    if let Some(number) = unused.number() {
-        if number < buckets.len() {
-            let old = buckets[number];
-            *unused = old.next;
-            buckets[number] = new_record(new, first, old.generation.wrapping_add(1));
-            spans.forget(buckets, number);
-            return Link::to(number);
-        }
+    let number = usize::from(unused.bits());
+    if number < buckets.len() {
+        let old = buckets[number];
+        *unused = old.next;
+        buckets[number] = new_record(new, first, old.generation.wrapping_add(1));
+        spans.forget(buckets, number);
+        return Link::to(number);
     }
     let number = buckets.len();
     buckets.push(new_record(new, first, 0)).unwrap();
@@ -120,10 +119,12 @@ pub(crate) fn make_buckets(
     ensures spans { AreSpans spans.new buckets.new.items }
 {
     let mut first = first;
+    let mut left = *unused;
     let mut here = *new;
     for _made in 0..count {
-        first = make_bucket(buckets, spans, unused, first, &here);
+        first = make_bucket(buckets, spans, &mut left, first, &here);
         here.x += here.width;
     }
+    *unused = left;
     first
 }

@@ -8,7 +8,7 @@ abbrev none : Block
 none = record { widest_room = 0; has_idle = false }
 
 pub returns-then-number-blocks : goal.returns-then-number-blocks
-returns-then-number-blocks c = rw c.with_shelf.ensures (set-changed (with_shelf c.args.kept.now) c.args.blocks.now c.args.number none c.if-number-blocks.true)
+returns-then-number-blocks c = rw (c.is_idle.ensures, c.max-block.ensures) (set-changed (with_shelf c.args.kept.now) c.args.blocks.now c.args.number none c.if-number-blocks.true)
 
 pub returns-else-number-blocks : goal.returns-else-number-blocks
 returns-else-number-blocks c = changed_by-past (with_shelf c.args.kept.now) c.args.blocks.now (Some c.args.number) c.args.number refl c.if-number-blocks.false

@@ -1,4 +1,4 @@
-use Rattle.std.proofs.Common.{◌≡◌, ℕ, ◌+◌, ◌%◌, ◌≤◌, ◌++◌, [], ◌∷◌, Option, None, Some, List, length, ap, sym, subst, ◌∙◌, arith}
+use Rattle.std.proofs.Common.{◌≡◌, ℕ, ◌+◌, ◌%◌, ◌<◌, ◌≤◌, ◌++◌, [], ◌∷◌, Option, None, Some, List, length, refl, ap, sym, subst, ◌∙◌, arith}
 use Rattle.std.proofs.lemmas.Option.{slice_get-get_or, slice_get_past}
 use Rattle.std.specs.Option.{option_map_or}
 use Rattle.std.specs.Prelude.{slice_get}
@@ -6,11 +6,12 @@ use Rattle.etagere_links.specs.Edits.{changed_by}
 use Rattle.etagere_links.proofs.EditLemmas.{set-changed}
 use Rattle.bucketed_records.specs.declared.records.LinkedBucket.{LinkedBucket}
 use Rattle.bucket_index.specs.Private.Spans.{AreOtherSpans, AreSpans}
+use Rattle.etagere_links.specs.Links.{bits_of}
+use Rattle.bucket_index.proofs.LinkedRecords.{named}
 use Rattle.bucket_index.proofs.KnownSpans.{spans-added, spans-changed}
 use Rattle.bucketed_store.specs.Private.StoreEdits.{Made, made_again, made_new, made_one, new_record}
 use Rattle.bucketed_store.specs.declared.making.NewBuckets.{NewBuckets}
 use Rattle.bucketed_store.proofs.making.make_bucket.Goals as goal
-use Rattle.bucketed_store.proofs.making.make_bucket.Goals.{in-Some+else-number-len, in_default}
 
 -- what is made by what is found under a link
 made_one-by : (new : NewBuckets) (made : Made) (link : Option ℕ) → made.unused ≡ link
@@ -33,19 +34,27 @@ made-past new made number names past =
 abbrev before : List LinkedBucket → Option ℕ → Option ℕ → Made
 before buckets unused first = record { buckets = buckets; unused = unused; first = first }
 
+-- a bucket is made in a new record where the bits of a link name no record
+made-behind : (new : NewBuckets) (made : Made) (number : ℕ) (link : Option ℕ) → made.unused ≡ link → number ≡ bits_of link → length made.buckets ≤ number → made_one new made ≡ made_new new made
+made-behind new made number None names is past = made_one-by new made None names
+made-behind new made number (Some n) names is past = made-past new made n names (omega (arith, is, past))
+
 -- what is made in an unused record
 again : (c : goal.After-to) → made_one c.args.new.now (before c.args.buckets.now.items c.args.unused.now c.args.first)
-    ≡ made_again c.args.new.now (before c.args.buckets.now.items c.args.unused.now c.args.first) c.in-Some.number c.index-old.result.now
+    ≡ made_again c.args.new.now (before c.args.buckets.now.items c.args.unused.now c.args.first) c.from-number.result c.index-old.result.now
 again c =
-    made-found c.args.new.now (before c.args.buckets.now.items c.args.unused.now c.args.first) c.in-Some.number c.index-old.result.now (sym c.number.ensures.value ∙ c.in-Some.is)
-    (slice_get-get_or c.args.buckets.now.items c.in-Some.number c.index-old.result.now (omega (arith, c.if-number-len.true, c.len.ensures)) ∙ ap (λ (r : LinkedBucket). Some r) (sym c.index-old.ensures))
+    let number = c.from-number.result in
+    let within : number < length c.args.buckets.now.items = omega (arith, c.if-number-len.true, c.len.ensures) in
+    made-found c.args.new.now (before c.args.buckets.now.items c.args.unused.now c.args.first) number c.index-old.result.now
+    (named number c.bits.result c.args.unused.now c.from-number.ensures c.bits.ensures.link (omega (arith, within, c.requires.few)))
+    (slice_get-get_or c.args.buckets.now.items number c.index-old.result.now within ∙ ap (λ (r : LinkedBucket). Some r) (sym c.index-old.ensures))
 
 pub returns-then-number-len-clause-buckets : goal.returns-then-number-len-clause-buckets
 returns-then-number-len-clause-buckets c =
     let made = before c.args.buckets.now.items c.args.unused.now c.args.first in
     let r = new_record c.args.new.now c.args.first ((c.index-old.result.now.generation + 1) % 256) in
     rw c.new_record.ensures
-    (set-changed (λ (_ : LinkedBucket). r) c.args.buckets.now.items c.in-Some.number r (omega (arith, c.if-number-len.true, c.len.ensures))
+    (set-changed (λ (_ : LinkedBucket). r) c.args.buckets.now.items c.from-number.result r (omega (arith, c.if-number-len.true, c.len.ensures))
     ∙ ap (λ (m : Made). m.buckets) (sym (again c)))
 
 pub returns-then-number-len-clause-unused : goal.returns-then-number-len-clause-unused
@@ -58,12 +67,8 @@ returns-then-number-len-clause-first c = c.to.ensures ∙ ap (λ (m : Made). m.f
 fresh : (c : goal.After-to-2) → made_one c.args.new.now (before c.args.buckets.now.items c.args.unused.now c.args.first)
     ≡ made_new c.args.new.now (before c.args.buckets.now.items c.args.unused.now c.args.first)
 fresh c =
-    let made = before c.args.buckets.now.items c.args.unused.now c.args.first in
-    elim c.match-number.branch [
-      | in-Some+else-number-len w ↦
-          made-past c.args.new.now made w.in-Some.number (sym c.number.ensures.value ∙ w.in-Some.is) (omega (arith, w.if-number-len.false, w.len.ensures))
-      | in_default w ↦ made_one-by c.args.new.now made None (sym c.number.ensures.value ∙ w.in_default.is)
-    ]
+    made-behind c.args.new.now (before c.args.buckets.now.items c.args.unused.now c.args.first) c.from-number.result c.args.unused.now refl
+    (c.from-number.ensures ∙ c.bits.ensures.value) (omega (arith, c.if-number-len.false, c.len.ensures))
 
 pub returns-clause-buckets : goal.returns-clause-buckets
 returns-clause-buckets c =
@@ -80,7 +85,7 @@ returns-clause-first c = c.to-2.ensures ∙ ap (λ (n : ℕ). Some n) (omega (ar
 pub forget-requires : goal.forget-requires
 forget-requires c =
     let items = c.args.buckets.now.items in
-    let number = c.in-Some.number in
+    let number = c.from-number.result in
     let r = c.new_record.result in
     let written : c.deref.result.now ≡ changed_by (Some number) (λ (_ : LinkedBucket). r) items =
     c.deref.ensures.value ∙ set-changed (λ (_ : LinkedBucket). r) items number r (omega (arith, c.if-number-len.true, c.len.ensures)) in

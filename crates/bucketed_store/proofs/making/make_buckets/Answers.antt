@@ -15,7 +15,7 @@ made-parts m buckets unused first b u f =
 
 pub make_bucket-first-requires-clause-room : goal.make_bucket-first-requires-clause-room
 make_bucket-first-requires-clause-room c =
-    let before : Made = record { buckets = c.loop-made.buckets.items; unused = c.loop-made.unused; first = c.loop-made.first } in
+    let before : Made = record { buckets = c.loop-made.buckets.items; unused = c.loop-made.left; first = c.loop-made.first } in
     let less : c.args.count - c.loop-made._made ≡ suc (c.args.count - (c.loop-made._made + 1)) = omega arith in
     omega (
       arith,
@@ -26,7 +26,7 @@ make_bucket-first-requires-clause-room c =
 
 pub loop-made-preserved : goal.loop-made-preserved
 loop-made-preserved c =
-    let before : Made = record { buckets = c.loop-made.buckets.items; unused = c.loop-made.unused; first = c.loop-made.first } in
+    let before : Made = record { buckets = c.loop-made.buckets.items; unused = c.loop-made.left; first = c.loop-made.first } in
     let less : c.args.count - c.loop-made._made ≡ suc (c.args.count - (c.loop-made._made + 1)) = omega arith in
     let after = made-parts (made_one c.loop-made.here before) c.make_bucket-first.new.buckets.items c.make_bucket-first.new.unused c.make_bucket-first.result
     c.make_bucket-first.ensures.buckets c.make_bucket-first.ensures.unused c.make_bucket-first.ensures.first in

@@ -7,10 +7,10 @@ use Rattle.bucketed_store.proofs.making.make_buckets.Given as goal
 -- what is made from here on is what is made of all
 abbrev pub invariant-loop-made : goal.invariant-loop-made
 invariant-loop-made l = record {
-  whole : made_many (l.count - l._made) l.here (record { buckets = l.buckets.items; unused = l.unused; first = l.first })
+  whole : made_many (l.count - l._made) l.here (record { buckets = l.buckets.items; unused = l.left; first = l.first })
       ≡ made_many l.count l.new (record { buckets = l.fn.buckets.items; unused = l.fn.unused; first = l.fn.first });
   narrow : l.here.x + (l.count - l._made) * l.here.width < 2 ^ 16;
-  room : length (made_many (l.count - l._made) l.here (record { buckets = l.buckets.items; unused = l.unused; first = l.first })).buckets ≤ vec_capacity l.buckets;
+  room : length (made_many (l.count - l._made) l.here (record { buckets = l.buckets.items; unused = l.left; first = l.first })).buckets ≤ vec_capacity l.buckets;
   length : vec_len l.buckets ≤ vec_len l.fn.buckets + l._made;
   capacity : vec_capacity l.fn.buckets ≤ vec_capacity l.buckets;
   spans : AreSpans l.spans l.buckets.items;
