@@ -1,9 +1,9 @@
 -- What is known of blocks of shelves: after a shelf was added or changed, and of shelves that are passed over.
 use Rattle.std.proofs.Common.{◌≡◌, ℕ, zero, suc, ◌+◌, ◌-◌, ◌*◌, ◌<◌, ◌≤◌, Bool, true, false, Option, None, Some, List, [], ◌∷◌, ◌++◌, length, length-append, map, take, cond, refl, ap, sym, subst, ◌∙◌, arith, ◌==◌}
-use Rattle.std.proofs.lemmas.Bool.{eqb-true, leb-false}
+use Rattle.std.proofs.lemmas.Bool.{and_parts, eqb-true, leb-false}
 use Rattle.std.proofs.lemmas.Option.{slice_get_within}
 use Rattle.std.specs.Option.{option_map_or}
-use Rattle.std.specs.Prelude.{option_map, nat_le, slice_get, ◌||◌}
+use Rattle.std.specs.Prelude.{option_map, nat_le, slice_get, ◌%◌, ◌||◌}
 use Rattle.etagere_links.specs.Edits.{changed_by}
 use Rattle.etagere_links.proofs.RecordChanges.{get-changed_by, get-changed_by-other}
 use Rattle.bucketed_records.specs.declared.records.KeptShelf.{KeptShelf}
@@ -11,7 +11,7 @@ use Rattle.bucketed_records.specs.Private.Store.{is_kept_idle}
 use Rattle.bucket_index.specs.declared.blocks.Block.{Block}
 use Rattle.bucket_index.specs.declared.blocks.Blocks.{Blocks}
 use Rattle.bucket_index.specs.declared.blocks.Others.{Others}
-use Rattle.bucket_index.specs.Private.Blocks.{AreBeside, AreFirstKnown, AreKnown, AreKnownOf, AreKnownWhere, AreOthersKnown, AreOthersOf, IsKnown, IsKnownAt, IsKnownOf, IsPart, block_of, joined, may_be_idle, may_give, raised, with_shelf}
+use Rattle.bucket_index.specs.Private.Blocks.{AreBeside, AreFirstKnown, AreInSteps, AreKnown, AreKnownOf, AreKnownWhere, AreOthersKnown, AreOthersOf, IsKnown, IsKnownAt, IsKnownOf, IsPart, block_of, expecting, joined, may_be_idle, may_give, raised, with_shelf}
 
 -- a shelf is known to a block that was counted with it
 pub known-own : (kept : KeptShelf) (block : Block) → IsKnown kept (with_shelf kept block)
@@ -194,12 +194,13 @@ carry-others others xs ys carried before = record {
         let is = carried number kept other at in
         is.known block (known number is.was is.such same is.there)
 
--- all that is known of shelves is known of others
+-- all that is known of shelves is known of others, whose heights are in steps too
 carry-all : (blocks : Blocks) (xs ys : List KeptShelf) → ((IsSuch : ℕ → Type 0) (number : ℕ) (kept : KeptShelf) → IsSuch number → slice_get ys number ≡ Some kept → IsCarried IsSuch xs number kept)
-    → AreKnown blocks xs → AreKnown blocks ys
-carry-all blocks xs ys carried known = record {
+    → (AreInSteps xs → AreInSteps ys) → AreKnown blocks xs → AreKnown blocks ys
+carry-all blocks xs ys carried stepped known = record {
   each = carry-known (λ n. Unit {0}) (λ n. Unit {0}) blocks xs ys (carried (λ n. Unit {0})) known.each;
   others = λ some. carry-others blocks.others xs ys (carried (λ n. n ≡ blocks.others.number → ⊥)) (known.others some);
+  steps = λ in_steps. stepped (known.steps in_steps);
 }
 
 -- each shelf is known where all are of the first so many, of which there are no more
@@ -208,12 +209,20 @@ all-known count blocks shelves all known =
     carry-known (λ n. n < count) (λ n. Unit {0}) blocks shelves shelves
     (λ number kept any at. record { was = kept; such = omega (arith, all, slice_get_within shelves number kept at); there = at; known = λ block is. is }) known
 
--- where one shelf changed the others are known
-pub known-others : (k : ℕ) (change : KeptShelf → KeptShelf) (blocks : Blocks) (shelves : List KeptShelf) → AreKnown blocks shelves → AreOthersKnown k blocks (changed_by (Some k) change shelves)
-known-others k change blocks shelves known = record {
+-- where one shelf changed, and its height stays a multiple of eight, heights stay in steps
+pub steps-changed : (k : ℕ) (change : KeptShelf → KeptShelf) (shelves : List KeptShelf) → ((x : KeptShelf) → x.shelf.height % 8 ≡ 0 → (change x).shelf.height % 8 ≡ 0)
+    → AreInSteps shelves → AreInSteps (changed_by (Some k) change shelves)
+steps-changed k change shelves keeps steps number kept at =
+    read-changed change shelves k number kept at (λ z stood same is. subst (λ (s : KeptShelf). s.shelf.height % 8 ≡ 0) (sym is) (keeps z (steps k z stood))) (λ apart stood. steps number kept stood)
+
+-- where one shelf changed, but for its height, the others are known
+pub known-others : (k : ℕ) (change : KeptShelf → KeptShelf) (blocks : Blocks) (shelves : List KeptShelf) → ((x : KeptShelf) → (change x).shelf.height ≡ x.shelf.height)
+    → AreKnown blocks shelves → AreOthersKnown k blocks (changed_by (Some k) change shelves)
+known-others k change blocks shelves height known = record {
   each = carry-known (λ number. Unit {0}) (λ number. number ≡ k → ⊥) blocks shelves (changed_by (Some k) change shelves) (λ number kept other at. unchanged (λ n. Unit {0}) number kept tt other at) known.each;
   others = λ same some. carry-others blocks.others shelves (changed_by (Some k) change shelves)
       (λ number kept other at. unchanged (λ n. n ≡ blocks.others.number → ⊥) number kept other (λ is. other (is ∙ sym same)) at) (known.others some);
+  steps = λ in_steps. steps-changed k change shelves (λ x h. ap (λ (n : ℕ). n % 8) (height x) ∙ h) (known.steps in_steps);
 }
   where
     inner : (number : ℕ) → Some k ≡ Some number → number ≡ k
@@ -234,12 +243,28 @@ before-last [] x y (suc n) other at = at
 before-last (z ∷ xs) x y zero other at = at
 before-last (z ∷ xs) x y (suc n) other at = before-last xs x y n (λ e. other (ap suc e)) at
 
--- where a shelf was added the others are known
-known-added : (one : KeptShelf) (blocks : Blocks) (shelves : List KeptShelf) → AreKnown blocks shelves → AreOthersKnown (length shelves) blocks (shelves ++ one ∷ [])
+-- what is known of shelves by their blocks is known whatever height is expected
+pub known-expecting : {IsSuch : ℕ → Type 0} (height : ℕ) (blocks : Blocks) (shelves : List KeptShelf) → AreKnownWhere IsSuch blocks shelves → AreKnownWhere IsSuch (expecting height blocks) shelves
+known-expecting height blocks shelves known = record { small = known.small; middle = known.middle; large = known.large }
+
+-- an element of a list with one more
+of-added : {X P : Type 0} (xs : List X) (x y : X) (n : ℕ) → slice_get (xs ++ x ∷ []) n ≡ Some y → (y ≡ x → P) → (slice_get xs n ≡ Some y → P) → P
+of-added [] x y zero at last before = last (cc)
+of-added [] x y (suc n) at last before = before at
+of-added (z ∷ xs) x y zero at last before = before at
+of-added (z ∷ xs) x y (suc n) at last before = of-added xs x y n at last before
+
+-- where a shelf was added whose height was expected the others are known
+known-added : (one : KeptShelf) (blocks : Blocks) (shelves : List KeptShelf) → AreKnown blocks shelves
+    → AreOthersKnown (length shelves) (expecting one.shelf.height blocks) (shelves ++ one ∷ [])
 known-added one blocks shelves known = record {
-  each = carry-known (λ number. Unit {0}) (λ number. number ≡ length shelves → ⊥) blocks shelves (shelves ++ one ∷ []) (λ number kept other at. stood (λ n. Unit {0}) number kept tt other at) known.each;
+  each = known-expecting one.shelf.height blocks (shelves ++ one ∷ [])
+      (carry-known (λ number. Unit {0}) (λ number. number ≡ length shelves → ⊥) blocks shelves (shelves ++ one ∷ []) (λ number kept other at. stood (λ n. Unit {0}) number kept tt other at) known.each);
   others = λ same some. carry-others blocks.others shelves (shelves ++ one ∷ [])
       (λ number kept other at. stood (λ n. n ≡ blocks.others.number → ⊥) number kept other (λ is. other (is ∙ sym same)) at) (known.others some);
+  steps = λ both number kept at.
+      let tests = and_parts blocks.in_steps (one.shelf.height % 8 == 0) both in
+      of-added shelves one kept number at (λ is. ap (λ (s : KeptShelf). s.shelf.height % 8) is ∙ eqb-true (one.shelf.height % 8) 0 tests.1) (known.steps tests.0 number kept);
 }
   where
     stood : (IsSuch : ℕ → Type 0) (number : ℕ) (kept : KeptShelf) → IsSuch number → (number ≡ length shelves → ⊥) → slice_get (shelves ++ one ∷ []) number ≡ Some kept → IsCarried IsSuch shelves number kept
@@ -247,11 +272,11 @@ known-added one blocks shelves known = record {
 
 -- the same by the shelves after a push that went well
 pub known-last : (one : KeptShelf) (blocks : Blocks) (shelves all : List KeptShelf) (pushes : Bool) → pushes ≡ true → all ≡ cond pushes (shelves ++ one ∷ []) shelves
-    → AreKnown blocks shelves → AreOthersKnown (length all - 1) blocks all
+    → AreKnown blocks shelves → AreOthersKnown (length all - 1) (expecting one.shelf.height blocks) all
 known-last one blocks shelves all pushes well pushed known =
     let added : all ≡ shelves ++ one ∷ [] = pushed ∙ ap (λ (t : Bool). cond t (shelves ++ one ∷ []) shelves) well in
     let last : length all - 1 ≡ length shelves = omega (arith, ap (λ (xs : List KeptShelf). length xs) added, length-append shelves (one ∷ [])) in
-    rw last (subst (AreOthersKnown (length shelves) blocks) (sym added) (known-added one blocks shelves known))
+    rw last (subst (AreOthersKnown (length shelves) (expecting one.shelf.height blocks)) (sym added) (known-added one blocks shelves known))
 
 -- shelves among which are these
 abbrev pub AreSome : List KeptShelf → List KeptShelf → Type 0
@@ -267,7 +292,8 @@ some-taken (suc count) (x ∷ shelves) (suc number) kept at = some-taken count s
 -- some of known shelves are known
 pub known-some : (blocks : Blocks) (all shelves : List KeptShelf) → AreSome all shelves → AreKnown blocks all → AreKnown blocks shelves
 known-some blocks all shelves some known =
-    carry-all blocks all shelves (λ IsSuch number kept such at. record { was = kept; such = such; there = some number kept at; known = λ block is. is }) known
+    carry-all blocks all shelves (λ IsSuch number kept such at. record { was = kept; such = such; there = some number kept at; known = λ block is. is })
+    (λ steps number kept at. steps number kept (some number kept at)) known
 
 -- what a block knows of a shelf
 abbrev pub known_of : KeptShelf → List ℕ
@@ -293,16 +319,16 @@ same-at (x ∷ xs) (z ∷ ys) (suc n) y same at found =
     let tails : map known_of ys ≡ map known_of xs = cc in
     same-at xs ys n y tails at found
 
--- shelves of which the same is known
-pub known-same : (blocks : Blocks) (xs ys : List KeptShelf) → map known_of ys ≡ map known_of xs → AreKnown blocks xs → AreKnown blocks ys
-known-same blocks xs ys same known =
+-- shelves of which the same is known, and whose heights are in steps too
+pub known-same : (blocks : Blocks) (xs ys : List KeptShelf) → map known_of ys ≡ map known_of xs → (AreInSteps xs → AreInSteps ys) → AreKnown blocks xs → AreKnown blocks ys
+known-same blocks xs ys same stepped known =
     carry-all blocks xs ys
     (λ IsSuch number kept such at. same-at xs ys number kept same at (λ x was room live. record {
       was = x;
       such = such;
       there = was;
       known = λ block is. record { room = omega (arith, is.room, room); idle = λ idle. is.idle (ap (λ (n : ℕ). n == 0) (sym live) ∙ idle) };
-    })) known
+    })) stepped known
 
 -- a shelf is known to its blocks where all are known
 pub known-at : (k : ℕ) (before : KeptShelf) (blocks : Blocks) (shelves : List KeptShelf) → slice_get shelves k ≡ Some before → AreKnown blocks shelves → IsKnownAt k before blocks

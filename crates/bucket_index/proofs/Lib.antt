@@ -5,4 +5,5 @@ pub mod LinkedRecords
 pub mod OtherShelves
 pub mod PassedShelves
 pub mod Searched
+pub mod SteppedShelves
 pub mod WidestRooms

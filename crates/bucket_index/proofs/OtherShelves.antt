@@ -52,6 +52,7 @@ lower-known k one blocks shelves here same some known = record {
     large = of_size 512 blocks.others.large blocks.large beside.large known.each.large;
   };
   others = known.others same;
+  steps = known.steps;
 }
   where
     beside : AreBeside blocks.others shelves

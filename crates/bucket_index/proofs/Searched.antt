@@ -1,12 +1,11 @@
 -- Searches over shelves that pass over some of them.
 use Rattle.std.proofs.Common.{◌≡◌, ℕ, zero, suc, ◌+◌, ◌<◌, ◌≤◌, Bool, true, false, Option, None, Some, option_map, List, [], ◌∷◌, length, map, take, drop, get_or, refl, ap, sym, ◌∙◌, arith}
-use Rattle.std.proofs.lemmas.Bool.{eqb-true, ltb-true}
+use Rattle.std.proofs.lemmas.Bool.{ltb-true}
 use Rattle.std.proofs.lemmas.List.{take_all}
 use Rattle.std.proofs.lemmas.Option.{slice_get-get_or}
 use Rattle.std.specs.Prelude.{nat_lt, slice_get}
 use Rattle.etagere_base.specs.Least.{Found, better, first_least}
 use Rattle.etagere_base.proofs.Least.{best-more}
-use Rattle.bucket_index.specs.Private.Searching.{wastes_nothing}
 
 -- an element of a list, where there is one
 element : {X P : Type 0} (xs : List X) (n : ℕ) → ((x : X) → n < length xs → slice_get xs n ≡ Some x → P) → (length xs ≤ n → P) → P
@@ -70,15 +69,3 @@ search-skip {X} {Y} search_ xs n (suc j) ends passes =
     ∙ element xs (n + j) (λ x within at. passes (n + j) x (omega arith) (omega arith) at)
     (λ past. ap (search_ (n + j)) (drop-past (n + j) xs past) ∙ ends (n + j) (suc (n + j)) ∙ ap (search_ (suc (n + j))) (sym (drop-past (suc (n + j)) xs (omega arith))))
     ∙ ap (λ (k : ℕ). search_ k (drop k xs)) sum
-
--- what wastes nothing is the best of more elements too
-pub best-done : {X : Type 0} (rank : X → Option ℕ) (xs : List X) (best : Option Found) (n j : ℕ) → first_least (map rank (take n xs)) ≡ best → wastes_nothing best ≡ true
-    → first_least (map rank (take (n + j) xs)) ≡ best
-best-done rank xs None n j is done = absurd (cc)
-best-done rank xs (Some found) n j is done = best-keeps rank xs (Some found) n j is (λ k x _ _ _. better-none found (option_map (λ r. record { number = k; rank = r }) (rank x)) (eqb-true found.rank 0 done))
-
--- what wastes nothing is the best of all
-pub best-of_all : {X : Type 0} (rank : X → Option ℕ) (xs : List X) (best : Option Found) (n : ℕ) → first_least (map rank (take n xs)) ≡ best → wastes_nothing best ≡ true
-    → first_least (map rank xs) ≡ best
-best-of_all {X} rank xs best n is done =
-    ap (λ (ys : List X). first_least (map rank ys)) (sym (take_all (n + length xs) xs (omega arith))) ∙ best-done rank xs best n (length xs) is done

@@ -34,6 +34,9 @@ const MOST_LARGE: usize = 8;
 /// How many shelves there are at most.
 const MOST_SHELVES: usize = 4096;
 
+/// The height of each shelf is a multiple of it, but where the height of a column is none.
+const STEP: u16 = 8;
+
 /// What is known of the shelves of a block.
 #[derive(Clone, Copy)]
 pub struct Block {
@@ -73,6 +76,8 @@ const NO_OTHERS: Others = Others {
 /// The blocks of the shelves of an atlas, in three sizes.
 #[derive(Clone, Copy)]
 pub struct Blocks {
+    /// Where it is true, the height of each shelf is a multiple of `STEP`.
+    pub in_steps: bool,
     /// Those of the shelf that was raised last, so that it is lowered again without a recount.
     pub others: Others,
     pub small: [Block; MOST_SMALL],
@@ -227,6 +232,7 @@ impl Blocks {
         ensures none { result.others.number ≡ 4096 }
     {
         Blocks {
+            in_steps: true,
             others: NO_OTHERS,
             small: [NO_SHELVES; MOST_SMALL],
             middle: [NO_SHELVES; MOST_MIDDLE],
@@ -240,9 +246,25 @@ impl Blocks {
     {
         let mut known = Blocks::new();
         for number in 0..shelves.len() {
-            known.raise(number, &shelves[number]);
+            let kept = &shelves[number];
+            known.expect(kept.shelf.height);
+            known.raise(number, kept);
         }
         known
+    }
+
+    /// Knows how tall a shelf is that is to be added.
+    pub fn expect(&mut self, height: u16)
+        ensures { self.new ≡ spec.expecting height self.old }
+    {
+        self.in_steps &= height % STEP == 0;
+    }
+
+    /// By how much the heights of two shelves differ at least that aren't the same.
+    pub fn step(&self) -> u32
+        ensures { (shelves : spec.Shelves) → spec.AreKnown self.now shelves → spec.IsStep result shelves }
+    {
+        if self.in_steps { u32::from(STEP) } else { 1 }
     }
 
     /// Where a search for a shelf with room for this width goes on that has come to the shelf of a number: at that

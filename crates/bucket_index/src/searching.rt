@@ -8,7 +8,7 @@ ghost use Rattle.etagere_base.specs.Least.{first_least};
 ghost use Rattle.etagere_links.specs.Links.{no_link};
 ghost use Rattle.bucketed_model.specs.Picking.{or_else};
 ghost use Rattle.bucketed_model.specs.State.{most_buckets};
-ghost use Rattle.bucket_index.specs.Private.Blocks.{AreKnown};
+ghost use Rattle.bucket_index.specs.Private.Blocks.{AreKnown, IsStep};
 ghost use Rattle.bucket_index.specs.Private.Searching as spec;
 ghost use Rattle.bucket_index.specs.Private.Spans.{AreSpans};
 
@@ -288,12 +288,13 @@ fn limit_beside(adds: bool, sides: &Sides, best: &Option<Least>) -> u32
 }
 
 /// The shelf that wastes the least height, the first of such. Blocks in which none has room are passed over, and the
-/// first shelf that wastes nothing ends the search.
+/// first shelf ends the search that wastes so little that none can waste less.
 fn least_waste(adds: bool, sides: &Sides, shelves: &[KeptShelf], blocks: &Blocks) -> Option<Least>
     requires known { AreKnown blocks.now shelves.now }
     ensures least { result ≡ first_least (map (spec.kept_waste adds sides.now) shelves.now) }
     ensures within { IfSome result (λ least. least.number < length shelves.now) }
 {
+    let step = blocks.step();
     let mut best = None;
     let mut from = 0;
     while from < shelves.len() {
@@ -301,9 +302,9 @@ fn least_waste(adds: bool, sides: &Sides, shelves: &[KeptShelf], blocks: &Blocks
         if from < behind {
             from = behind;
         } else {
-            best = least_in(adds, sides, shelves, from, best);
+            best = least_in(adds, sides, shelves, step, from, best);
             from += SHELVES_OF_BLOCK;
-            if wastes_nothing(&best) {
+            if is_least(step, &best) {
                 break;
             }
         }
@@ -316,9 +317,11 @@ fn least_in(
     adds: bool,
     sides: &Sides,
     shelves: &[KeptShelf],
+    step: u32,
     from: usize,
     best: Option<Least>,
 ) -> Option<Least>
+    requires step { IsStep step shelves.now }
     requires from { from ≤ length shelves.now }
     requires best { best
         ≡ first_least (map (spec.kept_waste adds sides.now) (take from shelves.now)) }
@@ -333,19 +336,19 @@ fn least_in(
         };
         best = Some(Least { number, rank });
         limit = rank;
-        if rank == 0 {
+        if rank < step {
             break;
         }
     }
     best
 }
 
-/// Whether a shelf was found that wastes nothing.
-fn wastes_nothing(best: &Option<Least>) -> bool
-    ensures { result ≡ spec.wastes_nothing best.now }
+/// Whether a shelf was found that wastes less than two differ in height, so that none wastes less.
+fn is_least(step: u32, best: &Option<Least>) -> bool
+    ensures { result ≡ spec.is_least step best.now }
 {
     match best {
-        Some(least) => least.rank == 0,
+        Some(least) => least.rank < step,
         None => false,
     }
 }

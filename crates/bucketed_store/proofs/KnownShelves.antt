@@ -1,15 +1,16 @@
 -- What blocks know of the shelves that are left when some were dropped or merged.
-use Rattle.std.proofs.Common.{◌≡◌, ℕ, zero, suc, ◌+◌, ◌-◌, Bool, true, false, Option, None, Some, List, length, map, cond, refl, ◌∙◌, ◌==◌}
+use Rattle.std.proofs.Common.{◌≡◌, ℕ, zero, suc, ◌+◌, ◌-◌, Bool, true, false, Option, None, Some, List, [], ◌∷◌, length, map, take, drop, cond, refl, arith, ◌∙◌, ◌==◌}
 use Rattle.std.specs.Option.{option_map_or}
-use Rattle.std.specs.Prelude.{slice_get}
+use Rattle.std.specs.Prelude.{slice_get, ◌%◌}
 use Rattle.etagere_links.specs.Edits.{changed_by}
 use Rattle.etagere_links.proofs.RecordChanges.{map-changed_by}
 use Rattle.bucketed_model.specs.Merging.{Group}
 use Rattle.bucketed_records.specs.declared.records.KeptShelf.{KeptShelf}
 use Rattle.bucketed_records.specs.Private.Store.{last_kept}
 use Rattle.bucket_index.specs.declared.blocks.Blocks.{Blocks}
-use Rattle.bucket_index.specs.Private.Blocks.{AreKnown}
-use Rattle.bucket_index.proofs.KnownBlocks.{AreSome, known-same, known_of, some-taken}
+use Rattle.bucket_index.specs.Private.Blocks.{AreInSteps, AreKnown}
+use Rattle.bucket_index.proofs.KnownBlocks.{AreSome, known-same, known_of, some-taken, steps-changed}
+use Rattle.bucketed_store.specs.Private.Placing.{kept_height}
 use Rattle.bucketed_store.specs.Private.Returns.{Dropping, end_dropped, last_dropped}
 use Rattle.bucketed_store.specs.Private.StoreEdits.{across_of, flattened, group_height, kept_merged, to_height}
 
@@ -31,9 +32,48 @@ some-dropped (suc steps) done number kept at = by_last (λ next. some-dropped st
     by_last later None h = h
     by_last later (Some one) h = by_test later one (one.live_items == 0) h
 
+-- what is left of shelves in steps is in steps
+steps-dropped : (n : ℕ) (shelves : List KeptShelf) → AreInSteps shelves → AreInSteps (drop n shelves)
+steps-dropped zero shelves steps = steps
+steps-dropped (suc n) [] steps = steps
+steps-dropped (suc n) (x ∷ shelves) steps = steps-dropped n shelves (λ number kept at. steps (suc number) kept at)
+
+-- the height of shelves in steps is in steps
+steps-height : (shelves : List KeptShelf) → AreInSteps shelves → kept_height shelves % 8 ≡ 0
+steps-height [] steps = refl
+steps-height (x ∷ shelves) steps = omega (arith, steps 0 x refl, steps-height shelves (λ number kept at. steps (suc number) kept at))
+
+-- merged shelves stay in steps
+steps-merged : (group : Group) (shelves : List KeptShelf) → AreInSteps shelves → AreInSteps (kept_merged group shelves)
+steps-merged group shelves steps = by_test (group.others == 2)
+  where
+    height : ℕ
+    height = group_height group shelves
+
+    across : ℕ
+    across = across_of shelves group.first + height
+
+    risen : List KeptShelf
+    risen = changed_by (Some group.first) (to_height height) shelves
+
+    next : List KeptShelf
+    next = changed_by (Some (group.first + 1)) (flattened across) risen
+
+    whole : height % 8 ≡ 0
+    whole =
+        let left = steps-dropped group.first shelves steps in
+        steps-height (take (suc group.others) (drop group.first shelves)) (λ number kept at. left number kept (some-taken (suc group.others) (drop group.first shelves) number kept at))
+
+    two : AreInSteps next
+    two = steps-changed (group.first + 1) (flattened across) risen (λ x h. refl) (steps-changed group.first (to_height height) shelves (λ x h. whole) steps)
+
+    by_test : (t : Bool) → AreInSteps (cond t (changed_by (Some (group.first + 2)) (flattened across) next) next)
+    by_test true = steps-changed (group.first + 2) (flattened across) next (λ x h. refl) two
+    by_test false = two
+
 -- merging shelves changes nothing that is known
 pub known-merged : (group : Group) (blocks : Blocks) (shelves : List KeptShelf) → AreKnown blocks shelves → AreKnown blocks (kept_merged group shelves)
-known-merged group blocks shelves known = known-same blocks shelves (kept_merged group shelves) (by_test (group.others == 2)) known
+known-merged group blocks shelves known = known-same blocks shelves (kept_merged group shelves) (by_test (group.others == 2)) (steps-merged group shelves) known
   where
     height : ℕ
     height = group_height group shelves

@@ -551,10 +551,12 @@ fn add_shelf(
         x,
     };
     let first_bucket = make_buckets(buckets, spans, unused, Link::none(), &row, new.count);
+    let height = new.height as u16;
+    blocks.expect(height);
     let shelf = LinkedBucketShelf {
         x,
         y,
-        height: new.height as u16,
+        height,
         bucket_width: width,
         first_bucket,
     };

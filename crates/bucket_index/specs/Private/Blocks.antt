@@ -1,6 +1,6 @@
 -- What is known of neighbouring shelves together.
 pub use Rattle.std.specs.Prelude.{ℕ}
-use Rattle.std.specs.Prelude.{◌≡◌, ◌<◌, ◌≤◌, ◌+◌, ◌*◌, ◌/◌, ◌==◌, cond, get_or, max, Bool, true, false, ◌||◌, Some, List, slice_get, nat_le}
+use Rattle.std.specs.Prelude.{◌≡◌, ◌<◌, ◌≤◌, ◌+◌, ◌*◌, ◌/◌, ◌%◌, ◌==◌, cond, get_or, max, Bool, true, false, ◌&&◌, ◌||◌, Some, List, slice_get, nat_le}
 use Rattle.std.specs.Option.{option_map_or}
 use Rattle.etagere_links.specs.Edits.{changed_by}
 use Rattle.bucketed_records.specs.Private.Store.{is_kept_idle}
@@ -126,6 +126,10 @@ abbrev pub forgotten : ℕ → Blocks → Blocks
 forgotten number blocks =
     record blocks { others = cond (number == blocks.others.number) blocks.others (no_others blocks.others) }
 
+-- what is known where a shelf of this height is to be added
+abbrev pub expecting : ℕ → Blocks → Blocks
+expecting height blocks = record blocks { in_steps = blocks.in_steps && height % 8 == 0 }
+
 -- the number of the first shelf behind the block of one
 abbrev pub end_of : ℕ → ℕ → ℕ
 end_of size shelf = block_of size shelf * size + size
@@ -147,15 +151,27 @@ pub record AreBeside (others : Others) (shelves : List KeptShelf) : Type 0 where
 abbrev pub AreOthers : Others → List KeptShelf → Type 0
 AreOthers others shelves = others.number < 4096 → AreBeside others shelves
 
--- each of these shelves is known to its blocks, and what is known of others is right
+-- the height of each shelf is a multiple of eight
+abbrev pub AreInSteps : List KeptShelf → Type 0
+AreInSteps shelves =
+    (number : ℕ) (kept : KeptShelf) → slice_get shelves number ≡ Some kept → kept.shelf.height % 8 ≡ 0
+
+-- by so much the heights of two shelves differ at least that aren't the same
+abbrev pub IsStep : ℕ → List KeptShelf → Type 0
+IsStep step shelves = 1 < step → (step ≡ 8) × AreInSteps shelves
+
+-- each of these shelves is known to its blocks, what is known of others is right, and heights are in
+-- steps where that is known
 pub record AreKnown (blocks : Blocks) (shelves : List KeptShelf) : Type 0 where
   pub each : AreKnownWhere (λ number. Unit {0}) blocks shelves
   pub others : AreOthers blocks.others shelves
+  pub steps : blocks.in_steps ≡ true → AreInSteps shelves
 
 -- the same where nothing is said of one shelf
 pub record AreOthersKnown (one : ℕ) (blocks : Blocks) (shelves : List KeptShelf) : Type 0 where
   pub each : AreKnownWhere (λ number. number ≡ one → ⊥) blocks shelves
   pub others : blocks.others.number ≡ one → AreOthers blocks.others shelves
+  pub steps : blocks.in_steps ≡ true → AreInSteps shelves
 
 -- each of the first so many shelves is known to its blocks
 abbrev pub AreFirstKnown : ℕ → Blocks → List KeptShelf → Type 0

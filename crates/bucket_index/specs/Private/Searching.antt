@@ -80,10 +80,10 @@ limit_beside adds sides best =
     option_map_or (λ (least : Least). min least.rank (most_waste adds sides)) best
     (most_waste adds sides)
 
--- a shelf was found that wastes nothing
-abbrev pub wastes_nothing : Option Least → Bool
-wastes_nothing None = false
-wastes_nothing (Some least) = least.rank == 0
+-- a shelf was found that wastes less than two differ in height
+abbrev pub is_least : ℕ → Option Least → Bool
+is_least step None = false
+is_least step (Some least) = nat_lt least.rank step
 
 -- the number of a shelf and that of its first bucket that is wanted
 abbrev pub found_in : Wanted → List LinkedBucket → ℕ → KeptShelf → Option Found

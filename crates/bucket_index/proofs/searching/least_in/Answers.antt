@@ -1,14 +1,15 @@
 use Rattle.std.proofs.Common.{◌≡◌, ℕ, suc, ◌+◌, ◌-◌, ◌<◌, add-one, Bool, true, Option, None, Some, List, length, get_or, map, take, refl, ap, sym, ◌∙◌, arith}
 use Rattle.std.proofs.lemmas.Option.{slice_get-get_or, slice_get_read}
 use Rattle.std.specs.Option.{option_map_or}
-use Rattle.std.specs.Prelude.{option_map, slice_get, ◌^◌}
+use Rattle.std.proofs.lemmas.Bool.Decides.{nat_tests}
+use Rattle.std.specs.Prelude.{nat_lt, option_map, slice_get, ◌^◌}
 use Rattle.etagere_base.specs.declared.sides.Sides.{Sides}
 use Rattle.etagere_base.specs.Least.{Found, better, first_least}
 use Rattle.etagere_base.proofs.Least.{best-more}
 use Rattle.bucketed_records.specs.declared.records.KeptShelf.{KeptShelf}
-use Rattle.bucket_index.specs.Private.Searching.{kept_waste, limit_beside, waste_below, wastes_nothing}
+use Rattle.bucket_index.specs.Private.Searching.{is_least, kept_waste, limit_beside, waste_below}
 use Rattle.bucket_index.proofs.LimitedWaste.{at_rank, limit-next, limited}
-use Rattle.bucket_index.proofs.Searched.{best-done}
+use Rattle.bucket_index.proofs.SteppedShelves.{best-done}
 use Rattle.bucket_index.proofs.searching.least_in.Goals as goal
 
 -- the best with one shelf more, of which this is the rank
@@ -37,6 +38,10 @@ stepped adds sides shelves number limit kept best below within at small so_far l
     ap (λ (o : Option ℕ). option_map_or (λ rank. Some (at_rank number rank)) o best) (is ∙ ap (λ (n : ℕ). waste_below n sides kept) limits)
     ∙ sym (limited adds sides kept best number small)
     ∙ ranked (kept_waste adds sides) shelves number kept best (kept_waste adds sides kept) within at refl so_far
+
+-- a lower number passes the test
+less-lt : (m n : ℕ) → m < n → nat_lt m n ≡ true
+less-lt m n h = grind (arith, nat_tests)
 
 pub loop-number-preserved-in_default : goal.loop-number-preserved-in_default
 loop-number-preserved-in_default c =
@@ -67,8 +72,8 @@ loop-number-preserved c =
           (ap (λ (n : ℕ). waste_below n c.args.sides.now kept) (sym c.loop-number.invariant.limit) ∙ sym below));
     }
 
-pub returns-then-rank-eq0 : goal.returns-then-rank-eq0
-returns-then-rank-eq0 c =
+pub returns-then-rank-step : goal.returns-then-rank-step
+returns-then-rank-step c =
     let shelves = c.args.shelves.now in
     let number = c.loop-number.number in
     let kept = c.index-shelves-number.result in
@@ -79,6 +84,6 @@ returns-then-rank-eq0 c =
     stepped c.args.adds c.args.sides.now shelves number c.loop-number.limit kept c.loop-number.best (Some c.in-Some.rank) within
     (slice_get_read shelves (length shelves) number kept refl within c.index-shelves-number.is) c.waste_below.ensures.small c.loop-number.invariant.best c.loop-number.invariant.limit
     (sym c.in-Some.is ∙ c.waste_below.ensures.value) in
-    let done : wastes_nothing (Some (at_rank number c.in-Some.rank)) ≡ true = rw c.if-rank-eq0.true refl in
+    let done : is_least c.args.step (Some (at_rank number c.in-Some.rank)) ≡ true = less-lt c.in-Some.rank c.args.step c.if-rank-step.true in
     sym (ap (λ (k : ℕ). first_least (map rank (take k shelves))) (sym end)
-    ∙ best-done rank shelves (Some (at_rank number c.in-Some.rank)) (suc number) (c.args.from + 8 - suc number) (sym best) done)
+    ∙ best-done c.args.step c.args.adds c.args.sides.now shelves (Some (at_rank number c.in-Some.rank)) (suc number) (c.args.from + 8 - suc number) c.requires.step (sym best) done)

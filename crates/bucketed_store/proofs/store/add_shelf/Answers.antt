@@ -32,7 +32,7 @@ next_across-y-requires c =
 
 pub add_last-requires-clause-others : goal.add_last-requires-clause-others
 add_last-requires-clause-others c =
-    known-last _ c.args.blocks.now c.args.shelves.now.items c.deref-2.result.now (is_ok c.push.result) (ap is_ok c.unwrap.ensures) (c.deref-2.ensures.value ∙ c.push.ensures.items) c.requires.known
+    rw c.expect.ensures (known-last _ c.args.blocks.now c.args.shelves.now.items c.deref-2.result.now (is_ok c.push.result) (ap is_ok c.unwrap.ensures) (c.deref-2.ensures.value ∙ c.push.ensures.items) c.requires.known)
 
 pub returns-clause-known : goal.returns-clause-known
 returns-clause-known c = subst (AreKnown c.add_last.new.self) c.deref-2.ensures.value c.add_last.ensures

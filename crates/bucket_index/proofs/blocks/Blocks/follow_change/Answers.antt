@@ -17,4 +17,5 @@ returns-then-stays_known c =
           (known-stays number c.args.before.now one old shelves (slice_get_read shelves (length shelves) number one refl c.requires.within c.index-shelves-number.is) is.0 is.1
           c.requires.before c.requires.others.each);
       others = others-left number old shelves c.requires.others;
+      steps = c.requires.others.steps;
     })

@@ -1,11 +1,32 @@
-use Rattle.std.proofs.Common.{◌+◌, ◌<◌, length, refl, arith}
-use Rattle.std.proofs.lemmas.Option.{slice_get_read}
-use Rattle.bucket_index.specs.Private.Blocks.{AreFirstKnown}
-use Rattle.bucket_index.proofs.KnownBlocks.{all-known, raise-known}
+use Rattle.std.proofs.Common.{◌≡◌, ◌+◌, ◌<◌, ℕ, Bool, List, Some, true, false, length, refl, ap, sym, arith, ◌∙◌, ◌==◌}
+use Rattle.std.proofs.lemmas.Bool.{and_parts, eqb-false, eqb-true}
+use Rattle.std.proofs.lemmas.Option.{slice_get_read, slice_get_within}
+use Rattle.std.specs.Prelude.{slice_get, ◌%◌, ◌&&◌}
+use Rattle.bucket_index.specs.Private.Blocks.{AreFirstKnown, KeptShelf, expecting}
+use Rattle.bucket_index.proofs.KnownBlocks.{all-known, known-expecting, raise-known, some-same}
 use Rattle.bucket_index.proofs.blocks.Blocks.of.Goals as goal
 
+-- heights are in steps with one more shelf, whose height was expected
+steps-more : (before : Bool) (shelves : List KeptShelf) (number : ℕ) (one : KeptShelf) → slice_get shelves number ≡ Some one
+    → (before ≡ true → (n : ℕ) (kept : KeptShelf) → n < number → slice_get shelves n ≡ Some kept → kept.shelf.height % 8 ≡ 0) → (before && one.shelf.height % 8 == 0) ≡ true → (n : ℕ) (kept : KeptShelf)
+    → n < number + 1 → slice_get shelves n ≡ Some kept → kept.shelf.height % 8 ≡ 0
+steps-more before shelves number one there steps both n kept below at = by_number (n == number) refl
+  where
+    by_number : (t : Bool) → (n == number) ≡ t → kept.shelf.height % 8 ≡ 0
+    by_number true e =
+        ap (λ (s : KeptShelf). s.shelf.height % 8) (some-same (slice_get shelves number) kept one (ap (slice_get shelves) (sym (eqb-true n number e)) ∙ at) there)
+        ∙ eqb-true (one.shelf.height % 8) 0 (and_parts before (one.shelf.height % 8 == 0) both).1
+    by_number false e = steps (and_parts before (one.shelf.height % 8 == 0) both).0 n kept (by_less (eqb-false n number e)) at
+      where
+        by_less : (n ≡ number → ⊥) → n < number
+        by_less other = omega (arith, below, other)
+
 pub loop-number-init : goal.loop-number-init
-loop-number-init c = (all, λ some. absurd (omega (arith, some, c.new-known.ensures.none)))
+loop-number-init c = record {
+  first = all;
+  others = λ some. absurd (omega (arith, some, c.new-known.ensures.none));
+  steps = λ in_steps number kept below at. absurd (omega (arith, below));
+}
   where
     all : AreFirstKnown 0 c.new-known.result c.args.shelves.now
     all = record {
@@ -18,15 +39,20 @@ pub loop-number-preserved : goal.loop-number-preserved
 loop-number-preserved c =
     let shelves = c.args.shelves.now in
     let number = c.loop-number.number in
+    let known = c.loop-number.known in
     let one = c.index-shelves-number.result in
-    rw c.raise.ensures (
-      raise-known (λ n. n < number) (λ n. n < number + 1) number one c.loop-number.known shelves
-          (slice_get_read shelves (length shelves) number one refl c.loop-number-test.true c.index-shelves-number.is) (λ n below other. omega (arith, below, other)) c.loop-number.invariant.0,
-      c.loop-number.invariant.1,
-    )
+    let there = slice_get_read shelves (length shelves) number one refl c.loop-number-test.true c.index-shelves-number.is in
+    rw (c.raise.ensures, c.expect.ensures) (record {
+      first = raise-known (λ n. n < number) (λ n. n < number + 1) number one (expecting one.shelf.height known) shelves there (λ n below other. omega (arith, below, other))
+          (known-expecting one.shelf.height known shelves c.loop-number.invariant.first);
+      others = c.loop-number.invariant.others;
+      steps = steps-more known.in_steps shelves number one there c.loop-number.invariant.steps;
+    })
 
 pub returns : goal.returns
 returns c = record {
-  each = all-known c.loop-number.number c.loop-number.known c.args.shelves.now c.loop-number-test.false c.loop-number.invariant.0;
-  others = c.loop-number.invariant.1;
+  each = all-known c.loop-number.number c.loop-number.known c.args.shelves.now c.loop-number-test.false c.loop-number.invariant.first;
+  others = c.loop-number.invariant.others;
+  steps = λ in_steps number kept at.
+      c.loop-number.invariant.steps in_steps number kept (omega (arith, slice_get_within c.args.shelves.now number kept at, c.loop-number-test.false)) at;
 }

@@ -15,4 +15,5 @@ returns c =
       each = raise-known (λ n. n ≡ number → ⊥) (λ n. Unit {0}) number one (remembered number c.args.room old) shelves
           (slice_get_read shelves (length shelves) number one refl c.requires.within c.index-shelves-number.is) (λ n any other. other) (known-whatever (remembered number c.args.room old).others old shelves c.requires.others.each);
       others = others-kept number c.args.room old shelves (search rules) (search rules) (search rules) c.requires.others;
+      steps = c.requires.others.steps;
     }))

@@ -33,6 +33,7 @@ returns c =
             (gathered-large number c.gathered-fresh_large.result c.set_block-2.new.blocks old.large shelves wide_ few middle c.gathered-fresh_large.ensures) c.requires.others.each.large);
       };
       others = λ some. absurd (omega (arith, some));
+      steps = c.requires.others.steps;
     }
 
 -- all shelves stand in one small block
@@ -45,6 +46,7 @@ returns-then-shelves-le-SHELVES_OF_BLOCK c =
         large = rw c.set_block-then-shelves-le-SHELVES_OF_BLOCK-2.ensures (set-of 512 number fresh old.large shelves (λ n kept same low at. all n kept at) c.requires.others.each.large);
       };
       others = λ some. absurd (omega (arith, some));
+      steps = c.requires.others.steps;
     }
   where
     shelves : List KeptShelf

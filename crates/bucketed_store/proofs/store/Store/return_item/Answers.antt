@@ -62,7 +62,7 @@ follow-requires-clause-others c =
     ∙ ap (λ (xs : List KeptShelf). changed_by (Some (shelf_of inside.buckets.items number)) change xs) c.deref_mut.ensures.value
     ∙ ap (λ (n : ℕ). changed_by (Some n) change inside.shelves.items) (sym shelf) in
     subst (AreOthersKnown c.shelf_number-shelf.result inside.blocks) (sym (c.deref-6.ensures.value ∙ items ∙ returned))
-    (known-others c.shelf_number-shelf.result change inside.blocks inside.shelves.items c.self.invariant.0)
+    (known-others c.shelf_number-shelf.result change inside.blocks inside.shelves.items (λ x. refl) c.self.invariant.0)
 
 pub invariant_of-self : goal.invariant_of-self
 invariant_of-self c =
