@@ -176,14 +176,14 @@ fn block_at(blocks: &[Block], number: usize) -> Block
     }
 }
 
-/// Knows a shelf beside the others in the block of a number.
-fn raise_block(blocks: &mut [Block], number: usize, kept: &KeptShelf)
-    ensures { blocks.new ≡ changed_by (Some number) (spec.with_shelf kept.now) blocks.old }
+/// Knows a shelf with this room beside the others in the block of a number.
+fn raise_block(blocks: &mut [Block], number: usize, room: u16, is_idle: bool)
+    ensures { blocks.new ≡ changed_by (Some number) (spec.raised_block room is_idle) blocks.old }
 {
     if number < blocks.len() {
         let block = &mut blocks[number];
-        block.widest_room = block.widest_room.max(kept.widest_room);
-        block.has_idle |= kept.is_idle();
+        block.widest_room = block.widest_room.max(room);
+        block.has_idle |= is_idle;
     }
 }
 
@@ -193,7 +193,8 @@ fn set_block(blocks: &mut [Block], number: usize, fresh: Block)
 {
     if number < blocks.len() {
         let block = &mut blocks[number];
-        *block = fresh;
+        block.widest_room = fresh.widest_room;
+        block.has_idle = fresh.has_idle;
     }
 }
 
@@ -311,9 +312,11 @@ impl Blocks {
     fn raise(&mut self, number: usize, kept: &KeptShelf)
         ensures { self.new ≡ spec.raised number kept.now self.old }
     {
-        raise_block(&mut self.small, number / SHELVES_OF_BLOCK, kept);
-        raise_block(&mut self.middle, number / SHELVES_OF_MIDDLE, kept);
-        raise_block(&mut self.large, number / SHELVES_OF_LARGE, kept);
+        let room = kept.widest_room;
+        let is_idle = kept.is_idle();
+        raise_block(&mut self.small, number / SHELVES_OF_BLOCK, room, is_idle);
+        raise_block(&mut self.middle, number / SHELVES_OF_MIDDLE, room, is_idle);
+        raise_block(&mut self.large, number / SHELVES_OF_LARGE, room, is_idle);
     }
 
     /// Keeps the blocks of the shelf of a number, which had this room, as they are known by the others, unless those were

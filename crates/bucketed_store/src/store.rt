@@ -625,9 +625,9 @@ fn goes_far(
         return false;
     };
     let begin = place_at(buckets, first);
-    is_far(u32::from(shelf.x), begin, shelf.bucket_width)
+    (!keeps || is_far(place_at(buckets, found.bucket), begin, shelf.bucket_width))
         && !(spans.knows(shelf.first_bucket) && spans.knows_block(found.bucket))
-        && (!keeps || is_far(place_at(buckets, found.bucket), begin, shelf.bucket_width))
+        && is_far(u32::from(shelf.x), begin, shelf.bucket_width)
 }
 
 /// Beyond so many buckets a search is worth spans.

@@ -16,13 +16,14 @@ Shelves = List KeptShelf
 abbrev pub block_of : ℕ → ℕ → ℕ
 block_of size shelf = shelf / size
 
--- what is known of a block with a shelf beside the others
+-- what is known of a block with a shelf of this room beside the others
+abbrev pub raised_block : ℕ → Bool → Block → Block
+raised_block room is_idle block =
+    record { widest_room = max block.widest_room room; has_idle = block.has_idle || is_idle }
+
+-- the same with this shelf
 abbrev pub with_shelf : KeptShelf → Block → Block
-with_shelf kept block =
-    record {
-      widest_room = max block.widest_room kept.widest_room;
-      has_idle = block.has_idle || is_kept_idle kept;
-    }
+with_shelf kept = raised_block kept.widest_room (is_kept_idle kept)
 
 -- what is known of two blocks together
 abbrev pub joined : Block → Block → Block
