@@ -2,7 +2,7 @@
 //!
 //! Definitions: `Store`, `StoreEdits`. `Store` also says when records spell a state.
 
-ghost use Rattle.std.specs.Prelude.{◌≡◌, ◌+◌, ◌-◌, ◌*◌, ◌<◌, ◌≤◌, ◌^◌, [], None, Some, IfOk, IsSome, IsTrue, OnOk, OnErr, length, slice_get, vec_len, vec_capacity, map};
+ghost use Rattle.std.specs.Prelude.{◌≡◌, ◌+◌, ◌-◌, ◌*◌, ◌<◌, ◌≤◌, ◌^◌, [], None, Some, IfOk, IsSome, IsTrue, OnOk, OnErr, false, length, slice_get, vec_len, vec_capacity, map};
 ghost use Rattle.etagere_links.specs.Edits.{changed_by};
 ghost use Rattle.etagere_links.specs.Links.{no_link};
 ghost use Rattle.bucketed_model.specs.Adding as adding;
@@ -73,6 +73,17 @@ impl Model for Store {
 
     ghost invariant = { λ store. AreKnown store.blocks store.shelves.items
         × AreSpans store.spans store.buckets.items };
+}
+
+/// What a return gives back.
+#[derive(Clone, Copy)]
+pub struct Returned {
+    /// An area, in square pixels.
+    pub area: u32,
+    /// Whether shelves are dropped.
+    pub drops: bool,
+    /// How many buckets become unused with them.
+    pub dropped: u32,
 }
 
 /// Where the next shelf in the column at a place begins across.
@@ -299,14 +310,20 @@ impl Store {
         is_known(&self.buckets, id)
     }
 
-    /// Returns an item to the bucket of a number, and answers the area that this gives back, in square pixels.
-    pub fn return_item(&mut self, number: usize) -> u32
+    /// Returns an item to the bucket of a number, and drops the shelves at the end that hold nothing live then. What is
+    /// known of the item's shelf is looked at only where that stays.
+    pub fn return_item(&mut self, number: usize) -> Returned
         requires number { number < length self.old.buckets }
         requires shelf { shelf_of self.old.buckets number < length self.old.shelves }
         requires free { free_of self.old.buckets number
             ≤ returns.width_of self.old.shelves (shelf_of self.old.buckets number) }
-        ensures records { self.new ≡ returns.item_returned number self.old }
-        ensures area { result ≡ returns.returned_area number self.old.shelves self.old.buckets }
+        requires few_shelves { length self.old.shelves ≤ most_buckets }
+        requires few_buckets { length self.old.buckets ≤ most_buckets }
+        ensures records { returns.dropping_from self.new result.dropped
+            ≡ returns.end_dropped (length (returns.item_returned number self.old).shelves)
+            (returns.dropping_from (returns.item_returned number self.old) 0) }
+        ensures stays { result.drops ≡ false → length self.new.shelves ≡ length self.old.shelves }
+        ensures area { result.area ≡ returns.returned_area number self.old.shelves self.old.buckets }
     {
         let area = returned_area(&self.shelves, &self.buckets, number);
         let shelf = shelf_number(&self.buckets, number);
@@ -314,26 +331,28 @@ impl Store {
         let room = room_of(&self.buckets, number);
         return_item(&mut self.shelves, &mut self.buckets, number);
         self.spans.track(&self.buckets, number, room);
-        self.blocks.follow(&self.shelves, shelf, &before);
-        area
-    }
-
-    /// Drops the shelves at the end that hold nothing live, and answers how many buckets that leaves unused.
-    pub fn drop_idle_end(&mut self) -> u32
-        requires shelves { length self.old.shelves ≤ most_buckets }
-        requires buckets { length self.old.buckets ≤ most_buckets }
-        ensures { returns.dropping_from self.new result
-            ≡ returns.end_dropped (length self.old.shelves) (returns.dropping_from self.old 0) }
-    {
         if !ends_idle(&self.shelves) {
-            return 0;
+            self.blocks.follow(&self.shelves, shelf, &before);
+            return Returned {
+                area,
+                drops: false,
+                dropped: 0,
+            };
         }
-        drop_idle_end(
+        let dropped = drop_idle_end(
             &mut self.shelves,
             &mut self.buckets,
             &mut self.spans,
             &mut self.unused,
-        )
+        );
+        if shelf < self.shelves.len() {
+            self.blocks.follow(&self.shelves, shelf, &before);
+        }
+        Returned {
+            area,
+            drops: true,
+            dropped,
+        }
     }
 
     /// Gives the shelves their buckets for a width that is added at a place, where so many are left, and
@@ -373,13 +392,6 @@ impl Store {
         self.blocks = Blocks::of(&self.shelves);
         self.may_be_long = true;
         Ok(left - rest)
-    }
-
-    /// How many shelves there are.
-    pub fn shelf_count(&self) -> usize
-        ensures { result ≡ length self.now.shelves }
-    {
-        self.shelves.len()
     }
 
     /// The current column, and the height that it leaves; these are known where they are kept.

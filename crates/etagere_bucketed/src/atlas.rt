@@ -286,15 +286,13 @@ impl BucketedAtlasAllocator {
         if !self.store.is_known(id) {
             return Err(UnknownId);
         }
-        let area = self.store.return_item(bucket_number(id));
-        let shelves = self.store.shelf_count();
-        let dropped = self.store.drop_idle_end();
-        self.allocated_space -= area;
-        if self.store.shelf_count() != shelves {
+        let returned = self.store.return_item(bucket_number(id));
+        self.allocated_space -= returned.area;
+        if returned.drops {
             let end = self.store.end(&self.frame);
             self.current_column = end.along;
             self.available_height = end.across;
-            self.buckets_in_use -= dropped;
+            self.buckets_in_use -= returned.dropped;
         }
         Ok(())
     }

@@ -8,6 +8,7 @@ use Rattle.std.specs.Option.{option_map_or}
 use Rattle.std.specs.Prelude.{slice_get, nat_le, nat_lt}
 use Rattle.etagere_base.proofs.ReplacedLists.{slice_get-append}
 use Rattle.etagere_base.specs.Lists.{times}
+use Rattle.etagere_links.proofs.RecordChanges.{length-changed_by}
 use Rattle.bucketed_model.specs.Returning.{bucket_returned, emptied_bucket, is_known, lessened_bucket, returned_bucket, tag_of}
 use Rattle.bucketed_model.specs.Space.{allocated_space}
 use Rattle.bucketed_model.specs.State.{Bucket, BucketShelf, BucketedState, bucket_numbers, buckets_in_use, changed_bucket, changed_in, most_buckets}
@@ -22,7 +23,7 @@ use Rattle.bucketed_records.specs.Private.Store.{Spells, Stored, kept_shelf, kep
 use Rattle.bucketed_records.specs.Private.Witnessed.{Witnessed}
 use Rattle.bucketed_records.specs.StandsFor.{free_of, live_of, shelf_of}
 use Rattle.bucketed_records.proofs.Spelling.KeptShelves.{kept-append, length-kept}
-use Rattle.bucketed_store.specs.Private.Returns.{Dropping, dropping_of, end_dropped, gives_item, is_known_in, item_returned, returned_area, width_of}
+use Rattle.bucketed_store.specs.Private.Returns.{Dropping, dropping_of, end_dropped, gives_item, is_known_in, item_returned, returned_area, returned_kept, returned_record, width_of}
 use Rattle.bucketed_store.specs.Private.StoreEdits.{height_of}
 use Rattle.bucketed_store.proofs.Emptying.EndDrops.{drops-all, DropsAll}
 use Rattle.bucketed_store.proofs.Emptying.ItemReturns.{item-spells}
@@ -63,6 +64,13 @@ abbrev pub stored_returned : ℕ → Stored → Dropping
 stored_returned id stored =
     let returned = item_returned (tag_of id).number stored in
     end_dropped (length returned.shelves) (dropping_of returned.shelves returned.buckets returned.unused 0)
+
+-- a return leaves as many records
+pub shelves-returned : (number : ℕ) (stored : Stored) → length (item_returned number stored).shelves ≡ length stored.shelves
+shelves-returned number stored = length-changed_by (returned_kept (nat_le (live_of stored.buckets number) 1)) stored.shelves (Some (shelf_of stored.buckets number))
+
+pub buckets-returned : (number : ℕ) (stored : Stored) → length (item_returned number stored).buckets ≡ length stored.buckets
+buckets-returned number stored = length-changed_by (returned_record (width_of stored.shelves (shelf_of stored.buckets number))) stored.buckets (Some number)
 
 -- what holds before and after the return of a known id
 pub record IsReturned (stored : Stored) (state : BucketedState) (id : ℕ) : Type 0 where

@@ -1,7 +1,7 @@
 use Rattle.std.proofs.Common.{◌≡◌, ℕ, ◌<◌, List, Bool, true, false, Some, length, ap, cond, refl, subst, sym, ◌∙◌, arith}
 use Rattle.std.proofs.lemmas.List.{with_items_is}
 use Rattle.std.proofs.lemmas.Option.{slice_get-get_or}
-use Rattle.std.specs.Prelude.{nat_le, slice_get}
+use Rattle.std.specs.Prelude.{nat_le, slice_get, vec_len}
 use Rattle.std.specs.Vec.{with_items}
 use Rattle.etagere_links.specs.Edits.{changed_by}
 use Rattle.bucketed_records.specs.declared.records.LinkedBucket.{LinkedBucket}
@@ -10,9 +10,10 @@ use Rattle.bucketed_records.specs.StandsFor.{live_of, shelf_of}
 use Rattle.bucketed_records.specs.Private.Store.{Stored}
 use Rattle.bucket_index.specs.Private.Blocks.{AreKnown, AreOthersKnown}
 use Rattle.bucket_index.specs.Private.Spans.{AreSpans, AreSpansBut}
-use Rattle.bucket_index.proofs.KnownBlocks.{known-at, known-others}
+use Rattle.bucket_index.proofs.KnownBlocks.{AreSome, known-at, known-others}
 use Rattle.bucket_index.proofs.KnownSpans.{spans-changed-room}
-use Rattle.bucketed_store.specs.Private.Returns.{emptied_record, lessened_record, returned_kept, returned_record, width_of}
+use Rattle.bucketed_store.specs.Private.Returns.{Dropping, dropping_of, emptied_record, lessened_record, returned_kept, returned_record, width_of}
+use Rattle.bucketed_store.proofs.KnownShelves.{known-left, others-some, some-dropped}
 use Rattle.bucketed_store.proofs.store.Store.return_item.Goals as goal
 
 -- a return keeps a record's link
@@ -61,9 +62,82 @@ follow-requires-clause-others c =
     ∙ ap (λ (bs : List LinkedBucket). changed_by (Some (shelf_of bs number)) (returned_kept (nat_le (live_of bs number) 1)) c.deref_mut.result.now) c.deref_mut-2.ensures.value
     ∙ ap (λ (xs : List KeptShelf). changed_by (Some (shelf_of inside.buckets.items number)) change xs) c.deref_mut.ensures.value
     ∙ ap (λ (n : ℕ). changed_by (Some n) change inside.shelves.items) (sym shelf) in
-    subst (AreOthersKnown c.shelf_number-shelf.result inside.blocks) (sym (c.deref-6.ensures.value ∙ items ∙ returned))
+    subst (AreOthersKnown c.shelf_number-shelf.result inside.blocks) (sym (c.deref-then-not-ends_idle.ensures.value ∙ items ∙ returned))
     (known-others c.shelf_number-shelf.result change inside.blocks inside.shelves.items (λ x. refl) c.self.invariant.0)
 
 pub invariant_of-self : goal.invariant_of-self
 invariant_of-self c =
-    (subst (AreKnown c.follow.new.self) c.deref-6.ensures.value c.follow.ensures, subst (AreSpans c.track.new.self) c.deref-5.ensures.value c.track.ensures)
+    (subst (AreKnown c.follow.new.self) c.deref-then-not-ends_idle.ensures.value c.follow.ensures, subst (AreSpans c.track.new.self) c.deref-5.ensures.value c.track.ensures)
+
+pub follow-requires-then-shelf-len-clause-before : goal.follow-requires-then-shelf-len-clause-before
+follow-requires-then-shelf-len-clause-before c =
+    let inside = c.self.inside in
+    let shelves = inside.shelves.items in
+    let shelf = c.shelf_number-shelf.result in
+    let before = c.index.result.now in
+    let same : shelf ≡ shelf_of inside.buckets.items c.args.number = c.shelf_number-shelf.ensures ∙ ap (λ (bs : List LinkedBucket). shelf_of bs c.args.number) c.deref-3.ensures.value in
+    let within : shelf_of inside.buckets.items c.args.number < length shelves =
+    subst (λ (stored : Stored). shelf_of stored.buckets c.args.number < length stored.shelves) (sym c.self.view_is) c.requires.shelf in
+    let there : slice_get shelves shelf ≡ Some before = slice_get-get_or shelves shelf before (omega (arith, same, within)) ∙ ap (λ (kept : KeptShelf). Some kept) (sym c.index.ensures) in
+    known-at shelf before inside.blocks shelves there c.self.invariant.0
+
+pub follow-requires-then-shelf-len-clause-others : goal.follow-requires-then-shelf-len-clause-others
+follow-requires-then-shelf-len-clause-others c =
+    let inside = c.self.inside in
+    let number = c.args.number in
+    let shelf : c.shelf_number-shelf.result ≡ shelf_of inside.buckets.items number =
+    c.shelf_number-shelf.ensures ∙ ap (λ (bs : List LinkedBucket). shelf_of bs number) c.deref-3.ensures.value in
+    let change = returned_kept (nat_le (live_of inside.buckets.items number) 1) in
+    let items : (with_items inside.shelves c.return_item.new.shelves).items ≡ c.return_item.new.shelves =
+    with_items_is inside.shelves c.return_item.new.shelves (omega (arith, c.return_item.auto.shelves, c.deref_mut.ensures.len)) in
+    let returned : c.return_item.new.shelves ≡ changed_by (Some c.shelf_number-shelf.result) change inside.shelves.items =
+    c.return_item.ensures.shelves
+    ∙ ap (λ (bs : List LinkedBucket). changed_by (Some (shelf_of bs number)) (returned_kept (nat_le (live_of bs number) 1)) c.deref_mut.result.now) c.deref_mut-2.ensures.value
+    ∙ ap (λ (xs : List KeptShelf). changed_by (Some (shelf_of inside.buckets.items number)) change xs) c.deref_mut.ensures.value
+    ∙ ap (λ (n : ℕ). changed_by (Some n) change inside.shelves.items) (sym shelf) in
+    let left = ap (λ (done : Dropping). done.stored.shelves) c.drop_idle_end-dropped.ensures.dropped in
+    let some : AreSome (with_items inside.shelves c.return_item.new.shelves).items c.drop_idle_end-dropped.new.shelves.items =
+    subst (AreSome (with_items inside.shelves c.return_item.new.shelves).items) (sym left)
+    (some-dropped (vec_len (with_items inside.shelves c.return_item.new.shelves))
+    (dropping_of (with_items inside.shelves c.return_item.new.shelves).items c.deref_mut-3.result.now inside.unused 0)) in
+    let known : AreOthersKnown c.shelf_number-shelf.result inside.blocks (with_items inside.shelves c.return_item.new.shelves).items =
+    subst (AreOthersKnown c.shelf_number-shelf.result inside.blocks) (sym (items ∙ returned))
+    (known-others c.shelf_number-shelf.result change inside.blocks inside.shelves.items (λ x. refl) c.self.invariant.0) in
+    subst (AreOthersKnown c.shelf_number-shelf.result inside.blocks) (sym c.deref-then-shelf-len.ensures.value)
+    (others-some c.shelf_number-shelf.result inside.blocks (with_items inside.shelves c.return_item.new.shelves).items c.drop_idle_end-dropped.new.shelves.items some known)
+
+pub invariant_of-self-then-shelf-len : goal.invariant_of-self-then-shelf-len
+invariant_of-self-then-shelf-len c =
+    let inside = c.self.inside in
+    let buckets : (with_items (with_items inside.buckets c.return_item.new.buckets) c.drop_idle_end-dropped.new.buckets).items ≡ c.drop_idle_end-dropped.new.buckets =
+    with_items_is (with_items inside.buckets c.return_item.new.buckets) c.drop_idle_end-dropped.new.buckets (omega (arith, c.drop_idle_end-dropped.auto.buckets, c.deref_mut-3.ensures.len)) in (
+      subst (AreKnown c.follow-then-shelf-len.new.self) c.deref-then-shelf-len.ensures.value c.follow-then-shelf-len.ensures,
+      subst (AreSpans c.drop_idle_end-dropped.new.spans) (sym buckets) c.drop_idle_end-dropped.ensures.spans,
+    )
+
+pub invariant_of-self-else-shelf-len : goal.invariant_of-self-else-shelf-len
+invariant_of-self-else-shelf-len c =
+    let inside = c.self.inside in
+    let number = c.args.number in
+    let shelf : c.shelf_number-shelf.result ≡ shelf_of inside.buckets.items number =
+    c.shelf_number-shelf.ensures ∙ ap (λ (bs : List LinkedBucket). shelf_of bs number) c.deref-3.ensures.value in
+    let change = returned_kept (nat_le (live_of inside.buckets.items number) 1) in
+    let items : (with_items inside.shelves c.return_item.new.shelves).items ≡ c.return_item.new.shelves =
+    with_items_is inside.shelves c.return_item.new.shelves (omega (arith, c.return_item.auto.shelves, c.deref_mut.ensures.len)) in
+    let returned : c.return_item.new.shelves ≡ changed_by (Some c.shelf_number-shelf.result) change inside.shelves.items =
+    c.return_item.ensures.shelves
+    ∙ ap (λ (bs : List LinkedBucket). changed_by (Some (shelf_of bs number)) (returned_kept (nat_le (live_of bs number) 1)) c.deref_mut.result.now) c.deref_mut-2.ensures.value
+    ∙ ap (λ (xs : List KeptShelf). changed_by (Some (shelf_of inside.buckets.items number)) change xs) c.deref_mut.ensures.value
+    ∙ ap (λ (n : ℕ). changed_by (Some n) change inside.shelves.items) (sym shelf) in
+    let left = ap (λ (done : Dropping). done.stored.shelves) c.drop_idle_end-dropped.ensures.dropped in
+    let some : AreSome (with_items inside.shelves c.return_item.new.shelves).items c.drop_idle_end-dropped.new.shelves.items =
+    subst (AreSome (with_items inside.shelves c.return_item.new.shelves).items) (sym left)
+    (some-dropped (vec_len (with_items inside.shelves c.return_item.new.shelves))
+    (dropping_of (with_items inside.shelves c.return_item.new.shelves).items c.deref_mut-3.result.now inside.unused 0)) in
+    let buckets : (with_items (with_items inside.buckets c.return_item.new.buckets) c.drop_idle_end-dropped.new.buckets).items ≡ c.drop_idle_end-dropped.new.buckets =
+    with_items_is (with_items inside.buckets c.return_item.new.buckets) c.drop_idle_end-dropped.new.buckets (omega (arith, c.drop_idle_end-dropped.auto.buckets, c.deref_mut-3.ensures.len)) in (
+      known-left c.shelf_number-shelf.result change inside.blocks inside.shelves.items c.drop_idle_end-dropped.new.shelves.items
+          (subst (λ (xs : List KeptShelf). AreSome xs c.drop_idle_end-dropped.new.shelves.items) (items ∙ returned) some)
+          (omega (arith, c.len.ensures, c.if-shelf-len.false)) c.self.invariant.0,
+      subst (AreSpans c.drop_idle_end-dropped.new.spans) (sym buckets) c.drop_idle_end-dropped.ensures.spans,
+    )
