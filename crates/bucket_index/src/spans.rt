@@ -573,7 +573,7 @@ impl Spans {
         bound_span(&mut self.large, block_of(LARGE, change.number), large);
     }
 
-    /// Knows a record that may have less room now.
+    /// Knows a record that may have less room now. Never inlined, so that one that has more doesn't carry it.
     #[inline(never)]
     fn narrow(&mut self, buckets: &[LinkedBucket], change: &Change)
         requires number { change.now.number < length buckets.now }

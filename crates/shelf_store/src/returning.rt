@@ -34,7 +34,7 @@ struct Merged {
 }
 
 /// Frees the item of this number, which is allocated in this shelf, merges what is free with its neighbours, and
-/// answers how many item records became unused.
+/// answers how many item records became unused. The bound of its shelf rises, unless that is noted by then.
 pub fn return_item(
     records: &mut Records,
     by_height: &mut ShelvesByHeight,
