@@ -6,8 +6,8 @@
  *
  * Handles. A handle is a struct of one pointer that the caller keeps. It begins as ETAGERE_NULL; `.._new`, `.._clone`
  * and `.._restore` fill a null one, and `.._delete` frees what it holds and makes it null again. It may be moved, never
- * used twice: after a copy only one of the two is used. Of a null handle each call answers ETAGERE_NULL_HANDLE, and
- * changes nothing.
+ * used twice: after a copy only one of the two is used. Each other call answers ETAGERE_NULL_HANDLE of a null handle,
+ * and changes nothing.
  *
  * Statuses. Each call answers a status. After any status but ETAGERE_OK nothing has changed and nothing was written to
  * what the caller passed, unless the comment of the function says so. The last two digits of a status from 100 on are
@@ -288,14 +288,15 @@ EtagereStatus etagere_atlas_delete(EtagereAtlas *atlas);
 
 /* Gives a rectangle that is at least as large as the size, with the id under which it is allocated.
  * Answers ETAGERE_OK; ETAGERE_NULL_HANDLE; ETAGERE_NO_ROOM where there is no place; ETAGERE_MEMORY, only where the
- * place is to be split and there was no memory. Finds by binary search where the shelves begin that are tall enough,
- * and goes through them by height, in each that may have an item wide enough through its free list. */
+ * place is to be split and there was no memory. Finds where the shelves begin that are tall enough, where they did last
+ * time or by binary search, and goes through them by height, in each that may have an item wide enough through its
+ * free list. */
 EtagereStatus etagere_atlas_allocate(EtagereAtlas *atlas, EtagereSize size, EtagereAllocation *allocation);
 
 /* Takes back the rectangle that is allocated under an id, and merges what is free with its neighbours.
  * Answers ETAGERE_OK; ETAGERE_NULL_HANDLE; ETAGERE_UNKNOWN_ID exactly where nothing is allocated under the id. Takes
- * no memory. Looks at the record and those beside it, and finds the shelf by binary search; where shelves merge, others
- * move in the list by height. */
+ * no memory. Looks at the record and those beside it, and finds the shelf by binary search; where shelves merge, the next
+ * allocation moves them in the list by height. */
 EtagereStatus etagere_atlas_deallocate(EtagereAtlas *atlas, uint32_t id);
 
 /* Gives the rectangle that is allocated under an id, as it was first given. The atlas stays.
