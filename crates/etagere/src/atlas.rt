@@ -59,7 +59,7 @@ use shelf_search::tallying::{largest_free, usage};
 use shelf_store::growing::counting::needed_for;
 use shelf_store::growing::{grow_shelves, size_fault};
 use shelf_store::returning::return_item;
-use shelf_store::settling::{settle_notes, settle_shelves, settled_notes};
+use shelf_store::settling::{settle_notes, settle_shelves, settle_unless_few, settled_notes};
 use shelf_store::starting::{fresh_by_height, fresh_records, reset_by_height, reset_records};
 use shelf_store::taking::take_placement;
 use snapshot_records::shelves::AtlasSnapshot;
@@ -105,7 +105,7 @@ impl AtlasAllocator {
     /// An empty atlas of this size in pixels, with the default options.
     ///
     /// Returns the first fault; `Memory` only where there is no other and no memory. Takes memory for the records of
-    /// one shelf and its item, and for the shelf's entry in the list by height and a note of it. Takes constant time.
+    /// one shelf and its item, and for 16 entries in the list by height and notes of them. Takes constant time.
     pub fn new(alloc: Global, size: Size) -> Result<AtlasAllocator, OptionsFault>
         ensures ok { IfOk result
             (λ atlas. atlas ≡ fresh (frames.atlas_frame size default_options)) }
@@ -123,8 +123,8 @@ impl AtlasAllocator {
     /// An empty atlas of this size in pixels.
     ///
     /// Returns the first fault; `Memory` only where there is no other and no memory. Takes memory for the records of a
-    /// shelf and its item in each column, and for the shelf's entry in the list by height and a note of it. Goes
-    /// through the columns.
+    /// shelf and its item in each column, and for the shelf's entry in the list by height and a note of it, at least 16
+    /// of these. Goes through the columns.
     pub fn with_options(
         alloc: Global,
         size: Size,
@@ -227,7 +227,8 @@ impl AtlasAllocator {
     /// time, or by binary search, and goes on by height; of each shelf that may have an item wide enough it searches the
     /// free list up to the first that is. Before that the list by height follows the shelves that were split or merged
     /// since the last search: each goes where it belongs by binary search, and an end of the list moves; many are sorted
-    /// anew.
+    /// anew. Where some have changed, and there are no more than some dozen shelves and 128 items, all shelves are gone
+    /// through instead.
     #[inline(always)]
     pub fn allocate(&mut self, size: Size) -> Result<Option<Allocation>, AllocError>
         ensures placed { IfOk result
@@ -295,16 +296,18 @@ impl AtlasAllocator {
             → IsLarge self.old.frame size (rectangle_in allocation.new.rectangle)) }
         ensures promises { KeepsPromises self.new }
     {
-        settle_shelves(
+        let follows = settle_unless_few(
             &self.frame,
             &self.records,
             &mut self.by_height,
             &mut self.pending,
+            self.items_in_use,
         );
         let found = placement_of(
             &self.frame,
             &self.records,
             &mut self.by_height,
+            follows,
             self.items_in_use,
             size,
         );

@@ -45,6 +45,8 @@ pub struct PendingShelves {
     standing: Vec<Standing>,
     /// The numbers of those that have changed since, each once.
     noted: Vec<u16>,
+    /// Whether something was noted since that was asked last. Nothing rests on it.
+    has_changed: bool,
 }
 
 impl Model for PendingShelves {
@@ -69,6 +71,7 @@ impl PendingShelves {
             kept,
             standing,
             noted,
+            has_changed: false,
         })
     }
 
@@ -95,6 +98,7 @@ impl PendingShelves {
             kept: self.kept.clone()?,
             standing: self.standing.clone()?,
             noted,
+            has_changed: self.has_changed,
         };
         pending.reserve(room)?;
         Ok(pending)
@@ -113,6 +117,16 @@ impl PendingShelves {
         ensures tied { AreTied self.now.notes }
     {
         self.noted.len()
+    }
+
+    /// Whether a shelf has changed since this was asked last.
+    pub fn take_changed(&mut self) -> bool
+        ensures notes { self.new.notes ≡ self.old.notes }
+        ensures room { self.new.room ≡ self.old.room }
+    {
+        let has_changed = self.has_changed;
+        self.has_changed = false;
+        has_changed
     }
 
     /// The number of one of them, in the order in which they changed.
@@ -161,6 +175,7 @@ impl PendingShelves {
         push_unless(&mut self.noted, known.noted, shelf);
         known.in_use = in_use;
         known.noted = true;
+        self.has_changed = true;
     }
 
     /// Makes an entry for the shelf of this number, where there is none. Until the list follows the shelf, any record

@@ -15,10 +15,8 @@ ghost use Rattle.shelf_records.specs.Private.Kept.{AreKept, state_of};
 ghost use Rattle.shelf_search.specs.Private.Asking as recorded;
 ghost use Rattle.shelf_search.specs.Private.Searching as searching;
 
-use crate::choosing::{
-    Candidate, MOST_ITEMS, MOST_SPLITS, Searched, placement_at, rank_of, search_free_list,
-    shelf_height,
-};
+use crate::by_place::first_of_least_rank;
+use crate::choosing::{MOST_ITEMS, MOST_SPLITS, placement_at, shelf_height};
 use crate::free_items::free_items_of;
 use etagere_base::{Frame, Sides, Size, is_not_positive, is_too_long, rounded};
 use etagere_links::{Chain, next_of};
@@ -121,56 +119,4 @@ fn lacks_records(
     };
     let placement = placement_at(records, sides.along, height, candidate);
     items_in_use + placement.splits() > MOST_ITEMS
-}
-
-/// What the first shelf of least rank offers, in the order of the shelves.
-fn first_of_least_rank(records: &Records, width: u32, height: u32) -> Option<Candidate>
-    requires linked { IsLinked records.now (walked_lists records.now) }
-    requires short { height ≤ longest_side }
-    ensures { result ≡ searching.best_candidate records.now width height }
-{
-    let mut best = None;
-    let mut at = records.first_shelf().number();
-    for _step in 0..records.shelves().len() {
-        let Some(shelf) = at else {
-            return best;
-        };
-        best = better(best, offer(records, width, height, shelf));
-        at = next_of::<Chain, LinkedShelf>(records.shelves(), shelf).number();
-    }
-    best
-}
-
-/// What was found before, unless what comes after it ranks lower.
-fn better(best: Option<Candidate>, later: Option<Candidate>) -> Option<Candidate>
-    ensures { result ≡ searching.better best later }
-{
-    let Some(one) = best else {
-        return later;
-    };
-    match later {
-        Some(other) if other.rank < one.rank => later,
-        _ => best,
-    }
-}
-
-/// What a shelf offers, where it fits.
-fn offer(records: &Records, width: u32, height: u32, shelf: usize) -> Option<Candidate>
-    requires linked { IsLinked records.now (walked_lists records.now) }
-    requires stands { 1 ≤ times shelf (shelf_walk records.now).met }
-    requires within { shelf < length records.now.shelves }
-    requires short { height ≤ longest_side }
-    ensures { result ≡ searching.offered records.now width height shelf }
-{
-    if u32::from(fields::height(records.shelves(), shelf)) < height {
-        return None;
-    }
-    match search_free_list(records, width, shelf) {
-        Searched::Found(item) => Some(Candidate {
-            shelf,
-            item,
-            rank: rank_of(records, height, shelf),
-        }),
-        Searched::Widest(_) => None,
-    }
 }

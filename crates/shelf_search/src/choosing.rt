@@ -3,10 +3,11 @@
 //! Definitions: `Choice`, `Searching` for the same by records, and `ByHeight` for the order. A search starts
 //! at the first shelf that is tall enough, and takes the first good fit. The first shelf that is too tall for one ends
 //! that: from there on only empty shelves are good fits, and their bounds tell them. Where there is none either, the
-//! shelf in the first place is taken. A free list is gone through only where the bound on its items is wide enough,
+//! shelf in the first place is taken. Where the list by height doesn't follow the records, all shelves are gone through
+//! (`by_place`). A free list is gone through only where the bound on its items is wide enough,
 //! and the bound is lowered to the widest of them where none fits. Nothing here changes the records.
 
-ghost use Rattle.std.specs.Prelude.{◌≡◌, ◌+◌, ◌*◌, ◌/◌, ◌≤◌, ◌<◌, ◌^◌, None, Some, IfSome, drop, is_some, length, map, nat_lt, set};
+ghost use Rattle.std.specs.Prelude.{◌≡◌, false, true, ◌+◌, ◌*◌, ◌/◌, ◌≤◌, ◌<◌, ◌^◌, None, Some, IfSome, drop, is_some, length, map, nat_lt, set};
 ghost use Rattle.etagere_base.specs.Frames.{IsFrame, longest_side};
 ghost use Rattle.etagere_base.specs.Lists.{times};
 ghost use Rattle.shelf_records.specs.RecordLists.{IsLinked, shelf_walk, walked_lists};
@@ -22,6 +23,7 @@ ghost use Rattle.shelf_search.specs.Private.Searching as searching;
 ghost use Rattle.shelf_search.specs.Private.Searching.{AreTooTall, IsFirstGood};
 ghost use Rattle.shelf_model.specs.State as state;
 
+use crate::by_place::first_of_least_rank;
 use etagere_base::{Frame, Sides, Size, asked, step};
 use shelf_heights::by_height::{BoundedShelf, ShelvesByHeight};
 use shelf_heights::heights::{chain_order_of, first_as_tall, first_from};
@@ -65,26 +67,29 @@ pub(crate) enum Searched {
 }
 
 /// The place of a size, where it has one and there are records enough for its splits; shelf and item by
-/// the numbers of their records.
+/// the numbers of their records. Where the list by height doesn't follow the records, it is left alone, and all shelves
+/// are gone through.
 pub fn placement_of(
     frame: &Frame,
     records: &Records,
     by_height: &mut ShelvesByHeight,
+    follows: bool,
     items_in_use: u32,
     size: Size,
 ) -> Option<Placement>
     requires kept { AreKept frame.now records.now }
-    requires by_height { AreByHeight frame.now records.now by_height.old.items }
+    requires by_height { follows ≡ true → AreByHeight frame.now records.now by_height.old.items }
     requires counted { items_in_use
         ≡ state.items_in_use (state_of frame.now records.now).shelves }
     ensures none { result ≡ None
         → choice.placement_of (state_of frame.now records.now) size ≡ None }
     ensures some { IfSome result (Finds frame.now records.now size) }
-    ensures by_height { AreByHeight frame.now records.now by_height.new.items }
+    ensures by_height { follows ≡ true → AreByHeight frame.now records.now by_height.new.items }
+    ensures same { follows ≡ false → by_height.new.items ≡ by_height.old.items }
     ensures capacity { by_height.old.capacity ≤ by_height.new.capacity }
 {
     let sides = asked(frame, size)?;
-    let placement = chosen(frame, records, by_height, sides)?;
+    let placement = chosen(frame, records, by_height, follows, sides)?;
     if items_in_use + placement.splits() <= MOST_ITEMS {
         Some(placement)
     } else {
@@ -114,19 +119,46 @@ fn chosen(
     frame: &Frame,
     records: &Records,
     by_height: &mut ShelvesByHeight,
+    follows: bool,
     sides: Sides,
 ) -> Option<Placement>
     requires kept { AreKept frame.now records.now }
-    requires by_height { AreByHeight frame.now records.now by_height.old.items }
+    requires by_height { follows ≡ true → AreByHeight frame.now records.now by_height.old.items }
     requires short { (sides.along ≤ longest_side) × (sides.across ≤ longest_side) }
     requires wide { 1 ≤ sides.along }
     ensures value { result ≡ searching.chosen_at frame.now records.now sides }
-    ensures by_height { AreByHeight frame.now records.now by_height.new.items }
+    ensures by_height { follows ≡ true → AreByHeight frame.now records.now by_height.new.items }
+    ensures same { follows ≡ false → by_height.new.items ≡ by_height.old.items }
     ensures capacity { by_height.old.capacity ≤ by_height.new.capacity }
 {
     let height = shelf_height(frame, sides.across);
-    let candidate = best_candidate(records, by_height, frame.column_width, sides.along, height)?;
+    let candidate = lowest_ranked(frame, records, by_height, follows, sides.along, height)?;
     Some(placement_at(records, sides.along, height, candidate))
+}
+
+/// What the first shelf of least rank offers: by height, where the list follows the records, else by place.
+fn lowest_ranked(
+    frame: &Frame,
+    records: &Records,
+    by_height: &mut ShelvesByHeight,
+    follows: bool,
+    width: u32,
+    height: u32,
+) -> Option<Candidate>
+    requires kept { AreKept frame.now records.now }
+    requires by_height { follows ≡ true → AreByHeight frame.now records.now by_height.old.items }
+    requires wide { 1 ≤ width }
+    requires short { height ≤ longest_side }
+    ensures value { result ≡ searching.best_candidate records.now width height }
+    ensures by_height { follows ≡ true → AreByHeight frame.now records.now by_height.new.items }
+    ensures same { follows ≡ false → by_height.new.items ≡ by_height.old.items }
+    ensures capacity { by_height.old.capacity ≤ by_height.new.capacity }
+{
+    if follows {
+        best_candidate(records, by_height, frame.column_width, width, height)
+    } else {
+        first_of_least_rank(records, width, height)
+    }
 }
 
 /// The height of a shelf for items of this height: rounded up, unless that is taller than the atlas.

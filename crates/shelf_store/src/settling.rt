@@ -14,7 +14,7 @@ ghost use Rattle.shelf_notes.specs.Private.Pending.{is_in_use, is_listed, is_not
 ghost use Rattle.shelf_records.specs.Private.Kept.{AreKept};
 ghost use Rattle.shelf_store.specs.Private.Settling.{AreByHeightButNoted, AreInPlace, AreSettled, Follows, IsBounded, IsInPlace, IsSettled};
 
-use crate::starting::{newly_bounded, sort_shelves};
+use crate::starting::{FIRST_ROOM, newly_bounded, sort_shelves};
 use etagere_base::Frame;
 use etagere_links::Link;
 use shelf_heights::by_height::ShelvesByHeight;
@@ -28,6 +28,15 @@ const FEW: usize = 4;
 
 /// Where more than so many have changed, and more than an eighth, all shelves in use are sorted anew.
 const MANY: usize = 32;
+
+/// To go through so many shelves is no more work than to search them by height.
+const WALKED: usize = 12;
+
+/// To go through so many is less work than to make the list follow what has changed.
+const WALKED_ONCE: usize = 32;
+
+/// More items than this aren't gone through.
+const WALKED_ITEMS: u32 = 128;
 
 /// Makes room for the shelves of so many records, and for notes of them, of which those that are missing are to be made: an
 /// unused one has its room. The error comes only where some are missing and there was no memory.
@@ -92,7 +101,8 @@ pub fn settled_notes(
     ensures settled { IfOk result (λ pending. AreSettled records.now pending.notes) }
     ensures room { IfOk result (λ pending. length records.now.shelves ≤ pending.room) }
 {
-    let mut pending = PendingShelves::with_room(alloc, records.shelves().len())?;
+    let room = records.shelves().len().max(FIRST_ROOM);
+    let mut pending = PendingShelves::with_room(alloc, room)?;
     settle_notes(frame, records, by_height, &mut pending);
     Ok(pending)
 }
@@ -130,6 +140,39 @@ fn follow(pending: &mut PendingShelves, shelves: &[LinkedShelf], by_height: &She
     for index in 0..by_height.len() {
         pending.put_to_use(by_height.shelf(index));
     }
+}
+
+/// Makes the list follow what was noted, and says whether it follows: where shelves and items are so few that it is less
+/// work to go through all of them, it is left alone.
+pub fn settle_unless_few(
+    frame: &Frame,
+    records: &Records,
+    by_height: &mut ShelvesByHeight,
+    pending: &mut PendingShelves,
+    items_in_use: u32,
+) -> bool
+    requires kept { AreKept frame.now records.now }
+    requires by_height { AreByHeightButNoted frame.now records.now pending.old.notes by_height.old.items }
+    requires room { length records.now.shelves ≤ by_height.old.capacity }
+    requires room_to_note { length records.now.shelves ≤ pending.old.room }
+    ensures by_height { AreByHeightButNoted frame.now records.now pending.new.notes by_height.new.items }
+    ensures follows { result ≡ true → AreByHeight frame.now records.now by_height.new.items }
+    ensures settled { result ≡ true → AreSettled records.now pending.new.notes }
+    ensures same { result ≡ false → by_height.new.items ≡ by_height.old.items }
+    ensures capacity { by_height.old.capacity ≤ by_height.new.capacity }
+    ensures room { pending.new.room ≡ pending.old.room }
+{
+    let most = if pending.take_changed() {
+        WALKED_ONCE
+    } else {
+        WALKED
+    };
+    let changed = pending.len();
+    if 0 < changed && changed <= most && by_height.len() <= most && items_in_use <= WALKED_ITEMS {
+        return false;
+    }
+    settle_shelves(frame, records, by_height, pending);
+    true
 }
 
 /// Makes the list follow what was noted.

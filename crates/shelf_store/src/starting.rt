@@ -21,6 +21,9 @@ use shelf_heights::heights::bounded;
 use shelf_records::{LinkedItem, LinkedShelf, Records};
 use std::alloc::{AllocError, Global};
 
+/// A new atlas has room for so many shelves by height, and for notes of them, so that the first few take no memory there.
+pub(crate) const FIRST_ROOM: usize = 16;
+
 /// The generation of a record that was just made.
 const FIRST_GENERATION: u16 = 1;
 
@@ -46,7 +49,8 @@ pub fn fresh_by_height(alloc: Global, frame: &Frame) -> Result<ShelvesByHeight, 
         (λ by_height. AreByHeight frame.now (spec.fresh_records frame.now) by_height.items) }
     ensures room { IfOk result (λ by_height. frame.now.columns ≤ by_height.capacity) }
 {
-    let mut by_height = ShelvesByHeight::with_room(alloc, frame.columns as usize)?;
+    let room = (frame.columns as usize).max(FIRST_ROOM);
+    let mut by_height = ShelvesByHeight::with_room(alloc, room)?;
     push_columns(frame, &mut by_height);
     Ok(by_height)
 }

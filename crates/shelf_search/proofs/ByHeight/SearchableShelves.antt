@@ -1,7 +1,6 @@
 -- Shelves by height of kept records can be searched, and stay by height where a search lets their bounds fall.
-use Rattle.std.proofs.Common.{◌≡◌, ℕ, ◌+◌, ◌-◌, ◌<◌, ◌≤◌, Bool, true, false, Option, Some, option_map, List, [], ◌∷◌, ap, arith, filter, length, map, not, refl, sym, ◌∙◌, subst}
+use Rattle.std.proofs.Common.{◌≡◌, ℕ, ◌+◌, ◌-◌, ◌<◌, ◌≤◌, Bool, true, false, List, [], ◌∷◌, ap, arith, filter, length, map, not, refl, sym, ◌∙◌, subst}
 use Rattle.etagere_base.specs.declared.frames.Frame.{Frame}
-use Rattle.etagere_base.specs.declared.sides.Sides.{Sides}
 use Rattle.std.specs.List.{AllByRecursion}
 use Rattle.etagere_base.specs.Lists.{times}
 use Rattle.etagere_base.proofs.EachLemmas.{Each-all, Each-weaken}
@@ -9,23 +8,18 @@ use Rattle.shelf_records.specs.declared.records.LinkedItem.{LinkedItem}
 use Rattle.shelf_records.specs.RecordLists.{Entry, Records, shelf_walk, walked_entry}
 use Rattle.shelf_records.proofs.AllLists.LinkedWalks.{walked-numbers}
 use Rattle.shelf_records.specs.AtlasRecords.{is_allocated_at, is_empty_at, item_at, spelled_shelf}
-use Rattle.shelf_model.specs.Choice.{shelf_height}
 use Rattle.shelf_model.specs.Listing.{RiseFrom}
 use Rattle.shelf_heights.specs.Private.ByHeight.{AreBounds, AreByHeight, IsBound, order_of, numbers_by_height}
 use Rattle.shelf_records.specs.Private.Kept.{AreKept, atlas_of, bare}
 use Rattle.shelf_records.proofs.Spelled.Witnessed.{HasFlag, IsPlaced}
 use Rattle.shelf_search.specs.Private.Opening.{AreSearchable, AreWhole, IsSearchable}
-use Rattle.shelf_search.specs.Private.Searching.{best_candidate, chosen_at, first_by_height, placement_at}
 use Rattle.shelf_model.specs.State.{Item, is_free, is_one_free, total_width}
 use Rattle.shelf_model.specs.Valid.{IsItem, IsShelf}
-use Rattle.shelf_search.specs.declared.choosing.Candidate.{Candidate}
 use Rattle.shelf_heights.specs.declared.by_height.BoundedShelf.{BoundedShelf}
-use Rattle.shelf_search.proofs.ByHeight.BestByHeight.{best-by-height}
 use Rattle.shelf_heights.proofs.ByHeight.PlacesRise.{LiesWithin, kept-within}
 use Rattle.shelf_records.proofs.Judged.FreeLists.{times-failed, times-passed}
 use Rattle.shelf_records.proofs.Recorded.Members.{Each-member, Each-times}
 use Rattle.shelf_records.proofs.AllLists.LinkedParts.{shelf-within}
-use Rattle.shelf_search.proofs.Searched.SearchSteps.{best-within}
 use Rattle.shelf_records.proofs.Spelled.SpelledPlaces.{free-spelled}
 use Rattle.shelf_records.proofs.Spelled.Witnesses.{Each-unmap}
 use Rattle.shelf_records.proofs.Spelled.StandsKept.{witnesses}
@@ -164,16 +158,3 @@ module _ (frame : Frame) (records : Records) (kept : AreKept frame records) wher
             (λ (one : BoundedShelf). AllByRecursion (λ (entry : Entry). entry.number ≡ one.shelf → IsBound one.widest (spelled_shelf (bare frame records) entry)) (map (walked_entry records) in_use))
             new searchable-one searchable;
       }
-
-  -- what the search by height finds is what is chosen
-  pub chosen-found : (by_height : List BoundedShelf) (sides : Sides) (height : ℕ) (found : Option Candidate) → AreByHeight frame records by_height → height ≡ shelf_height frame sides.across
-      → found ≡ first_by_height records sides.along height (numbers_by_height by_height) → option_map (placement_at records sides.along height) found ≡ chosen_at frame records sides
-  chosen-found by_height sides height found are stepped is =
-      ap (option_map (placement_at records sides.along height)) (is ∙ sym (best-by-height frame records by_height sides.along height kept are))
-      ∙ ap (λ h. option_map (placement_at records sides.along h) (best_candidate records sides.along h)) stepped
-
-  -- its shelf and its item are records
-  pub found-within : (by_height : List BoundedShelf) (width height : ℕ) (candidate : Candidate) → AreByHeight frame records by_height
-      → Some candidate ≡ first_by_height records width height (numbers_by_height by_height) → (candidate.shelf < length records.shelves) × (candidate.item < length records.items)
-  found-within by_height width height candidate are is =
-      best-within records width height candidate (witnesses kept).linked (best-by-height frame records by_height width height kept are ∙ sym is)

@@ -1,5 +1,5 @@
 -- What is found of one more shelf or item than before: the widest, the best, and the counts.
-use Rattle.std.proofs.Common.{◌≡◌, ℕ, ◌+◌, ◌<◌, ◌≤◌, Bool, true, false, cond, max, nat_lt, Option, None, Some, List, [], ◌∷◌, ◌++◌, filter, length, map, refl, ap, arith, sym, ◌∙◌}
+use Rattle.std.proofs.Common.{◌≡◌, ℕ, ◌+◌, ◌<◌, ◌≤◌, Bool, true, false, cond, max, nat_lt, Option, None, Some, List, [], ◌∷◌, ◌++◌, append-nil, append_assoc, filter, length, map, refl, ap, arith, sym, ◌∙◌}
 use Rattle.std.proofs.lemmas.Bool.Decides.{nat_tests}
 use Rattle.std.proofs.lemmas.List.{length-append}
 use Rattle.std.specs.Prelude.{◌&&◌, ◌==◌}
@@ -81,6 +81,24 @@ lowest-more offers (m ∷ ns) n = ap (better (offers m)) (lowest-more offers ns 
         by_tests false false e f =
             let ca : nat_lt c.rank a.rank ≡ false = grind (arith, nat_tests) in
             ap (λ t. Some (cond t b a)) f ∙ sym (ap (λ t. Some (cond t c a)) ca)
+
+-- what was found is the lowest of all where nothing ranks lower
+pub lowest-settled : (offers : ℕ → Option Candidate) (candidate : Candidate) → ((n : ℕ) (other : Candidate) → offers n ≡ Some other → candidate.rank ≤ other.rank)
+    → (rest passed : List ℕ) → lowest (map offers passed) ≡ Some candidate → lowest (map offers (passed ++ rest)) ≡ Some candidate
+lowest-settled offers candidate least [] passed found = ap (λ (ns : List ℕ). lowest (map offers ns)) (append-nil passed) ∙ found
+lowest-settled offers candidate least (n ∷ rest) passed found =
+    ap (λ (ns : List ℕ). lowest (map offers ns)) (sym (append_assoc passed (n ∷ []) rest))
+    ∙ lowest-settled offers candidate least rest (passed ++ n ∷ []) (lowest-more offers passed n ∙ ap (λ (o : Option Candidate). better o (offers n)) found ∙ stays (offers n) refl)
+  where
+    lower-not : (other : Candidate) (b : Bool) → nat_lt other.rank candidate.rank ≡ b → candidate.rank ≤ other.rank → Some (cond b other candidate) ≡ Some candidate
+    lower-not other true e low =
+        let less : other.rank < candidate.rank = grind (arith, nat_tests) in
+        absurd (omega (arith, low, less))
+    lower-not other false e low = refl
+
+    stays : (o : Option Candidate) → offers n ≡ o → better (Some candidate) o ≡ Some candidate
+    stays None e = refl
+    stays (Some other) e = lower-not other (nat_lt other.rank candidate.rank) refl (least n other e)
 
 -- one more free item
 pub free-more : (items : List LinkedItem) (passed : List ℕ) (n count widest : ℕ) → count ≡ length passed + 1 → widest ≡ max (widest_of items passed) (width_of items n)

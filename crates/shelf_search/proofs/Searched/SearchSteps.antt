@@ -2,20 +2,24 @@
 use Rattle.std.proofs.Common.{◌≡◌, ℕ, zero, suc, ◌+◌, ◌<◌, ◌≤◌, Bool, true, false, cond, Option, None, Some, option_map, List, [], ◌∷◌, ◌++◌, append_assoc, length, get_or, map, refl, ap, arith, sym, ◌∙◌, subst}
 use Rattle.std.proofs.lemmas.Bool.Decides.{nat_tests}
 use Rattle.std.specs.Option.{option_map_or}
-use Rattle.std.specs.Prelude.{find, max, nat_le, nat_lt}
+use Rattle.std.specs.Prelude.{◌/◌, ◌||◌, find, max, nat_le, nat_lt}
 use Rattle.etagere_base.specs.Lists.{times}
+use Rattle.etagere_base.specs.declared.frames.Frame.{Frame}
+use Rattle.etagere_base.specs.declared.sides.Sides.{Sides}
 use Rattle.etagere_base.proofs.TimesLemmas.{find-stands}
 use Rattle.shelf_records.specs.declared.records.LinkedItem.{LinkedItem}
 use Rattle.etagere_links.specs.Edits.{link_at}
 use Rattle.shelf_records.specs.RecordLists.{IsLinked, Records, first_free_of, free_walk, shelf_walk, walked_lists}
 use Rattle.shelf_records.specs.Records.{free_list}
 use Rattle.etagere_links.proofs.ListEnds.{times-here}
-use Rattle.shelf_records.specs.AtlasRecords.{height_of, item_at, spelled_item}
+use Rattle.shelf_records.specs.AtlasRecords.{height_of, is_empty_at, item_at, spelled_item}
 use Rattle.shelf_search.specs.Private.Opening.{searched, widest_of}
-use Rattle.shelf_search.specs.Private.Searching.{best_candidate, better, first_wide, lower, lowest, offered, rank_of}
+use Rattle.shelf_search.specs.Private.Searching.{best_candidate, better, chosen_at, first_wide, lower, lowest, offered, placement_at, rank_of, ranks_lower}
+use Rattle.shelf_model.specs.Choice.{shelf_height}
 use Rattle.shelf_model.specs.State.{Item}
 use Rattle.shelf_search.specs.declared.choosing.Candidate.{Candidate}
 use Rattle.shelf_search.specs.declared.choosing.Searched.TheVariants.{Found, Widest}
+use Rattle.shelf_search.proofs.Searched.PassedShelves.{lowest-settled}
 use Rattle.shelf_records.proofs.Recorded.RecordsOfIds.{field_at-read}
 use Rattle.shelf_records.proofs.AllLists.Following.{IsLeft, IsStep, count_from, none-left, step-left, step-nearer}
 use Rattle.shelf_records.proofs.AllLists.LinkedParts.{free-left, free-once, free-within, shelf-within}
@@ -185,3 +189,39 @@ pub best-within : (records : Records) (width height : ℕ) (candidate : Candidat
 best-within records width height candidate linked found =
     let best : IsBest records width height candidate = best-is records width height candidate found in
     (shelf-within records candidate.shelf linked best.stands, free-within records candidate.shelf candidate.item linked best.stands best.among)
+
+-- where the lowest candidate is placed is what is chosen
+pub chosen-found : (frame : Frame) (records : Records) (sides : Sides) (height : ℕ) (found : Option Candidate) → height ≡ shelf_height frame sides.across
+    → found ≡ best_candidate records sides.along height → option_map (placement_at records sides.along height) found ≡ chosen_at frame records sides
+chosen-found frame records sides height found stepped is =
+    ap (option_map (placement_at records sides.along height)) is
+    ∙ ap (λ (h : ℕ). option_map (placement_at records sides.along h) (best_candidate records sides.along h)) stepped
+
+-- a shelf that wouldn't rank lower offers nothing better
+pub not-better : (records : Records) (width height shelf : ℕ) (best : Option Candidate) → ranks_lower (rank_of records.shelves height shelf) best ≡ false → better best (offered records width height shelf) ≡ best
+not-better records width height shelf None not_lower = absurd (cc)
+not-better records width height shelf (Some candidate) not_lower = by_offer (offered records width height shelf) refl
+  where
+    by_offer : (o : Option Candidate) → offered records width height shelf ≡ o → better (Some candidate) o ≡ Some candidate
+    by_offer None e = refl
+    by_offer (Some other) e =
+        let same : nat_lt other.rank candidate.rank ≡ false = ap (λ (rank : ℕ). nat_lt rank candidate.rank) (offers-parts records width height shelf other e).rank ∙ not_lower in
+        ap (λ (b : Bool). Some (cond b other candidate)) same
+
+-- none ranks below the height that is asked for
+rank-low : (records : Records) (width height shelf : ℕ) (candidate : Candidate) → height ≤ 65535 → offered records width height shelf ≡ Some candidate → height ≤ candidate.rank
+rank-low records width height shelf candidate short offer =
+    let parts = offers-parts records width height shelf candidate offer in
+    omega (arith, parts.rank, by_test (is_empty_at records.shelves shelf || nat_le (height_of records.shelves shelf) (height + height / 2)) parts.tall)
+  where
+    by_test : (b : Bool) → height ≤ height_of records.shelves shelf → height ≤ cond b (height_of records.shelves shelf) 65536
+    by_test true tall = tall
+    by_test false tall = omega (arith, short)
+
+-- what ranks so low is the lowest of all shelves, whatever comes behind them
+pub least-of-all : (records : Records) (width height shelf : ℕ) (passed others : List ℕ) (candidate : Candidate) → height ≤ 65535 → Some candidate ≡ lowest (map (offered records width height) (passed ++ shelf ∷ []))
+    → passed ++ shelf ∷ others ≡ (shelf_walk records).met → candidate.rank ≤ height → Some candidate ≡ best_candidate records width height
+least-of-all records width height shelf passed others candidate short holds whole low =
+    sym
+    (ap (λ (ns : List ℕ). lowest (map (offered records width height) ns)) (sym (append_assoc passed (shelf ∷ []) others ∙ whole))
+    ∙ lowest-settled (offered records width height) candidate (λ n other offer. omega (arith, low, rank-low records width height n other short offer)) others (passed ++ shelf ∷ []) (sym holds))

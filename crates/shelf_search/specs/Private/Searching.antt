@@ -1,6 +1,6 @@
 -- How the place of a size is found by records: the shelf of least rank, and in it the first item
 -- that is wide enough.
-use Rattle.std.specs.Prelude.{◌≡◌, ℕ, ◌+◌, ◌/◌, ◌≤◌, Bool, ◌&&◌, ◌||◌, Option, None, Some, option_map, List, [], ◌∷◌, drop, find, length, map, nat_le, nat_lt, take, if◌then◌else◌}
+use Rattle.std.specs.Prelude.{◌≡◌, ℕ, ◌+◌, ◌/◌, ◌≤◌, Bool, true, ◌&&◌, ◌||◌, Option, None, Some, option_map, List, [], ◌∷◌, drop, find, length, map, nat_le, nat_lt, take, if◌then◌else◌}
 use Rattle.std.specs.Option.{option_map_or}
 use Rattle.std.specs.List.{AllByRecursion}
 use Rattle.etagere_base.specs.declared.frames.Frame.{Frame}
@@ -44,6 +44,11 @@ lower candidate (Some later) = if nat_lt later.rank candidate.rank then later el
 abbrev pub better : Option Candidate → Option Candidate → Option Candidate
 better None later = later
 better (Some candidate) later = Some (lower candidate later)
+
+-- whether a rank is lower than that of what was found, if anything was
+abbrev pub ranks_lower : ℕ → Option Candidate → Bool
+ranks_lower rank None = true
+ranks_lower rank (Some candidate) = nat_lt rank candidate.rank
 
 -- the first of least rank
 abbrev pub lowest : List (Option Candidate) → Option Candidate

@@ -18,6 +18,7 @@ use Rattle.shelf_model.specs.State.{Shelf}
 use Rattle.shelf_heights.specs.declared.by_height.BoundedShelf.{BoundedShelf}
 use Rattle.shelf_notes.specs.declared.pending.Standing.{Standing}
 use Rattle.shelf_heights.proofs.ByHeight.Edited.{by_height-in_order, in_order-among}
+use Rattle.shelf_heights.proofs.ByHeight.Positions.{stands-within}
 use Rattle.shelf_notes.proofs.Noted.{in_use-within, once-true}
 use Rattle.shelf_notes.proofs.NotedShelves.{entry-known, entry-longer, entry-standing, noted-in_use, noted-known, noted-listed, noted-other, unnoted-before, unnoted-differs}
 use Rattle.shelf_store.proofs.ByHeight.NumberedBounds.{BoundsIn, IsBoundOf, bounds-numbered, bounds-split, numbered-bounds}
@@ -108,10 +109,8 @@ entry-stands notes rest any k below = by_test (rest == length notes.standing) re
 
 -- a shelf was split, by the numbers of the shelves and where they begin
 pub record IsSplitByHeight (frame : Frame) (records new : Records) (notes : Notes) (by_height : List BoundedShelf) (shelf rest : ℕ) (front back : List ℕ) : Type 0 where
-  pub kept : AreKept frame records
   pub new_kept : AreKept frame new
-  pub are : AreByHeight frame records by_height
-  pub settled : AreSettled records notes
+  pub holds : AreByHeightButNoted frame records notes by_height
   pub numbers : shelf_numbers (walked_lists records).entries ≡ front ++ shelf ∷ back
   pub new_numbers : shelf_numbers (walked_lists new).entries ≡ front ++ shelf ∷ rest ∷ back
   pub others : (k : ℕ) → shelf ≢ k → rest ≢ k → StandsSame records.shelves new.shelves k
@@ -131,7 +130,7 @@ module _ (frame : Frame) (records new : Records) (notes : Notes) (by_height : Li
 
   -- how often a number stands before and after
   count-old : (k : ℕ) → once_where (is_in_use notes k) ≡ times k front + (hit shelf k + times k back)
-  count-old k = sym (is.settled.in_use k) ∙ ap (times k) is.numbers ∙ times-append k front (shelf ∷ back)
+  count-old k = sym (is.holds.in_use k) ∙ ap (times k) is.numbers ∙ times-append k front (shelf ∷ back)
 
   count-new : (k : ℕ) → times k (shelf_numbers (walked_lists new).entries) ≡ times k front + (hit shelf k + (hit rest k + times k back))
   count-new k = ap (times k) is.new_numbers ∙ times-append k front (shelf ∷ rest ∷ back)
@@ -200,28 +199,38 @@ module _ (frame : Frame) (records new : Records) (notes : Notes) (by_height : Li
   not-shelf : (k : ℕ) → is_noted three k ≡ false → k ≢ shelf
   not-shelf k unnoted = unnoted-differs notes shelf true known k (unnoted-one k unnoted)
 
+  -- nor had that changed before
+  unnoted-old : (k : ℕ) → is_noted three k ≡ false → is_noted notes k ≡ false
+  unnoted-old k unnoted = unnoted-before notes shelf true known k (unnoted-one k unnoted)
+
+  -- a listed shelf has a record that was kept
+  stood-within : (k : ℕ) → 1 ≤ times k (numbers_by_height by_height) → k < length notes.kept
+  stood-within k stands = stands-within notes.kept k by_height is.holds.order stands
+
+  listed-within : (k : ℕ) → is_listed notes k ≡ true → k < length notes.kept
+  listed-within k so = stood-within k (omega (arith, is.holds.listed k, ap once_where so))
+
   settled-after : (k : ℕ) → is_noted three k ≡ false → IsSettled new.shelves three k
   settled-after k unnoted =
-      let before = is.settled.settled k in
+      let before = is.holds.settled k (unnoted-old k unnoted) in
       let same : StandsSame records.shelves new.shelves k = is.others k (λ e. not-shelf k unnoted (sym e)) (λ e. not-rest k unnoted (sym e)) in
       record {
         listed = listed-same k ∙ before.listed ∙ sym (standing-other k (not-rest k unnoted) (not-shelf k unnoted));
         place = λ stands.
             let there : is_listed notes k ≡ true = sym (listed-same k) ∙ stands in
-            (entry-stands one rest any k (is.settled.within k there)).place ∙ before.place there ∙ sym same.place;
+            (entry-stands one rest any k (listed-within k there)).place ∙ before.place there ∙ sym same.place;
         height = λ stands.
             let there : is_listed notes k ≡ true = sym (listed-same k) ∙ stands in
-            (entry-stands one rest any k (is.settled.within k there)).height ∙ before.height there ∙ sym same.height;
+            (entry-stands one rest any k (listed-within k there)).height ∙ before.height there ∙ sym same.height;
       }
 
   -- the list stands in order by the records that it followed, with one more or not
   order-after : AreInOrder three.kept by_height
   order-after =
-      let so : (k : ℕ) → 1 ≤ times k (numbers_by_height by_height) → is_listed notes k ≡ true = λ k stands. once-true (is_listed notes k) (omega (arith, stands, listed-once frame records notes by_height k is.are is.settled)) in
       in_order-among notes.kept three.kept by_height
-      (λ k stands. omega (arith, is.settled.within k (so k stands), entry-kept one rest any))
-      (λ k stands. order-entry k (is.settled.within k (so k stands)))
-      (order-settled frame records notes by_height is.kept is.are is.settled)
+      (λ k stands. omega (arith, stood-within k stands, entry-kept one rest any))
+      (λ k stands. order-entry k (stood-within k stands))
+      is.holds.order
     where
       order-entry : (k : ℕ) → k < length notes.kept → order_of three.kept k ≡ order_of notes.kept k
       order-entry k below = order-stands notes.kept three.kept k (entry-stands one rest any k below)
@@ -231,7 +240,7 @@ module _ (frame : Frame) (records new : Records) (notes : Notes) (by_height : Li
       omega (
         arith,
         is.few,
-        is.settled.known,
+        is.holds.known,
         rest-known,
         noted-known notes shelf true known,
         entry-longer one rest any next,
@@ -246,17 +255,20 @@ module _ (frame : Frame) (records new : Records) (notes : Notes) (by_height : Li
       → AreByHeightButNoted frame new three by_height
   split-holds fronts backs whole taken added long shelves new_shelves change =
       record {
-        listed = λ k. listed-once frame records notes by_height k is.are is.settled ∙ sym (ap once_where (listed-same k));
+        listed = λ k. is.holds.listed k ∙ sym (ap once_where (listed-same k));
         in_use = in_use-after;
         order = order-after;
         settled = settled-after;
-        bounds = Each-weaken Old New by_height (λ bounded bounds unnoted. after bounded bounds (not-rest bounded.shelf unnoted)) is.are.bounds;
+        bounds = Each-weaken Before New by_height (λ bounded bounds unnoted. after bounded (bounds (unnoted-old bounded.shelf unnoted)) (not-rest bounded.shelf unnoted)) is.holds.bounds;
         known = known-after;
         few = (witnesses is.new_kept).counts.shelves.1;
       }
     where
       Old : BoundedShelf → Type 0
       Old bounded = IsBoundOf (bare frame records) (walked_lists records).entries bounded
+
+      Before : BoundedShelf → Type 0
+      Before bounded = is_noted notes bounded.shelf ≡ false → Old bounded
 
       New : BoundedShelf → Type 0
       New bounded = is_noted three bounded.shelf ≡ false → IsBoundOf (bare frame new) (walked_lists new).entries bounded

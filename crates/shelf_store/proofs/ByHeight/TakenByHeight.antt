@@ -9,36 +9,42 @@ use Rattle.shelf_records.specs.RecordUses.{new_shelf, number_used, shelves_used}
 use Rattle.shelf_records.specs.declared.records.LinkedShelf.{LinkedShelf}
 use Rattle.shelf_records.specs.AtlasRecords.{spelled_shelf}
 use Rattle.shelf_model.specs.Choice.{Placement}
-use Rattle.shelf_heights.specs.Private.ByHeight.{AreByHeight, IsBound}
-use Rattle.shelf_notes.specs.Private.Pending.{Notes}
+use Rattle.shelf_heights.specs.Private.ByHeight.{IsBound}
+use Rattle.shelf_notes.specs.Private.Pending.{Notes, is_noted}
 use Rattle.shelf_records.specs.Private.Kept.{AreKept, bare}
 use Rattle.shelf_store.specs.Private.PlacementTaken.{free_item, id_of, item_record, placement_taken, rest_shelf, rests_used_for, shelf_record, taken_notes, with_rest_notes, with_shelf_rest}
-use Rattle.shelf_store.specs.Private.Settling.{AreByHeightButNoted, AreSettled}
+use Rattle.shelf_store.specs.Private.Settling.{AreByHeightButNoted}
 use Rattle.shelf_model.specs.State.{Shelf, empty_shelf}
 use Rattle.shelf_model.specs.Taking.{taken_shelf}
 use Rattle.shelf_heights.specs.declared.by_height.BoundedShelf.{BoundedShelf}
-use Rattle.shelf_heights.proofs.ByHeight.Edited.{in_order-kept, by_height-in_order}
 use Rattle.shelf_store.proofs.ByHeight.NumberedBounds.{BoundsIn, IsBoundOf, bounds-changed, bounds-numbered, numbered-bounds}
 use Rattle.shelf_store.proofs.ByHeight.SplitOrders.{StandsSame, length-split, length-taken, length-used, order-stands, same-split, same-used, stands-same, stands-taken, stands-then}
-use Rattle.shelf_store.proofs.ByHeight.SplitByHeight.{IsSplitByHeight, settled-holds, split-holds}
+use Rattle.shelf_store.proofs.ByHeight.SplitByHeight.{IsSplitByHeight, split-holds}
 use Rattle.shelf_store.proofs.ByHeight.TakenBounds.{bound-taken}
 use Rattle.shelf_store.proofs.Spelled.TakenKept.{KeepsTaken, SpellsTaken}
 use Rattle.shelf_store.proofs.Spelled.TakenRests.{link_where, list_where}
+use Rattle.shelf_records.proofs.Spelled.StandsKept.{witnesses}
 
--- the shelves by height where none is split
-unsplit-by_height : (frame : Frame) (records new : Records) (by_height : List BoundedShelf) (shelf : ℕ) (front back : List ℕ) (fronts backs : List Shelf) (whole taken : Shelf)
-    → AreKept frame records → AreByHeight frame records by_height
+-- where none is split
+unsplit-holds : (frame : Frame) (records new : Records) (notes : Notes) (by_height : List BoundedShelf) (shelf : ℕ) (front back : List ℕ) (fronts backs : List Shelf) (whole taken : Shelf)
+    → AreKept frame new → AreByHeightButNoted frame records notes by_height
     → shelf_numbers (walked_lists records).entries ≡ front ++ shelf ∷ back → shelf_numbers (walked_lists new).entries ≡ front ++ shelf ∷ back
     → length front ≡ length fronts
     → map (spelled_shelf (bare frame records)) (walked_lists records).entries ≡ fronts ++ whole ∷ backs
     → map (spelled_shelf (bare frame new)) (walked_lists new).entries ≡ fronts ++ taken ∷ backs
     → ((widest : ℕ) → IsBound widest whole → IsBound widest taken)
-    → ((k : ℕ) → StandsSame records.shelves new.shelves k) → length records.shelves ≤ length new.shelves → AreByHeight frame new by_height
-unsplit-by_height frame records new by_height shelf front back fronts backs whole taken kept are numbers new_numbers long shelves new_shelves change stands longer =
+    → ((k : ℕ) → StandsSame records.shelves new.shelves k) → length new.shelves ≤ length records.shelves → AreByHeightButNoted frame new notes by_height
+unsplit-holds frame records new notes by_height shelf front back fronts backs whole taken new_kept holds numbers new_numbers long shelves new_shelves change stands few =
     record {
-      once = λ k. are.once k ∙ ap (times k) (numbers ∙ sym new_numbers);
-      rising = (in_order-kept records.shelves new.shelves by_height longer (λ k there. order-stands records.shelves new.shelves k (stands k)) (by_height-in_order frame records by_height kept are)).rising;
-      bounds = Each-weaken Old New by_height after are.bounds;
+      listed = holds.listed;
+      in_use = λ k. ap (times k) (new_numbers ∙ sym numbers) ∙ holds.in_use k;
+      order = holds.order;
+      settled = λ k unnoted.
+          let is = holds.settled k unnoted in
+          record { listed = is.listed; place = λ there. is.place there ∙ sym (stands k).place; height = λ there. is.height there ∙ sym (stands k).height };
+      bounds = Each-weaken (λ one. is_noted notes one.shelf ≡ false → Old one) (λ one. is_noted notes one.shelf ≡ false → New one) by_height (λ one bounds unnoted. after one (bounds unnoted)) holds.bounds;
+      known = omega (arith, few, holds.known);
+      few = (witnesses new_kept).counts.shelves.1;
     }
   where
     Old : BoundedShelf → Type 0
@@ -58,20 +64,6 @@ unsplit-by_height frame records new by_height shelf front back fronts backs whol
         (subst (λ (ss : List Shelf). BoundsIn one (front ++ shelf ∷ back) ss) (sym new_shelves)
         (bounds-changed one shelf front back fronts backs whole taken long (λ same. change one.widest) old)))
 
--- notes stay settled where no shelf moves
-unsplit-settled : (records new : Records) (notes : Notes) → AreSettled records notes → shelf_numbers (walked_lists new).entries ≡ shelf_numbers (walked_lists records).entries
-    → ((k : ℕ) → StandsSame records.shelves new.shelves k) → length new.shelves ≤ length records.shelves → AreSettled new notes
-unsplit-settled records new notes settled numbers stands few =
-    record {
-      unchanged = settled.unchanged;
-      in_use = λ k. ap (times k) numbers ∙ settled.in_use k;
-      settled = λ k.
-          let is = settled.settled k in
-          record { listed = is.listed; place = λ there. is.place there ∙ sym (stands k).place; height = λ there. is.height there ∙ sym (stands k).height };
-      known = omega (arith, few, settled.known);
-      within = settled.within;
-    }
-
 -- the record of a rest is the last, or there are no more
 rest-last : (unused : Option ℕ) (shelves : List LinkedShelf) (rest : ℕ) → number_used true unused shelves ≡ Some rest → length (shelves_used true unused shelves) ≤ max (length shelves) (rest + 1)
 rest-last None shelves rest names =
@@ -81,10 +73,10 @@ rest-last (Some number) shelves rest names = omega arith
 
 -- when a placement that was found in kept records is taken
 pub taken-holds : (frame : Frame) (records : Records) (placement found : Placement) (notes : Notes) (by_height : List BoundedShelf) → AreKept frame records → KeepsTaken frame records placement found
-    → found.splits_shelf ≡ placement.splits_shelf → AreByHeight frame records by_height → AreSettled records notes
+    → found.splits_shelf ≡ placement.splits_shelf → AreByHeightButNoted frame records notes by_height
     → ((rest : ℕ) → number_used found.splits_shelf records.unused_shelves records.shelves ≡ Some rest → rest ≤ length records.shelves)
     → AreByHeightButNoted frame (placement_taken frame.column_width found records) (taken_notes found records notes) by_height
-taken-holds frame records placement found notes by_height kept made split_same are settled next = by_split placement.splits_shelf refl
+taken-holds frame records placement found notes by_height kept made split_same holds next = by_split placement.splits_shelf refl
   where
     new : Records
     new = placement_taken frame.column_width found records
@@ -159,12 +151,10 @@ taken-holds frame records placement found notes by_height kept made split_same a
         let stays : (k : ℕ) → StandsSame records.shelves new.shelves k = λ k. stands-then records.shelves used.shelves new.shelves k (used-stands k) (same.0 k) in
         let few : length used.shelves ≤ length records.shelves = used-few false (split_same ∙ e) refl in
         by_numbers None None (shelf_used false e) (item_used false e)
-        (settled-holds frame new notes by_height made.kept
-        (unsplit-by_height frame records new by_height found.shelf made.spells.front made.spells.back made.spells.fronts made.spells.backs made.spells.whole given kept are
+        (unsplit-holds frame records new notes by_height found.shelf made.spells.front made.spells.back made.spells.fronts made.spells.backs made.spells.whole given made.kept holds
         made.spells.numbers (numbers false e) made.spells.long made.spells.shelves (shelves false e) change
         stays
-        (omega (arith, same.1, length-used found.splits_shelf found.splits_item records)))
-        (unsplit-settled records new notes settled (numbers false e ∙ sym made.spells.numbers) stays (omega (arith, same.1, few))))
+        (omega (arith, same.1, few)))
     by_split true e =
         let rest : ℕ = made.spells.rest in
         let item : ℕ = made.spells.item in
@@ -178,10 +168,8 @@ taken-holds frame records placement found notes by_height kept made split_same a
         rw splits (rest-last records.unused_shelves records.shelves rest (ap (λ (s : Bool). number_used s records.unused_shelves records.shelves) (sym splits) ∙ shelf_used true e)) in
         let is : IsSplitByHeight frame records new notes by_height found.shelf rest made.spells.front made.spells.back =
         record {
-          kept = kept;
           new_kept = made.kept;
-          are = are;
-          settled = settled;
+          holds = holds;
           numbers = made.spells.numbers;
           new_numbers = numbers true e;
           others = λ k other rest_other.
@@ -191,7 +179,7 @@ taken-holds frame records placement found notes by_height kept made split_same a
               (same-split used found.shelf rest item found.height (rest_shelf any found.height item)
               (free_item any.x frame.column_width rest (item_record used.items item).generation) k other rest_other)))
               (same.0 k);
-          next = omega (arith, next rest (shelf_used true e), settled.known);
+          next = omega (arith, next rest (shelf_used true e), holds.known);
           few = omega (arith, same.1, long, few);
         } in
         by_numbers (Some rest) (Some item) (shelf_used true e) (item_used true e)

@@ -7,11 +7,10 @@ use Rattle.etagere_base.specs.declared.geometry.Size.{Size}
 use Rattle.etagere_base.specs.declared.ids.Allocation.{Allocation}
 use Rattle.shelf_records.specs.RecordLists.{Records}
 use Rattle.shelf_model.specs.Choice.{Placement, area, rectangle_of_placement, splits}
-use Rattle.shelf_heights.specs.Private.ByHeight.{AreByHeight}
 use Rattle.shelf_notes.specs.Private.Pending.{Notes}
 use Rattle.shelf_records.specs.Private.Kept.{AreKept, Finds, state_of}
 use Rattle.shelf_store.specs.Private.PlacementTaken.{CanTakeFrom, id_of, placement_taken, taken_notes}
-use Rattle.shelf_store.specs.Private.Settling.{AreByHeightButNoted, AreSettled}
+use Rattle.shelf_store.specs.Private.Settling.{AreByHeightButNoted}
 use Rattle.shelf_model.specs.Space.{allocated_space}
 use Rattle.shelf_model.specs.State.{AtlasState, items_in_use}
 use Rattle.shelf_model.specs.Taking.{taken}
@@ -54,13 +53,13 @@ found-as_placed frame records size found kept finds =
 
 -- what taking what was found leaves of the shelves by height
 pub found-holds : (frame : Frame) (records : Records) (size : Size) (found : Placement) (notes : Notes) (by_height : List BoundedShelf) → AreKept frame records → Finds frame records size found
-    → AreByHeight frame records by_height → AreSettled records notes
+    → AreByHeightButNoted frame records notes by_height
     → AreByHeightButNoted frame (placement_taken frame.column_width found records) (taken_notes found records notes) by_height
-found-holds frame records size found notes by_height kept finds are settled =
+found-holds frame records size found notes by_height kept finds holds =
     let placement : Placement = finds.placement in
     let can : CanTakeFrom frame.column_width found records = can-take frame records size placement found kept finds.placed finds.located in
     taken-holds frame records placement found notes by_height kept (placement-kept frame records size placement found kept finds.placed finds.located)
-    (ap (λ (p : Placement). p.splits_shelf) finds.located.same) are settled
+    (ap (λ (p : Placement). p.splits_shelf) finds.located.same) holds
     (λ rest names. rest-next found records rest names can.rests.shelf)
 
 -- its shelf is there

@@ -1,5 +1,5 @@
-use Rattle.std.specs.Prelude.{◌≡◌, OnErr, Result, Ok, Err, Some}
-use Rattle.std.proofs.Common.{◌≤◌, List, ap, length, sym, subst, arith, ◌∙◌}
+use Rattle.std.specs.Prelude.{◌≡◌, Bool, true, false, OnErr, Result, Ok, Err, Some}
+use Rattle.std.proofs.Common.{◌≤◌, List, ap, length, refl, sym, subst, arith, ◌∙◌}
 use Rattle.etagere_base.specs.Rectangles.{IsLarge}
 use Rattle.etagere_base.specs.declared.ids.Allocation.{Allocation}
 use Rattle.shelf_records.specs.RecordLists.{Records}
@@ -53,10 +53,10 @@ take_placement-requires-clause-there c =
     found-there inside.frame inside.records c.args.size c.in-Some.placement c.self.invariant.kept c.in-Some.ensures.some
 
 pub take_placement-requires-clause-room : goal.take_placement-requires-clause-room
-take_placement-requires-clause-room c = omega (arith, c.self.invariant.room, c.settle_shelves.ensures.capacity, c.placement_of-found.ensures.capacity)
+take_placement-requires-clause-room c = omega (arith, c.self.invariant.room, c.settle_unless_few-follows.ensures.capacity, c.placement_of-found.ensures.capacity)
 
 pub take_placement-requires-clause-room_to_note : goal.take_placement-requires-clause-room_to_note
-take_placement-requires-clause-room_to_note c = omega (arith, c.self.invariant.room_to_note, c.settle_shelves.ensures.room)
+take_placement-requires-clause-room_to_note c = omega (arith, c.self.invariant.room_to_note, c.settle_unless_few-follows.ensures.room)
 
 pub returns-in_err-id-clause-split : goal.returns-in_err-id-clause-split
 returns-in_err-id-clause-split c =
@@ -100,35 +100,48 @@ after c =
     after-taking inside.frame inside.records c.take_placement.new.records c.args.size c.in-Some.placement c.in_ok-id.id c.rectangle-rectangle.result
     c.self.invariant.kept c.in-Some.ensures.some c.in_ok-id.ensures.ok c.in_ok-id.ensures.id c.rectangle-rectangle.ensures
 
--- and of the shelves by height
+-- what the fields keep of the shelves by height once these were searched, where the list follows the records, and where not
+searched : (inside : Inside) (by_height new : List BoundedShelf) (notes : Notes) (follows : Bool) → IsConsistent inside → AreByHeightButNoted inside.frame inside.records notes by_height
+    → (follows ≡ true → AreSettled inside.records notes) → (follows ≡ true → AreByHeight inside.frame inside.records new)
+    → (follows ≡ false → by_height ≡ inside.by_height.items) → (follows ≡ false → new ≡ by_height)
+    → AreByHeightButNoted inside.frame inside.records notes new × (inside.frame.columns ≤ length new)
+searched inside by_height new notes true is holds settled are before same =
+    (settled-holds inside.frame inside.records notes new is.kept (are refl) (settled refl), columns-by_height inside.frame inside.records new is.kept (are refl))
+searched inside by_height new notes false is holds settled are before same = (
+  subst (AreByHeightButNoted inside.frame inside.records notes) (sym (same refl)) holds,
+  subst (λ (bs : List BoundedShelf). inside.frame.columns ≤ length bs) (sym (same refl ∙ before refl)) is.columns,
+)
+
+searched-before : (c : goal.After-of) → AreByHeightButNoted c.self.inside.frame c.self.inside.records c.settle_unless_few-follows.new.pending.notes c.placement_of-found.new.by_height.items × (c.self.inside.frame.columns ≤ length c.placement_of-found.new.by_height.items)
+searched-before c =
+    searched c.self.inside c.settle_unless_few-follows.new.by_height.items c.placement_of-found.new.by_height.items c.settle_unless_few-follows.new.pending.notes c.settle_unless_few-follows.result c.self.invariant
+    c.settle_unless_few-follows.ensures.by_height c.settle_unless_few-follows.ensures.settled c.placement_of-found.ensures.by_height c.settle_unless_few-follows.ensures.same c.placement_of-found.ensures.same
+
+-- and once what was found was taken
 by_height-after : (c : goal.After-of) → AreByHeightButNoted c.self.inside.frame c.take_placement.new.records c.take_placement.new.pending.notes c.take_placement.new.by_height.items
 by_height-after c =
     let inside = c.self.inside in
     let column_width = inside.frame.column_width in
     let found = c.in-Some.placement in
-    let notes : Notes = c.settle_shelves.new.pending.notes in
+    let notes : Notes = c.settle_unless_few-follows.new.pending.notes in
     let by_height : List BoundedShelf = c.placement_of-found.new.by_height.items in
+    let before = searched-before c in
     let holds : AreByHeightButNoted inside.frame (placement_taken column_width found inside.records) (taken_notes found inside.records notes) by_height =
-    found-holds inside.frame inside.records c.args.size found notes by_height c.self.invariant.kept c.in-Some.ensures.some c.placement_of-found.ensures.by_height c.settle_shelves.ensures.settled in
+    found-holds inside.frame inside.records c.args.size found notes by_height c.self.invariant.kept c.in-Some.ensures.some before.0 in
     subst (AreByHeightButNoted inside.frame c.take_placement.new.records c.take_placement.new.pending.notes) (sym c.in_ok-id.ensures.by_height)
     (subst (λ (n : Notes). AreByHeightButNoted inside.frame c.take_placement.new.records n by_height) (sym c.in_ok-id.ensures.notes)
     (subst (λ (r : Records). AreByHeightButNoted inside.frame r (taken_notes found inside.records notes) by_height) (sym c.in_ok-id.ensures.ok) holds))
 
--- what the fields keep where nothing is given
-unchanged : (inside : Inside) (by_height : List BoundedShelf) (notes : Notes) → IsConsistent inside → AreByHeight inside.frame inside.records by_height → AreSettled inside.records notes
-    → AreByHeightButNoted inside.frame inside.records notes by_height × (inside.frame.columns ≤ length by_height)
-unchanged inside by_height notes is are settled =
-    (settled-holds inside.frame inside.records notes by_height is.kept are settled, columns-by_height inside.frame inside.records by_height is.kept are)
-
 pub invariant_of-self : goal.invariant_of-self
 invariant_of-self c =
-    let same = unchanged c.self.inside c.placement_of-found.new.by_height.items c.settle_shelves.new.pending.notes c.self.invariant c.placement_of-found.ensures.by_height c.settle_shelves.ensures.settled in
+    let same = searched c.self.inside c.settle_unless_few-follows.new.by_height.items c.placement_of-found.new.by_height.items c.settle_unless_few-follows.new.pending.notes c.settle_unless_few-follows.result c.self.invariant
+    c.settle_unless_few-follows.ensures.by_height c.settle_unless_few-follows.ensures.settled c.placement_of-found.ensures.by_height c.settle_unless_few-follows.ensures.same c.placement_of-found.ensures.same in
     record {
       kept = c.self.invariant.kept;
       by_height = same.0;
       columns = same.1;
-      room = omega (arith, c.self.invariant.room, c.settle_shelves.ensures.capacity, c.placement_of-found.ensures.capacity);
-      room_to_note = omega (arith, c.self.invariant.room_to_note, c.settle_shelves.ensures.room);
+      room = omega (arith, c.self.invariant.room, c.settle_unless_few-follows.ensures.capacity, c.placement_of-found.ensures.capacity);
+      room_to_note = omega (arith, c.self.invariant.room_to_note, c.settle_unless_few-follows.ensures.room);
       counted = c.self.invariant.counted;
       space = c.self.invariant.space;
     }
@@ -136,16 +149,14 @@ invariant_of-self c =
 pub invariant_of-self-in_err-id : goal.invariant_of-self-in_err-id
 invariant_of-self-in_err-id c =
     let inside = c.self.inside in
-    let by_height : List BoundedShelf = c.take_placement.new.by_height.items in
-    let notes : Notes = c.take_placement.new.pending.notes in
-    let same = unchanged inside by_height notes c.self.invariant
-    (subst (AreByHeight inside.frame inside.records) (sym c.in_err-id.ensures.by_height) c.placement_of-found.ensures.by_height)
-    (subst (AreSettled inside.records) (sym c.in_err-id.ensures.notes_err) c.settle_shelves.ensures.settled) in
+    let same = searched c.self.inside c.settle_unless_few-follows.new.by_height.items c.placement_of-found.new.by_height.items c.settle_unless_few-follows.new.pending.notes c.settle_unless_few-follows.result c.self.invariant
+    c.settle_unless_few-follows.ensures.by_height c.settle_unless_few-follows.ensures.settled c.placement_of-found.ensures.by_height c.settle_unless_few-follows.ensures.same c.placement_of-found.ensures.same in
     rw c.in_err-id.ensures.err
     (record {
       kept = c.self.invariant.kept;
-      by_height = same.0;
-      columns = same.1;
+      by_height = subst (AreByHeightButNoted inside.frame inside.records c.take_placement.new.pending.notes) (sym c.in_err-id.ensures.by_height)
+          (subst (λ (n : Notes). AreByHeightButNoted inside.frame inside.records n c.placement_of-found.new.by_height.items) (sym c.in_err-id.ensures.notes_err) same.0);
+      columns = subst (λ (bs : List BoundedShelf). inside.frame.columns ≤ length bs) (sym c.in_err-id.ensures.by_height) same.1;
       room = subst (λ (r : Records). length r.shelves ≤ c.take_placement.new.by_height.capacity) c.in_err-id.ensures.err c.in_err-id.ensures.room;
       room_to_note = subst (λ (r : Records). length r.shelves ≤ c.take_placement.new.pending.room) c.in_err-id.ensures.err c.in_err-id.ensures.room_to_note;
       counted = c.self.invariant.counted;
@@ -156,11 +167,7 @@ pub invariant_of-self-2 : goal.invariant_of-self-2
 invariant_of-self-2 c = record {
   kept = (after c).kept;
   by_height = by_height-after c;
-  columns = omega (
-    arith,
-    columns-by_height c.self.inside.frame c.self.inside.records c.placement_of-found.new.by_height.items c.self.invariant.kept c.placement_of-found.ensures.by_height,
-    ap (λ (xs : List BoundedShelf). length xs) c.in_ok-id.ensures.by_height,
-  );
+  columns = subst (λ (bs : List BoundedShelf). c.self.inside.frame.columns ≤ length bs) (sym c.in_ok-id.ensures.by_height) (searched-before c).1;
   room = c.in_ok-id.ensures.room;
   room_to_note = c.in_ok-id.ensures.room_to_note;
   counted = omega (arith, (after c).counted, c.splits.ensures.value, c.self.invariant.counted);

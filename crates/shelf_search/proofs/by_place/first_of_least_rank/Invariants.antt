@@ -3,7 +3,7 @@ use Rattle.shelf_records.specs.RecordLists.{shelf_walk}
 use Rattle.shelf_records.specs.Records.{shelf_chain}
 use Rattle.shelf_search.specs.Private.Searching.{lowest, offered}
 use Rattle.shelf_search.proofs.Searched.PassedWalks.{Passes}
-use Rattle.shelf_search.proofs.asking.first_of_least_rank.Given as goal
+use Rattle.shelf_search.proofs.by_place.first_of_least_rank.Given as goal
 
 -- the best so far is the first of least rank of the shelves that were passed
 abbrev pub invariant-loop-step : goal.invariant-loop-step
