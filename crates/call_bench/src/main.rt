@@ -10,6 +10,7 @@ mod called;
 use anyhow::{Context, Result};
 use called::Called;
 use etagere::{AtlasAllocator, BucketedAtlasAllocator};
+use run_scripts::commands::{AtlasCommand, BucketedCommand};
 use run_scripts::reading::read_all;
 use run_scripts::script::{Commands, Script, read_script};
 use std::alloc::Global;
@@ -31,19 +32,32 @@ fn main(rt: HostRuntime) -> Result<()> {
 /// Makes all calls of a script on a new atlas, and counts the rectangles that were given.
 fn one_round(alloc: Global, script: &Script, round: &str) -> Result<u64> {
     match &script.commands {
-        Commands::OfShelves(commands) => {
-            let mut atlas = AtlasAllocator::with_options(alloc, script.size, &script.options)?;
-            call_and_end(alloc, &mut atlas, commands.as_slice(), round)
-        }
-        Commands::OfBuckets(commands) => {
-            let mut atlas = BucketedAtlasAllocator::with_options(
-                alloc,
-                script.size,
-                &script.options,
-            )?;
-            call_and_end(alloc, &mut atlas, commands.as_slice(), round)
-        }
+        Commands::OfShelves(commands) => of_shelves(alloc, script, commands.as_slice(), round),
+        Commands::OfBuckets(commands) => of_buckets(alloc, script, commands.as_slice(), round),
     }
+}
+
+/// Never inlined, as the next one: a function clears what it may need as it is called, and an atlas of buckets is large.
+#[inline(never)]
+fn of_shelves(
+    alloc: Global,
+    script: &Script,
+    commands: &[AtlasCommand],
+    round: &str,
+) -> Result<u64> {
+    let mut atlas = AtlasAllocator::with_options(alloc, script.size, &script.options)?;
+    call_and_end(alloc, &mut atlas, commands, round)
+}
+
+#[inline(never)]
+fn of_buckets(
+    alloc: Global,
+    script: &Script,
+    commands: &[BucketedCommand],
+    round: &str,
+) -> Result<u64> {
+    let mut atlas = BucketedAtlasAllocator::with_options(alloc, script.size, &script.options)?;
+    call_and_end(alloc, &mut atlas, commands, round)
 }
 
 fn call_and_end<A: Called>(

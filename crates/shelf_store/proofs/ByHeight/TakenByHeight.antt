@@ -18,7 +18,7 @@ use Rattle.shelf_model.specs.State.{Shelf, empty_shelf}
 use Rattle.shelf_model.specs.Taking.{taken_shelf}
 use Rattle.shelf_heights.specs.declared.by_height.BoundedShelf.{BoundedShelf}
 use Rattle.shelf_store.proofs.ByHeight.NumberedBounds.{BoundsIn, IsBoundOf, bounds-changed, bounds-numbered, numbered-bounds}
-use Rattle.shelf_store.proofs.ByHeight.SplitOrders.{StandsSame, length-split, length-taken, length-used, order-stands, same-split, same-used, stands-same, stands-taken, stands-then}
+use Rattle.shelf_store.proofs.ByHeight.SplitOrders.{StandsSame, length-split, length-taken, same-split, same-used, stands-same, stands-taken, stands-then}
 use Rattle.shelf_store.proofs.ByHeight.SplitByHeight.{IsSplitByHeight, split-holds}
 use Rattle.shelf_store.proofs.ByHeight.TakenBounds.{bound-taken}
 use Rattle.shelf_store.proofs.Spelled.TakenKept.{KeepsTaken, SpellsTaken}
