@@ -1,2 +1,3 @@
+pub mod MovedAtlases
 pub mod MovedCaches
 pub mod MovedPages

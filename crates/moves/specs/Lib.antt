@@ -1,2 +1,3 @@
+pub mod Atlases
 pub mod Caches
 pub mod Pages

@@ -1,6 +1,9 @@
-//! Moving house: `pages` moves what stands on several pages, and `caches` what a cache holds, to places without the gaps
+//! Moving house: what an atlas, several pages or a cache hold gets new places, the tallest first, and so without the gaps
 //! that returns have left.
+//!
+//! `atlases` moves all of an atlas, `pages` what stands on several pages, and `caches` what a cache holds.
 #![tactic(auto)]
 
+pub mod atlases;
 pub mod caches;
 pub mod pages;

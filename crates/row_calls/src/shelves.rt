@@ -10,7 +10,7 @@ use etagere::{
     AllocId, AtlasAllocator, AtlasSnapshot, OptionsFault, Rectangle, Refusal, RestoreFault, Size,
     Usage, laws,
 };
-use rearranging::{Move, Rearranged, rearranged};
+use moves::atlases::{Move, Rearranged, rearranged};
 use std::alloc::{AllocError, Global};
 use std::io;
 use test_support::atlases::Atlas;

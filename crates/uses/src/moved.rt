@@ -3,7 +3,7 @@
 
 use anyhow::Result;
 use etagere::{AllocId, AtlasAllocator, Rectangle, Size, point2, size2};
-use rearranging::rearranged;
+use moves::atlases::rearranged;
 use std::io::{self, Write};
 
 /// A page has these sides in pixels, and the second one begins so far to the right.

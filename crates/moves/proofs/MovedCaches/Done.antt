@@ -17,8 +17,8 @@ use Rattle.shelf_model.specs.State.{AtlasState}
 use Rattle.glyph_shelf.specs.Cache.{CacheState}
 use Rattle.glyph_shelf.specs.Promises.{KeepsCachePromises}
 use Rattle.glyph_shelf.specs.Saved.{without_frame}
-use Rattle.rearranging.specs.Arranging.{HasRoom, moved_from}
-use Rattle.rearranging.specs.declared.moves.Move.{Move}
+use Rattle.moves.specs.Atlases.Arranging.{HasRoom, moved_from}
+use Rattle.moves.specs.declared.atlases.moves.Move.{Move}
 use Rattle.moves.specs.Caches.Arranging.{HasMoved, IsLeftOut, key_at, key_left, key_move, keys_told, moved_cache, new_place}
 use Rattle.moves.specs.Caches.Private.Following.{Follows, IsMovedInto}
 use Rattle.moves.specs.declared.caches.moves.KeyMove.{KeyMove}

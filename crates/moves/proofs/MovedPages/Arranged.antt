@@ -9,10 +9,10 @@ use Rattle.etagere_base.specs.Frames.{IsFrame, longest_side}
 use Rattle.etagere_base.specs.declared.geometry.Size.{Size}
 use Rattle.shelf_model.specs.Places.{rectangle_of}
 use Rattle.shelf_model.specs.State.{AtlasState}
-use Rattle.rearranging.proofs.Asking.{inside-sides}
-use Rattle.rearranging.proofs.Laws.{large-room}
-use Rattle.rearranging.specs.Order.{size_of}
-use Rattle.rearranging.specs.Private.Sides.{HasSides}
+use Rattle.moves.proofs.MovedAtlases.Asking.{inside-sides}
+use Rattle.moves.proofs.MovedAtlases.Laws.{large-room}
+use Rattle.moves.specs.Atlases.Order.{size_of}
+use Rattle.moves.specs.Atlases.Private.Sides.{HasSides}
 use Rattle.atlas_pages.proofs.KeptBefore.{allocated-inside, get-set}
 use Rattle.atlas_pages.specs.declared.options.PageOptions.{PageOptions}
 use Rattle.atlas_pages.specs.declared.places.PagedAllocation.{PagedAllocation}

@@ -9,8 +9,8 @@ use Rattle.std.specs.declared.cmp.Reverse.{Reverse}
 use Rattle.std.proofs.lemmas.Fn.{always_returns_same}
 use denote.Param.Members.{Mut}
 use Rattle.std.proofs.lemmas.Bool.Decides.{nat_tests}
-use Rattle.rearranging.specs.Order.{height_across}
-use Rattle.rearranging.proofs.Sorting.{sorted-neighbours}
+use Rattle.moves.specs.Atlases.Order.{height_across}
+use Rattle.moves.proofs.MovedAtlases.Sorting.{sorted-neighbours}
 use Rattle.atlas_pages.specs.declared.places.PagedAllocation.{PagedAllocation}
 use Rattle.moves.specs.Pages.Order.{AreTallestFirst, is_out_of_turn}
 

@@ -6,8 +6,8 @@ use Rattle.etagere_base.specs.declared.geometry.Size.{Size}
 use Rattle.etagere_base.specs.declared.ids.Allocation.{Allocation}
 use Rattle.shelf_model.specs.State.{AtlasState}
 use Rattle.glyph_shelf.specs.Cache.{CacheState, rectangle_at}
-use Rattle.rearranging.specs.Arranging.{IsAsLarge, IsRearranged}
-use Rattle.rearranging.specs.declared.moves.Move.{Move}
+use Rattle.moves.specs.Atlases.Arranging.{IsAsLarge, IsRearranged}
+use Rattle.moves.specs.declared.atlases.moves.Move.{Move}
 use Rattle.moves.specs.declared.caches.moves.KeyMove.{KeyMove}
 use Rattle.moves.specs.declared.caches.moves.UnplacedKey.{UnplacedKey}
 

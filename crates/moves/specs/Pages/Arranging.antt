@@ -1,8 +1,8 @@
 -- What becomes of the rectangles of pages that get places on new ones.
 use Rattle.std.specs.Prelude.{List, [], ◌∷◌, ◌++◌, map}
 use Rattle.etagere_base.specs.Rectangles.{IsLarge}
-use Rattle.rearranging.specs.Arranging.{IsAsLarge}
-use Rattle.rearranging.specs.Order.{size_of}
+use Rattle.moves.specs.Atlases.Arranging.{IsAsLarge}
+use Rattle.moves.specs.Atlases.Order.{size_of}
 use Rattle.atlas_pages.specs.declared.places.PagedAllocation.{PagedAllocation}
 use Rattle.atlas_pages.specs.Choosing.{IsRefusedByAll}
 use Rattle.atlas_pages.specs.Pages.{PagesState, no_pages, page_frame}

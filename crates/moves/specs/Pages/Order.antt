@@ -2,7 +2,7 @@
 -- pages, and on one page of ids.
 use Rattle.std.specs.Prelude.{Bool, ◌&&◌, ◌||◌, ◌==◌, nat_lt, List}
 use Rattle.etagere_base.specs.Lists.{NoNeighbours}
-use Rattle.rearranging.specs.Order.{height_across}
+use Rattle.moves.specs.Atlases.Order.{height_across}
 use Rattle.atlas_pages.specs.declared.places.PagedAllocation.{PagedAllocation}
 
 -- a place comes after another one: it is on a later page, or on the same one under a higher id

@@ -7,10 +7,10 @@ ghost use Rattle.std.specs.HashMap as table;
 ghost use Rattle.std.specs.List.{filter_map};
 ghost use Rattle.moves.specs.Caches.Private.ById.{ids_moved, keyed_left, keyed_move, keys_saved, saved_anew};
 
+use crate::atlases::Move;
 use crate::caches::moves::{KeyMove, UnplacedKey};
 use etagere::{AllocId, Allocation};
 use glyph_shelf::SavedKey;
-use rearranging::Move;
 use std::alloc::{AllocError, Global};
 use std::collections::HashMap;
 

@@ -1,7 +1,7 @@
 //! The call: the atlas of a cache moves into a new one, and the keys follow.
 //!
-//! Definitions: `Arranging`, over those of `rearranging` and of `glyph_shelf`. The clauses stay as they are: callers
-//! prove by them.
+//! Definitions: `Arranging`, over those of `atlases` and of `glyph_shelf`. The clauses stay as they are: callers prove
+//! by them.
 
 ghost use Rattle.std.specs.Prelude.{◌≡◌, ℕ, Err, None, IfOk, IfErr, IfSome, OnOk};
 ghost use Rattle.std.specs.List.{AllByRecursion};
@@ -12,17 +12,17 @@ ghost use Rattle.etagere_base.specs.declared.faults.OptionsFault.TheVariants as 
 ghost use Rattle.glyph_shelf.specs.Promises.{KeepsCachePromises};
 ghost use Rattle.glyph_shelf.specs.Saved.{CacheStandsFor};
 ghost use Rattle.glyph_shelf.specs.Cache as model;
-ghost use Rattle.rearranging.specs.Options as options;
+ghost use Rattle.moves.specs.Atlases.Options as options;
 ghost use Rattle.moves.specs.Caches.Arranging as spec;
 ghost use Rattle.moves.specs.Caches.Arranging.{HasMoved, IsLeftOut, IsRearrangedCache, keys_told};
 ghost use Rattle.moves.specs.Caches.Private.Following.{Follows, IsMovedInto};
 
+use crate::atlases::{Move, rearranged};
 use crate::caches::by_id::{key_moves, keys_by_id, keys_moved, new_ids, unplaced_keys};
 use crate::caches::moves::RearrangedCache;
 use etagere::{Allocation, AtlasAllocator, OptionsFault, Size};
 use glyph_shelf::laws::snapshots_stand_for_one_cache;
 use glyph_shelf::{CacheRestoreFault, CacheSnapshot, GlyphCache};
-use rearranging::{Move, rearranged};
 use std::alloc::{AllocError, Global};
 
 /// Places all keys of a cache in a new atlas of this size in pixels, and so without the gaps that returns have left. The

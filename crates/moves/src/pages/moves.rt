@@ -3,7 +3,7 @@
 //! Definition: `Arranging`.
 
 ghost use Rattle.std.specs.Prelude.{[], ◌∷◌, ◌++◌, List, OnOk};
-ghost use Rattle.rearranging.specs.Private.Sides.{HasSides};
+ghost use Rattle.moves.specs.Atlases.Private.Sides.{HasSides};
 ghost use Rattle.atlas_pages.specs.Pages as state;
 ghost use Rattle.atlas_pages.specs.declared.places.PagedAllocation as places;
 ghost use Rattle.moves.specs.Pages.Arranging.{Arranges};

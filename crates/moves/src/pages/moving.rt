@@ -5,7 +5,7 @@
 ghost use Rattle.std.specs.Prelude.{◌≡◌, ◌++◌, IfOk};
 ghost use Rattle.std.specs.List.{AllByRecursion};
 ghost use Rattle.std.specs.List.Sorted.{IsPermutation};
-ghost use Rattle.rearranging.specs.Private.Sides.{HasSides};
+ghost use Rattle.moves.specs.Atlases.Private.Sides.{HasSides};
 ghost use Rattle.atlas_pages.specs.Promises.{KeepsPagesPromises};
 ghost use Rattle.atlas_pages.specs.declared.places.PagedAllocation as places;
 ghost use Rattle.moves.specs.Pages.Arranging.{Arranges, HasRoom, IsRearranged, moved_from, moved_to};

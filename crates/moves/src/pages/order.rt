@@ -5,8 +5,8 @@
 ghost use Rattle.std.specs.List.Sorted.{IsPermutation};
 ghost use Rattle.moves.specs.Pages.Order.{AreTallestFirst};
 
+use crate::atlases::height_across;
 use atlas_pages::PagedAllocation;
-use rearranging::height_across;
 use std::cmp::Reverse;
 
 /// Sorts what is allocated on pages: the tallest first, and of equally tall ones in the order of pages and ids.

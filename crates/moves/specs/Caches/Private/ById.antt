@@ -2,7 +2,7 @@
 use Rattle.std.specs.Prelude.{ℕ, Option, option_map, List, map}
 use Rattle.etagere_base.specs.declared.ids.Allocation.{Allocation}
 use Rattle.glyph_shelf.specs.declared.saving.SavedKey.{SavedKey}
-use Rattle.rearranging.specs.declared.moves.Move.{Move}
+use Rattle.moves.specs.declared.atlases.moves.Move.{Move}
 use Rattle.moves.specs.declared.caches.moves.KeyMove.{KeyMove}
 use Rattle.moves.specs.declared.caches.moves.UnplacedKey.{UnplacedKey}
 

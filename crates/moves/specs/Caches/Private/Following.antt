@@ -9,8 +9,8 @@ use Rattle.shelf_model.specs.State.{AtlasState}
 use Rattle.glyph_shelf.specs.Cache.{CacheState}
 use Rattle.glyph_shelf.specs.Promises.{KeepsCachePromises}
 use Rattle.glyph_shelf.specs.Saved.{without_frame}
-use Rattle.rearranging.specs.Arranging.{moved_from, moved_to}
-use Rattle.rearranging.specs.declared.moves.Move.{Move}
+use Rattle.moves.specs.Atlases.Arranging.{moved_from, moved_to}
+use Rattle.moves.specs.declared.atlases.moves.Move.{Move}
 use Rattle.moves.specs.Caches.Arranging.{key_left, key_move, moved_cache}
 use Rattle.moves.specs.declared.caches.moves.KeyMove.{KeyMove}
 use Rattle.moves.specs.declared.caches.moves.UnplacedKey.{UnplacedKey}

@@ -3,8 +3,8 @@ use Rattle.etagere_base.specs.declared.ids.Allocation.{Allocation}
 use Rattle.shelf_model.specs.Callers.{AreTied}
 use Rattle.shelf_model.specs.Places.{allocations}
 use Rattle.shelf_model.specs.State.{AtlasState}
-use Rattle.rearranging.specs.Arranging.{moved_from}
-use Rattle.rearranging.specs.declared.moves.Move.{Move}
+use Rattle.moves.specs.Atlases.Arranging.{moved_from}
+use Rattle.moves.specs.declared.atlases.moves.Move.{Move}
 use Rattle.moves.specs.Caches.Private.Following.{Follows, IsMovedInto}
 use Rattle.moves.proofs.MovedCaches.Done.{done-each, done-left, done-moved}
 use Rattle.moves.proofs.caches.moving.rearranged_cache.Goals as goal

@@ -4,7 +4,7 @@ use Rattle.std.proofs.lemmas.Option.{slice_get-get_or}
 use Rattle.etagere_base.proofs.EachLemmas.{Each-get}
 use Rattle.atlas_pages.specs.declared.places.PagedAllocation.{PagedAllocation}
 use Rattle.moves.specs.Pages.Arranging.{Arranges, nothing}
-use Rattle.rearranging.specs.Private.Sides.{HasSides}
+use Rattle.moves.specs.Atlases.Private.Sides.{HasSides}
 use Rattle.moves.specs.declared.pages.moves.PageMove.{PageMove}
 use Rattle.moves.proofs.pages.moving.place_each.Goals as goal
 

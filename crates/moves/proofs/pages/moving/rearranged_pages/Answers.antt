@@ -5,7 +5,7 @@ use Rattle.atlas_pages.specs.declared.options.PageOptions.{PageOptions}
 use Rattle.atlas_pages.specs.declared.places.PagedAllocation.{PagedAllocation}
 use Rattle.atlas_pages.specs.Pages.{no_pages}
 use Rattle.atlas_pages.specs.Promises.{KeepsPagesPromises}
-use Rattle.rearranging.specs.Private.Sides.{HasSides}
+use Rattle.moves.specs.Atlases.Private.Sides.{HasSides}
 use Rattle.moves.proofs.MovedPages.Arranged.{tied-sides}
 use Rattle.moves.proofs.MovedPages.Done.{IsDone, arranged-done}
 use Rattle.moves.proofs.MovedPages.TiedLists.{tied-listed, tied-permuted}

@@ -1,0 +1,7 @@
+use Rattle.std.proofs.Common.{take}
+use Rattle.moves.specs.Atlases.Arranging.{Arranges}
+use Rattle.moves.proofs.atlases.moving.place_each.Given as goal
+
+abbrev pub invariant-loop-before : goal.invariant-loop-before
+invariant-loop-before l =
+    Arranges l.fn.atlas (take l.before-index l.asked) l.done.moves.items l.done.unplaced.items l.done.atlas
