@@ -4,7 +4,6 @@ pub mod Chosen
 pub mod Fullest
 pub mod Keeping
 pub mod KeptBefore
-pub mod PaddedLemmas
 pub mod PageLists
 pub mod PageRuns
 pub mod PageSpaces

@@ -1,3 +1,2 @@
-pub mod PaddedRunsOn
 pub mod RunsOn
 pub mod StepsTold

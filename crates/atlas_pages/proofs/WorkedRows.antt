@@ -8,25 +8,21 @@ use Rattle.atlas_pages.specs.declared.options.PageChoice.{PageChoice}
 use Rattle.atlas_pages.specs.declared.options.PageChoice.TheVariants.{FirstFit, FullestFirst}
 use Rattle.atlas_pages.specs.declared.options.PageOptions.{PageOptions}
 use Rattle.etagere_base.specs.declared.geometry.Rectangle.{Rectangle}
-use Rattle.padding.specs.declared.sides.Padding.{Padding}
-use Rattle.padding.specs.Padding.{padded, padding_refusal}
-use Rattle.shelf_model.specs.declared.faults.Refusal.TheVariants.{NotPositive, TooLong}
 use Rattle.atlas_pages.specs.declared.places.PagedAllocation.{PagedAllocation}
 use Rattle.atlas_pages.specs.Choosing.{page_for, ready_for}
 use Rattle.atlas_pages.specs.Listing.{listed_places}
-use Rattle.atlas_pages.specs.Padded.{trimmed_on}
 use Rattle.atlas_pages.specs.Pages.{PagesState, no_pages, page_frame, pages_fault}
 use Rattle.atlas_pages.specs.Picture.{page_area, pages_width}
 use Rattle.atlas_pages.specs.Places.{at_page, allocated_space_of, cleared, free_space_of, rectangle_on, returned_on, shrunk, with_most}
 use Rattle.shelf_model.specs.State.{AtlasState}
 
 -- pages of 64 by 64
-abbrev page_options : PageChoice → ℕ → PageOptions
+abbrev pub page_options : PageChoice → ℕ → PageOptions
 page_options choice most =
     record { size = size 64 64; atlas = options 1 1 false 1; most_pages = most; choice = choice }
 
 -- the pages after a size was asked for, under an id
-abbrev placed : PagesState → Size → ℕ → PagesState
+abbrev pub placed : PagesState → Size → ℕ → PagesState
 placed state asked id =
     option_map_or
     (λ page. record {
@@ -115,26 +111,6 @@ listed-both = refl
 
 listed-second : listed_places (returned_on two_listed 0 0) ≡ place_on 1 0 (rectangle 0 0 30 24) ∷ []
 listed-second = refl
-
--- padding is asked for, and not given back
-abbrev two_around : Padding
-two_around = record { left = 2; top = 2; right = 2; bottom = 2 }
-
-padded-asked : padded two_around (size 26 20) ≡ size 30 24
-padded-asked = refl
-
-padded-given : trimmed_on (record { padding = two_around; pages = placed (no_pages (page_options FirstFit 2)) (size 30 24) 0 }) 0 0
-    ≡ Some (rectangle 2 2 28 22)
-padded-given = refl
-
-padded-longest : padding_refusal two_around (size 65531 1) ≡ None
-padded-longest = refl
-
-padded-too_long : padding_refusal two_around (size 65532 1) ≡ Some TooLong
-padded-too_long = refl
-
-padded-empty : padding_refusal two_around (size 0 1) ≡ Some NotPositive
-padded-empty = refl
 
 -- in a picture 16 pixels stay free between two pages
 picture-width : pages_width 64 2 ≡ 144

@@ -2,7 +2,6 @@ pub mod Choosing
 pub mod Faults
 pub mod Laws
 pub mod Listing
-pub mod Padded
 pub mod Pages
 pub mod Picture
 pub mod Places

@@ -1,4 +1,3 @@
 pub mod Packing
-pub mod PaddedRuns
 pub mod Runs
 pub mod Told

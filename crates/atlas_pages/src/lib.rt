@@ -1,11 +1,10 @@
 //! Several atlases of one size and options: a size gets a place on a page that has one, and a page is opened where none
 //! has.
 //!
-//! `pages` has the public calls, `padded` those of pages with a padding, `open_pages` what calls do to the atlases of
-//! the open pages, `choosing` the search for the fullest page, `listing` and `padded_listing` the iterators, `picture`
-//! all pages side by side, `saving` what pages are saved as, `options` how pages are made and chosen, `places` what a
-//! size gets, `faults` why there are no such pages. `laws` states the rules of the choice and of snapshots, and `runs`
-//! answers commands on pages.
+//! `pages` has the public calls, `open_pages` what they do to the atlases of the open pages, `choosing` the search for
+//! the fullest page, `listing` the iterator, `picture` all pages side by side, `saving` what pages are saved as, `options`
+//! how pages are made and chosen, `places` what a size gets, `faults` why there are no such pages. `laws` states the rules
+//! of the choice and of snapshots, and `runs` answers commands on pages.
 #![tactic(auto)]
 
 mod choosing;
@@ -14,8 +13,6 @@ pub mod laws;
 mod listing;
 mod open_pages;
 mod options;
-mod padded;
-mod padded_listing;
 mod pages;
 mod picture;
 mod places;
@@ -25,8 +22,6 @@ mod saving;
 pub use faults::{FewerPages, PagesFault, PagesRestoreFault};
 pub use listing::Iter;
 pub use options::{PageChoice, PageOptions};
-pub use padded::PaddedPages;
-pub use padded_listing::PaddedIter;
 pub use pages::AtlasPages;
 pub use places::PagedAllocation;
 pub use saving::PagesSnapshot;

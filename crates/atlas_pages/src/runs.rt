@@ -1,12 +1,10 @@
 //! Runs of commands on pages: one command, one call, one reply. `running` has the public call, `commands` what is asked
-//! and answered, `answering` the answer to one command, `padded` the same with a padding, `packing` a list of sizes at
-//! once, `faults` why nothing was run.
+//! and answered, `answering` the answer to one command, `packing` a list of sizes at once, `faults` why nothing was run.
 
 mod answering;
 mod commands;
 mod faults;
 mod packing;
-pub mod padded;
 mod running;
 
 pub use answering::answer_on_pages;

@@ -12,7 +12,7 @@ use Rattle.glyph_shelf.specs.declared.cache.Placed.{Placed}
 use Rattle.glyph_shelf.specs.declared.faults.GlyphFault.{GlyphFault}
 use Rattle.glyph_shelf.specs.declared.faults.GlyphFault.TheVariants.{TooLarge, Memory, FrameFull}
 use Rattle.glyph_shelf.proofs.Callers.{looked-unknown, without_key-unknown}
-use Rattle.padded_cache.specs.Padded.{PaddedCacheState, PlacesPadded, trimmed_at}
+use Rattle.padding.specs.Caches.Padded.{PaddedCacheState, PlacesPadded, trimmed_at}
 use Rattle.cache_runs.specs.PaddedRuns.{IsReason, PlacesAgain, PlacesNew, round}
 
 -- nothing is found of a key that isn't there

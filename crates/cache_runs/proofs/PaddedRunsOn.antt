@@ -9,8 +9,8 @@ use Rattle.glyph_shelf.specs.Cache.{CacheState}
 use Rattle.glyph_shelf.specs.Promises.{KeepsCachePromises}
 use Rattle.glyph_shelf.proofs.Callers.{keeps-used}
 use Rattle.padding.specs.Padding.{padded, with_padding}
-use Rattle.padded_cache.specs.Padded.{KeepsCachePadding, PaddedCacheState, trimmed_list}
-use Rattle.padded_cache.proofs.PaddedLemmas.{keeps-padding}
+use Rattle.padding.specs.Caches.Padded.{KeepsCachePadding, PaddedCacheState, trimmed_list}
+use Rattle.padding.proofs.PaddedCaches.PaddedLemmas.{keeps-padding}
 use Rattle.cache_runs.specs.Dropping.{is_one_of}
 use Rattle.cache_runs.specs.declared.padded_calls.PaddedCall.{PaddedCall}
 use Rattle.cache_runs.specs.declared.padded_calls.PaddedCall.TheVariants.{Place, Get, Remove, Retain, BeginFrame, Grow, SetCapacity, Clear}

@@ -19,7 +19,7 @@ use Rattle.glyph_shelf.specs.declared.faults.GlyphFault.TheVariants.{TooLarge, M
 use Rattle.glyph_shelf.specs.declared.cache.Placed.{Placed}
 use Rattle.glyph_shelf.proofs.Callers.{entries-after_dropping}
 use Rattle.glyph_shelf.proofs.UsedKeys.Entries.{removed-unknown}
-use Rattle.padded_cache.specs.Padded.{PaddedCacheState, trimmed_entry, trimmed_list}
+use Rattle.padding.specs.Caches.Padded.{PaddedCacheState, trimmed_entry, trimmed_list}
 use Rattle.cache_runs.specs.Dropping.{is_one_of}
 use Rattle.cache_runs.specs.declared.padded_calls.PaddedCall.{PaddedCall}
 use Rattle.cache_runs.specs.declared.padded_calls.PaddedCall.TheVariants.{Place, Get, Remove, Retain, BeginFrame, Grow, SetCapacity, Clear}

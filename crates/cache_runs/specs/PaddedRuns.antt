@@ -17,7 +17,7 @@ use Rattle.glyph_shelf.specs.declared.faults.GlyphFault.{GlyphFault}
 use Rattle.glyph_shelf.specs.declared.faults.GlyphFault.TheVariants.{TooLarge, Memory, FrameFull}
 use Rattle.glyph_shelf.specs.declared.cache.Placed.{Placed}
 use Rattle.padding.specs.Padding.{HasSize, padded}
-use Rattle.padded_cache.specs.Padded.{KeepsCachePadding, PaddedCacheState, PlacesPadded, trimmed_at, trimmed_list}
+use Rattle.padding.specs.Caches.Padded.{KeepsCachePadding, PaddedCacheState, PlacesPadded, trimmed_at, trimmed_list}
 use Rattle.cache_runs.specs.Dropping.{is_one_of}
 use Rattle.cache_runs.specs.Grows.{IsNotGrown}
 use Rattle.cache_runs.specs.declared.padded_calls.PaddedCall.{PaddedCall}

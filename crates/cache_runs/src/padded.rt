@@ -8,7 +8,7 @@ ghost use Rattle.cache_runs.specs.PaddedRuns.{EveryRunKeepsPromises, Step};
 
 use crate::padded_calls::{PaddedCall, PaddedReply};
 use etagere::{Rectangle, Size};
-use padded_cache::PaddedCache;
+use padding::caches::PaddedCache;
 use std::num::NonZeroUsize;
 
 /// A cache with a padding, new or not, keeps its promises after each of its calls, whatever these are and whichever of

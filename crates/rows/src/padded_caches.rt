@@ -7,8 +7,8 @@ use etagere::{
     AllocatorOptions, AtlasGrowFault, DEFAULT_OPTIONS, OptionsFault, Rectangle, Size, size2,
 };
 use glyph_shelf::GlyphFault;
-use padded_cache::PaddedCache;
 use padding::Padding;
+use padding::caches::PaddedCache;
 use row_calls::atlases::of_options;
 use row_calls::lines::{
     capacity_of, key_and_size_of, key_of, numbers, say, say_evicted, say_fault, say_number,

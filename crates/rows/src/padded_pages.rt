@@ -3,11 +3,12 @@
 use crate::pages::{
     command_of, copy_of, options_of, page_and_id_of, say_place, say_reply, say_spaces, spaces,
 };
-use atlas_pages::runs::padded::answer_on_padded_pages;
 use atlas_pages::runs::{PageCommand, PageReply};
-use atlas_pages::{AtlasPages, PaddedPages, PageOptions, PagesFault};
+use atlas_pages::{AtlasPages, PageOptions, PagesFault};
 use etagere::{AllocId, Rectangle};
 use padding::Padding;
+use padding::pages::PaddedPages;
+use padding::pages::runs::answer_on_padded_pages;
 use row_calls::lines::{numbers, say, say_rectangle};
 use row_calls::places::{Called, NotMade};
 use std::alloc::Global;

@@ -1,8 +1,0 @@
-use Rattle.atlas_pages.proofs.PaddedLemmas.{keeps-padding}
-use Rattle.atlas_pages.proofs.padded.PaddedPages.clear.Goals as goal
-
-pub invariant_of-self : goal.invariant_of-self
-invariant_of-self c = keeps-padding c.self.inside.padding c.clear.new.self c.clear.ensures.promises
-
-pub returns-clause-promises : goal.returns-clause-promises
-returns-clause-promises c = invariant_of-self c

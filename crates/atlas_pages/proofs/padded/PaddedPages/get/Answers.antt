@@ -1,6 +1,0 @@
-use Rattle.atlas_pages.proofs.PaddedLemmas.{found-near}
-use Rattle.atlas_pages.proofs.padded.PaddedPages.get.Goals as goal
-
-pub trimmed-requires : goal.trimmed-requires
-trimmed-requires c =
-    found-near c.self.inside.pages c.args.page c.args.id c.in_ok-rectangle.rectangle c.self.invariant.pages c.in_ok-rectangle.ensures

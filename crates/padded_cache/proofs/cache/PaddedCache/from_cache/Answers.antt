@@ -1,8 +1,0 @@
-use Rattle.padded_cache.proofs.PaddedLemmas.{keeps-padding}
-use Rattle.padded_cache.proofs.cache.PaddedCache.from_cache.Goals as goal
-
-pub invariant_of-result : goal.invariant_of-result
-invariant_of-result c = keeps-padding c.args.padding c.args.cache c.len.ensures.promises
-
-pub returns-clause-promises : goal.returns-clause-promises
-returns-clause-promises c = invariant_of-result c

@@ -1,8 +1,0 @@
-use Rattle.padded_cache.proofs.PaddedLemmas.{keeps-padding}
-use Rattle.padded_cache.proofs.cache.PaddedCache.get.Goals as goal
-
-pub invariant_of-self : goal.invariant_of-self
-invariant_of-self c = keeps-padding c.self.inside.padding c.get.new.self c.get.ensures.promises
-
-pub returns-clause-promises : goal.returns-clause-promises
-returns-clause-promises c = invariant_of-self c

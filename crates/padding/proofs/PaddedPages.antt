@@ -1,0 +1,3 @@
+pub mod PaddedLemmas
+pub mod PaddedRunsOn
+pub mod WorkedRows

@@ -1,0 +1,8 @@
+use Rattle.padding.proofs.PaddedCaches.PaddedLemmas.{keeps-padding}
+use Rattle.padding.proofs.caches.padded_cache.PaddedCache.begin_frame.Goals as goal
+
+pub invariant_of-self : goal.invariant_of-self
+invariant_of-self c = keeps-padding c.self.inside.padding c.begin_frame.new.self c.begin_frame.ensures.promises
+
+pub returns-clause-promises : goal.returns-clause-promises
+returns-clause-promises c = invariant_of-self c

@@ -1,0 +1,11 @@
+//! A cache in which so many pixels stay free around each rectangle: a size is asked for with them, and a rectangle is
+//! given back without them.
+//!
+//! `padded_cache` has the calls, `listing` the iterator, `trimming` what a test is told of.
+
+mod listing;
+mod padded_cache;
+mod trimming;
+
+pub use listing::Iter;
+pub use padded_cache::PaddedCache;

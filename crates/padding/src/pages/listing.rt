@@ -1,0 +1,79 @@
+//! Everything that is allocated on pages with a padding, without it.
+//!
+//! Definition: `Padded`. Contracts see a `PaddedIter` as the list of what is still to come.
+
+ghost use Rattle.std.specs.Prelude.{◌≡◌, map};
+ghost use Rattle.std.specs.Iterator.{YieldsFirst, item_count};
+ghost use Rattle.std.specs.List.{AllByRecursion};
+ghost use Rattle.padding.specs.Padding.{IsNear};
+ghost use Rattle.atlas_pages.specs.declared.places.PagedAllocation as model;
+ghost use Rattle.padding.specs.Pages.Padded as spec;
+
+use crate::Padding;
+use atlas_pages::{Iter, PagedAllocation};
+use etagere::Allocation;
+use std::iter::FusedIterator;
+use std::marker::Model;
+
+/// What is allocated on pages, each once and without its padding, by rising page and on each page by rising index. After
+/// the last comes none, for ever.
+///
+/// All steps together take time linear in the numbers of pages and of their records.
+#[derive(Drop)]
+pub struct PaddedIter<'a> {
+    places: Iter<'a>,
+    padding: Padding,
+}
+
+impl<'a> Model for PaddedIter<'a> {
+    ghost use Rattle.std.specs.Prelude.{List};
+    ghost use Rattle.atlas_pages.specs.declared.places.PagedAllocation.{PagedAllocation};
+
+    ghost Value = { List PagedAllocation };
+
+    ghost use Rattle.padding.specs.Pages.Private.Listed.{AreNear, trimmed_in};
+
+    ghost view = { trimmed_in };
+
+    ghost invariant = { AreNear };
+}
+
+impl<'a> PaddedIter<'a> {
+    /// These places, of which each rectangle has the padding.
+    pub(crate) fn new(places: Iter<'a>, padding: Padding) -> PaddedIter<'a>
+        requires { AllByRecursion (λ (place : model.PagedAllocation). IsNear place.allocation.rectangle) places }
+        ensures { result ≡ map (spec.trimmed_place padding) places.entry }
+    {
+        PaddedIter { places, padding }
+    }
+}
+
+impl<'a> Iterator for PaddedIter<'a> {
+    type Item = PagedAllocation;
+
+    ghost next_gives = { YieldsFirst (λ rest. rest) };
+
+    ghost remaining = { item_count (λ rest. rest) };
+
+    fn next(&mut self) -> Option<PagedAllocation> {
+        let place = self.places.next()?;
+        Some(trimmed_place(self.padding, &place))
+    }
+}
+
+impl<'a> FusedIterator for PaddedIter<'a> {}
+
+/// A place without the padding of its rectangle, which is near the origin.
+pub(crate) fn trimmed_place(padding: Padding, place: &PagedAllocation) -> PagedAllocation
+    requires { IsNear place.now.allocation.rectangle }
+    ensures { result ≡ spec.trimmed_place padding place.now }
+{
+    let Allocation { id, rectangle } = place.allocation;
+    PagedAllocation {
+        page: place.page,
+        allocation: Allocation {
+            id,
+            rectangle: padding.trimmed(rectangle),
+        },
+    }
+}
