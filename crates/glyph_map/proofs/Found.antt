@@ -16,7 +16,7 @@ use Rattle.glyph_map.specs.Calls.{asked, revalued, seen, seen_at, used, with_val
 use Rattle.glyph_map.specs.State.{Held, MapState, cache_by, of_cache}
 use Rattle.glyph_map.specs.Private.Lockstep.{joined, tickets_of}
 use Rattle.glyph_map.specs.declared.ticketed.Ticketed.{Ticketed}
-use Rattle.glyph_shelf.proofs.UsedKeys.Entries.{entry-none, lookup-entry}
+use Rattle.glyph_shelf.proofs.UsedKeys.Entries.{entry-none, lookup-entry, removed-unknown}
 use Rattle.glyph_map.proofs.Entries.{entry-passes}
 use Rattle.glyph_map.proofs.Joined.{AreInStep, map_of, rest-in_step}
 use Rattle.glyph_map.proofs.Unused.{known-stands}
@@ -50,15 +50,6 @@ none-take test (suc n) (e ∷ es) none = here (test e.0) none (none-take test n 
         → cond b (Some e.1) (lookup test (take n es)) ≡ None
     here true h later = absurd (cc)
     here false h later = later h
-
-pub none-removed : {K X : Type 0} (test : K → Bool) (es : List (K × X)) → lookup test es ≡ None → remove_entry test es ≡ es
-none-removed test [] none = refl
-none-removed test (e ∷ es) none = here (test e.0) none (none-removed test es)
-  where
-    here : (b : Bool) → cond b (Some e.1) (lookup test es) ≡ None → (lookup test es ≡ None → remove_entry test es ≡ es)
-        → cond b es (e ∷ remove_entry test es) ≡ e ∷ es
-    here true h later = absurd (cc)
-    here false h later = ap (λ l. e ∷ l) (later h)
 
 module _ {K V : Type 0} (test : K → Bool) where
   -- entries under the numbers by which a cache goes over them
@@ -281,7 +272,7 @@ module _ {K V : Type 0} (test : K → Bool) (state : MapState K V) (none : looku
   without-none =
       ap (λ (x : Option Allocation). of_cache (remove_entry test state.entries)
       (option_map_or (λ (a : Allocation). let s : CacheState = record { entries = remove_entry (nat_eq 0) (marked test state.entries); capacity = state.capacity; atlas = returned state.atlas a.id; used_in_frame = option_map (uses_without 0 (marked test state.entries)) state.used_in_frame } in s) x (cache_by (asked test) state))) unmarked
-      ∙ ap (λ (l : List (K × Held V)). of_cache l (cache_by (asked test) state)) (none-removed test state.entries none)
+      ∙ ap (λ (l : List (K × Held V)). of_cache l (cache_by (asked test) state)) (removed-unknown test state.entries none)
 
 -- a key that was used has the same rectangle and value
 pub seen-used : {K V : Type 0} (test : K → Bool) (state : MapState K V) → seen_at test (used test state) ≡ seen_at test state

@@ -4,6 +4,11 @@ pub mod Entries
 pub mod Faulted
 pub mod Found
 pub mod Joined
+pub mod MapAnswers
+pub mod MapLeft
+pub mod MapRefused
+pub mod MapRunsOn
+pub mod MapStepsTold
 pub mod Numbered
 pub mod Retained
 pub mod Saved

@@ -5,5 +5,7 @@ pub mod Placing
 pub mod Private
 pub mod Promises
 pub mod Retaining
+pub mod Runs
 pub mod Saved
 pub mod State
+pub mod Told

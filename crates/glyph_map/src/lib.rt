@@ -4,7 +4,7 @@
 //! `map` has the public calls, over a `GlyphCache` that knows each key by a ticket: a number that no other key has.
 //! `tickets` gives these out, `ticketed` has what is kept under a key and how it comes out, `saving` how keys and values
 //! come under numbers again, `refusing` which keys a test refuses, and `listing` the iterator. `laws` states what
-//! snapshots stand for.
+//! snapshots stand for, and `runs` what holds of one call after another.
 #![tactic(auto)]
 
 mod faults;
@@ -12,6 +12,7 @@ pub mod laws;
 mod listing;
 mod map;
 mod refusing;
+pub mod runs;
 mod saving;
 mod ticketed;
 mod tickets;

@@ -10,4 +10,6 @@ mod Shrinking
 mod Tying
 mod WorkedRows
 pub mod Callers
+pub mod Refused
+pub mod Shown
 pub mod UsedKeys

@@ -1,5 +1,7 @@
 pub mod Cache
+pub mod Dropping
 pub mod Faults
+pub mod Grows
 pub mod Laws
 pub mod Placing
 pub mod Private

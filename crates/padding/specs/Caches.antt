@@ -1,2 +1,3 @@
 pub mod Padded
 pub mod Private
+pub mod Runs

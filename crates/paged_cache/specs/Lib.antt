@@ -3,3 +3,4 @@ pub mod Held
 pub mod Keyed
 pub mod Paged
 pub mod Private
+pub mod Runs

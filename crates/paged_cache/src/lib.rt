@@ -2,7 +2,8 @@
 //! recently used keys are evicted, no more than needed.
 //!
 //! `cache` has the public calls, `faults` why there is no room, `listing` the iterator. `keyed` has the keys of anything
-//! that gives places to sizes, `allocating` says what does, and `on_atlas` and `on_pages` that an atlas and pages do.
+//! that gives places to sizes, `allocating` says what does, and `on_atlas` and `on_pages` that an atlas and pages do. `runs`
+//! has what holds of one call after another.
 #![tactic(auto)]
 
 mod allocating;
@@ -12,6 +13,7 @@ mod keyed;
 mod listing;
 mod on_atlas;
 mod on_pages;
+pub mod runs;
 
 pub use allocating::Allocates;
 pub use cache::PagedCache;

@@ -1,14 +1,13 @@
 //! Calls of a cache of glyphs with a padding.
 
 use crate::caches::{say_entered, say_unentered};
-use cache_runs::padded::answer_on_padded_cache;
-use cache_runs::{PaddedCall, PaddedReply};
 use etagere::{
     AllocatorOptions, AtlasGrowFault, DEFAULT_OPTIONS, OptionsFault, Rectangle, Size, size2,
 };
 use glyph_shelf::GlyphFault;
 use padding::Padding;
 use padding::caches::PaddedCache;
+use padding::caches::runs::{PaddedCall, PaddedReply, answer_on_padded_cache};
 use row_calls::atlases::of_options;
 use row_calls::lines::{
     capacity_of, key_and_size_of, key_of, numbers, say, say_evicted, say_fault, say_number,

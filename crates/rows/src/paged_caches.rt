@@ -3,8 +3,7 @@
 use crate::caches::say_unentered;
 use crate::pages::options_of;
 use atlas_pages::{PageOptions, PagedAllocation};
-use cache_runs::paged::answer_on_cache;
-use cache_runs::{PagedCall, PagedReply};
+use paged_cache::runs::{PagedCall, PagedReply, answer_on_cache};
 use paged_cache::{NewCacheFault, PagedCache, PlacedKey, PlacingFault};
 use row_calls::lines::{
     capacity_of, key_and_size_of, key_of, numbers, say, say_bracketed, say_evicted, say_fault,

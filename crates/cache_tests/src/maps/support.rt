@@ -1,11 +1,10 @@
 //! A map of pictures under names, by calls that promise nothing, so that a test is proved safe in little time.
 
-ghost use Rattle.cache_runs.specs.MapRuns.{NeedsNoClone};
+ghost use Rattle.glyph_map.specs.Runs.{NeedsNoClone};
 
 use crate::assertions::{equal, equal_at};
-use cache_runs::maps::{answer_on_map, retain_on_map};
-use cache_runs::{MapCall, MapReply};
 use etagere::{DEFAULT_OPTIONS, OptionsFault, size2};
+use glyph_map::runs::{MapCall, MapReply, answer_on_map, retain_on_map};
 use glyph_map::{GlyphMap, MapFault, NotRestored};
 use glyph_shelf::CacheSnapshot;
 use std::alloc::{AllocError, Global};

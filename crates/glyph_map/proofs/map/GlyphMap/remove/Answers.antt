@@ -8,7 +8,8 @@ use Rattle.glyph_map.specs.Private.Lockstep.{tickets_of}
 use Rattle.glyph_map.specs.State.{Held, MapState}
 use Rattle.glyph_map.specs.declared.ticketed.Ticketed.{Ticketed}
 use Rattle.glyph_map.proofs.Entries.{entry-some}
-use Rattle.glyph_map.proofs.Found.{IsFound, found-both, none-removed, rectangle-is, removed-map, removed-step, seen-is, without-none}
+use Rattle.glyph_shelf.proofs.UsedKeys.Entries.{removed-unknown}
+use Rattle.glyph_map.proofs.Found.{IsFound, found-both, rectangle-is, removed-map, removed-step, seen-is, without-none}
 use Rattle.glyph_map.proofs.Joined.{AreInStep, keeps, map_of, none-joined}
 use Rattle.glyph_map.proofs.map.GlyphMap.remove.Given.{Over}
 use Rattle.glyph_map.proofs.map.GlyphMap.remove.Goals as goal
@@ -19,7 +20,7 @@ none-is g c =
     (none-joined (g.K.PartialEq.eq c.args.key.now) c.self.inside.entries.entries c.self.inside.cache.entries c.self.invariant.tickets (sym c.in_err-ticket.ensures.value))
 
 same-is : (g : Over) (c : goal.After-from_residual g) → c.take.new.entries.entries ≡ c.self.inside.entries.entries
-same-is g c = ap (λ (l : LruCache g.row.K.Denot (Ticketed g.row.V.Denot)). l.entries) c.take.ensures.entries ∙ none-removed (g.K.PartialEq.eq c.args.key.now) c.self.inside.entries.entries (sym c.in_err-ticket.ensures.value)
+same-is g c = ap (λ (l : LruCache g.row.K.Denot (Ticketed g.row.V.Denot)). l.entries) c.take.ensures.entries ∙ removed-unknown (g.K.PartialEq.eq c.args.key.now) c.self.inside.entries.entries (sym c.in_err-ticket.ensures.value)
 
 still : (g : Over) (c : goal.After-from_residual g) → AreInStep c.take.new.entries.entries c.self.inside.cache.entries
 still g c = c.self.invariant.tickets ∙ ap (λ (l : List (g.row.K.Denot × Ticketed g.row.V.Denot)). tickets_of l) (sym (same-is g c))
