@@ -162,13 +162,38 @@ pub fn settle_unless_few(
     ensures capacity { by_height.old.capacity ≤ by_height.new.capacity }
     ensures room { pending.new.room ≡ pending.old.room }
 {
+    if pending.len() == 0 {
+        return true;
+    }
+    settle_noted_unless_few(frame, records, by_height, pending, items_in_use)
+}
+
+/// The same where something was noted. Never inlined, so that a search after which nothing changed costs no call.
+#[inline(never)]
+fn settle_noted_unless_few(
+    frame: &Frame,
+    records: &Records,
+    by_height: &mut ShelvesByHeight,
+    pending: &mut PendingShelves,
+    items_in_use: u32,
+) -> bool
+    requires kept { AreKept frame.now records.now }
+    requires by_height { AreByHeightButNoted frame.now records.now pending.old.notes by_height.old.items }
+    requires room { length records.now.shelves ≤ by_height.old.capacity }
+    requires room_to_note { length records.now.shelves ≤ pending.old.room }
+    ensures by_height { AreByHeightButNoted frame.now records.now pending.new.notes by_height.new.items }
+    ensures follows { result ≡ true → AreByHeight frame.now records.now by_height.new.items }
+    ensures settled { result ≡ true → AreSettled records.now pending.new.notes }
+    ensures same { result ≡ false → by_height.new.items ≡ by_height.old.items }
+    ensures capacity { by_height.old.capacity ≤ by_height.new.capacity }
+    ensures room { pending.new.room ≡ pending.old.room }
+{
     let most = if pending.take_changed() {
         WALKED_ONCE
     } else {
         WALKED
     };
-    let changed = pending.len();
-    if 0 < changed && changed <= most && by_height.len() <= most && items_in_use <= WALKED_ITEMS {
+    if pending.len() <= most && by_height.len() <= most && items_in_use <= WALKED_ITEMS {
         return false;
     }
     settle_shelves(frame, records, by_height, pending);
