@@ -163,12 +163,11 @@ pub fn can_add(frame: &Frame, left: &Remaining, height: u32) -> bool
     requires { left.now.column < 2 ^ 31 }
     ensures { result ≡ spec.can_add frame.now left.now height }
 {
-    let needed = if needs_filler(frame, left, height) {
-        2
-    } else {
-        1
-    };
-    (height <= left.height || has_later_column(frame, left)) && needed <= left.buckets
+    if height <= left.height {
+        return 1 <= left.buckets;
+    }
+    let needed = if left.height == 0 { 1 } else { 2 };
+    has_later_column(frame, left) && needed <= left.buckets
 }
 
 fn asked_shelf(frame: &Frame, left: &Remaining, sides: &Sides) -> NewShelf
