@@ -1,6 +1,6 @@
 -- What is known of blocks of shelves: after a shelf was added or changed, and of shelves that are passed over.
 use Rattle.std.proofs.Common.{◌≡◌, ℕ, zero, suc, ◌+◌, ◌-◌, ◌*◌, ◌<◌, ◌≤◌, Bool, true, false, Option, None, Some, List, [], ◌∷◌, ◌++◌, length, length-append, map, take, cond, refl, ap, sym, subst, ◌∙◌, arith, ◌==◌}
-use Rattle.std.proofs.lemmas.Bool.{and_parts, eqb-true, leb-false}
+use Rattle.std.proofs.lemmas.Bool.{and_parts, eqb-true, leb-false, leb-true}
 use Rattle.std.proofs.lemmas.Option.{slice_get_within}
 use Rattle.std.specs.Option.{option_map_or}
 use Rattle.std.specs.Prelude.{option_map, nat_le, slice_get, ◌%◌, ◌||◌}
@@ -11,7 +11,7 @@ use Rattle.bucketed_records.specs.Private.Store.{is_kept_idle}
 use Rattle.bucket_index.specs.declared.blocks.Block.{Block}
 use Rattle.bucket_index.specs.declared.blocks.Blocks.{Blocks}
 use Rattle.bucket_index.specs.declared.blocks.Others.{Others}
-use Rattle.bucket_index.specs.Private.Blocks.{AreBeside, AreFirstKnown, AreInSteps, AreKnown, AreKnownOf, AreKnownWhere, AreOthersKnown, AreOthersOf, IsKnown, IsKnownAt, IsKnownOf, IsPart, block_of, expecting, joined, may_be_idle, may_give, raised, with_shelf}
+use Rattle.bucket_index.specs.Private.Blocks.{AreBeside, AreCounted, AreFirstKnown, AreInSteps, AreKnown, AreKnownOf, AreKnownWhere, AreOthersCounted, AreOthersKnown, AreOthersOf, IsKnown, IsKnownAt, IsKnownOf, IsPart, block_of, expecting, joined, may_be_idle, may_give, raised, with_shelf}
 
 -- a shelf is known to a block that was counted with it
 pub known-own : (kept : KeptShelf) (block : Block) → IsKnown kept (with_shelf kept block)
@@ -96,7 +96,7 @@ set-of size k fresh blocks shelves all others number kept block any at in_block 
     (λ apart stood. others number kept block (λ same. apart (ap (block_of size) same)) at stood)
 
 -- what is known of a shelf by its block is known by a larger one
-known-part : (kept : KeptShelf) (block whole : Block) → IsKnown kept block → IsPart block whole → IsKnown kept whole
+pub known-part : (kept : KeptShelf) (block whole : Block) → IsKnown kept block → IsPart block whole → IsKnown kept whole
 known-part kept block whole known part = record { room = omega (arith, known.room, part.room); idle = λ idle. part.idle (known.idle idle) }
 
 -- an element of a list below its length
@@ -198,16 +198,27 @@ carry-others others xs ys carried before = record {
 carry-all : (blocks : Blocks) (xs ys : List KeptShelf) → ((IsSuch : ℕ → Type 0) (number : ℕ) (kept : KeptShelf) → IsSuch number → slice_get ys number ≡ Some kept → IsCarried IsSuch xs number kept)
     → (AreInSteps xs → AreInSteps ys) → AreKnown blocks xs → AreKnown blocks ys
 carry-all blocks xs ys carried stepped known = record {
-  each = carry-known (λ n. Unit {0}) (λ n. Unit {0}) blocks xs ys (carried (λ n. Unit {0})) known.each;
-  others = λ some. carry-others blocks.others xs ys (carried (λ n. n ≡ blocks.others.number → ⊥)) (known.others some);
+  counted = λ counts. all (known.counted counts);
   steps = λ in_steps. stepped (known.steps in_steps);
 }
+  where
+    all : AreCounted blocks xs → AreCounted blocks ys
+    all counted = record {
+      each = carry-known (λ n. Unit {0}) (λ n. Unit {0}) blocks xs ys (carried (λ n. Unit {0})) counted.each;
+      others = λ some. carry-others blocks.others xs ys (carried (λ n. n ≡ blocks.others.number → ⊥)) (counted.others some);
+    }
 
 -- each shelf is known where all are of the first so many, of which there are no more
 pub all-known : (count : ℕ) (blocks : Blocks) (shelves : List KeptShelf) → length shelves ≤ count → AreFirstKnown count blocks shelves → AreKnownWhere (λ n. Unit {0}) blocks shelves
 all-known count blocks shelves all known =
     carry-known (λ n. n < count) (λ n. Unit {0}) blocks shelves shelves
     (λ number kept any at. record { was = kept; such = omega (arith, all, slice_get_within shelves number kept at); there = at; known = λ block is. is }) known
+
+-- all are known where the others than one that isn't there are
+pub known-past : (k : ℕ) (blocks : Blocks) (shelves : List KeptShelf) → length shelves ≤ k → AreKnownWhere (λ n. n ≡ k → ⊥) blocks shelves → AreKnownWhere (λ n. Unit {0}) blocks shelves
+known-past k blocks shelves past known =
+    carry-known (λ n. n ≡ k → ⊥) (λ n. Unit {0}) blocks shelves shelves
+    (λ number kept any at. record { was = kept; such = λ same. omega (arith, same, past, slice_get_within shelves number kept at); there = at; known = λ block is. is }) known
 
 -- where one shelf changed, and its height stays a multiple of eight, heights stay in steps
 pub steps-changed : (k : ℕ) (change : KeptShelf → KeptShelf) (shelves : List KeptShelf) → ((x : KeptShelf) → x.shelf.height % 8 ≡ 0 → (change x).shelf.height % 8 ≡ 0)
@@ -219,9 +230,7 @@ steps-changed k change shelves keeps steps number kept at =
 pub known-others : (k : ℕ) (change : KeptShelf → KeptShelf) (blocks : Blocks) (shelves : List KeptShelf) → ((x : KeptShelf) → (change x).shelf.height ≡ x.shelf.height)
     → AreKnown blocks shelves → AreOthersKnown k blocks (changed_by (Some k) change shelves)
 known-others k change blocks shelves height known = record {
-  each = carry-known (λ number. Unit {0}) (λ number. number ≡ k → ⊥) blocks shelves (changed_by (Some k) change shelves) (λ number kept other at. unchanged (λ n. Unit {0}) number kept tt other at) known.each;
-  others = λ same some. carry-others blocks.others shelves (changed_by (Some k) change shelves)
-      (λ number kept other at. unchanged (λ n. n ≡ blocks.others.number → ⊥) number kept other (λ is. other (is ∙ sym same)) at) (known.others some);
+  counted = λ counts. rest (known.counted counts);
   steps = λ in_steps. steps-changed k change shelves (λ x h. ap (λ (n : ℕ). n % 8) (height x) ∙ h) (known.steps in_steps);
 }
   where
@@ -234,6 +243,14 @@ known-others k change blocks shelves height known = record {
       such = such;
       there = sym (get-changed_by-other change shelves (Some k) number (λ (h : Some k ≡ Some number). other (inner number h))) ∙ at;
       known = λ block is. is;
+    }
+
+    rest : AreCounted blocks shelves → AreOthersCounted k blocks (changed_by (Some k) change shelves)
+    rest counted = record {
+      each = carry-known (λ number. Unit {0}) (λ number. number ≡ k → ⊥) blocks shelves (changed_by (Some k) change shelves) (λ number kept other at. unchanged (λ n. Unit {0}) number kept tt other at)
+          counted.each;
+      others = λ same some. carry-others blocks.others shelves (changed_by (Some k) change shelves)
+          (λ number kept other at. unchanged (λ n. n ≡ blocks.others.number → ⊥) number kept other (λ is. other (is ∙ sym same)) at) (counted.others some);
     }
 
 -- an element before the last one
@@ -258,10 +275,7 @@ of-added (z ∷ xs) x y (suc n) at last before = of-added xs x y n at last befor
 known-added : (one : KeptShelf) (blocks : Blocks) (shelves : List KeptShelf) → AreKnown blocks shelves
     → AreOthersKnown (length shelves) (expecting one.shelf.height blocks) (shelves ++ one ∷ [])
 known-added one blocks shelves known = record {
-  each = known-expecting one.shelf.height blocks (shelves ++ one ∷ [])
-      (carry-known (λ number. Unit {0}) (λ number. number ≡ length shelves → ⊥) blocks shelves (shelves ++ one ∷ []) (λ number kept other at. stood (λ n. Unit {0}) number kept tt other at) known.each);
-  others = λ same some. carry-others blocks.others shelves (shelves ++ one ∷ [])
-      (λ number kept other at. stood (λ n. n ≡ blocks.others.number → ⊥) number kept other (λ is. other (is ∙ sym same)) at) (known.others some);
+  counted = λ counts. rest (known.counted counts);
   steps = λ both number kept at.
       let tests = and_parts blocks.in_steps (one.shelf.height % 8 == 0) both in
       of-added shelves one kept number at (λ is. ap (λ (s : KeptShelf). s.shelf.height % 8) is ∙ eqb-true (one.shelf.height % 8) 0 tests.1) (known.steps tests.0 number kept);
@@ -269,6 +283,14 @@ known-added one blocks shelves known = record {
   where
     stood : (IsSuch : ℕ → Type 0) (number : ℕ) (kept : KeptShelf) → IsSuch number → (number ≡ length shelves → ⊥) → slice_get (shelves ++ one ∷ []) number ≡ Some kept → IsCarried IsSuch shelves number kept
     stood IsSuch number kept such other at = record { was = kept; such = such; there = before-last shelves one kept number other at; known = λ block is. is }
+
+    rest : AreCounted blocks shelves → AreOthersCounted (length shelves) (expecting one.shelf.height blocks) (shelves ++ one ∷ [])
+    rest counted = record {
+      each = known-expecting one.shelf.height blocks (shelves ++ one ∷ [])
+          (carry-known (λ number. Unit {0}) (λ number. number ≡ length shelves → ⊥) blocks shelves (shelves ++ one ∷ []) (λ number kept other at. stood (λ n. Unit {0}) number kept tt other at) counted.each);
+      others = λ same some. carry-others blocks.others shelves (shelves ++ one ∷ [])
+          (λ number kept other at. stood (λ n. n ≡ blocks.others.number → ⊥) number kept other (λ is. other (is ∙ sym same)) at) (counted.others some);
+    }
 
 -- the same by the shelves after a push that went well
 pub known-last : (one : KeptShelf) (blocks : Blocks) (shelves all : List KeptShelf) (pushes : Bool) → pushes ≡ true → all ≡ cond pushes (shelves ++ one ∷ []) shelves
@@ -288,12 +310,6 @@ some-taken zero shelves number kept at = absurd (cc)
 some-taken (suc count) [] number kept at = at
 some-taken (suc count) (x ∷ shelves) zero kept at = at
 some-taken (suc count) (x ∷ shelves) (suc number) kept at = some-taken count shelves number kept at
-
--- some of known shelves are known
-pub known-some : (blocks : Blocks) (all shelves : List KeptShelf) → AreSome all shelves → AreKnown blocks all → AreKnown blocks shelves
-known-some blocks all shelves some known =
-    carry-all blocks all shelves (λ IsSuch number kept such at. record { was = kept; such = such; there = some number kept at; known = λ block is. is })
-    (λ steps number kept at. steps number kept (some number kept at)) known
 
 -- what a block knows of a shelf
 abbrev pub known_of : KeptShelf → List ℕ
@@ -330,13 +346,54 @@ known-same blocks xs ys same stepped known =
       known = λ block is. record { room = omega (arith, is.room, room); idle = λ idle. is.idle (ap (λ (n : ℕ). n == 0) (sym live) ∙ idle) };
     })) stepped known
 
--- a shelf is known to its blocks where all are known
-pub known-at : (k : ℕ) (before : KeptShelf) (blocks : Blocks) (shelves : List KeptShelf) → slice_get shelves k ≡ Some before → AreKnown blocks shelves → IsKnownAt k before blocks
-known-at k before blocks shelves at known = record {
-  small = λ block stood. known.each.small k before block tt at stood;
-  middle = λ block stood. known.each.middle k before block tt at stood;
-  large = λ block stood. known.each.large k before block tt at stood;
-}
+-- a shelf is known to its blocks where all are known and counted
+pub known-at : (k : ℕ) (before : KeptShelf) (blocks : Blocks) (shelves : List KeptShelf) → slice_get shelves k ≡ Some before → AreKnown blocks shelves → blocks.are_counted ≡ true → IsKnownAt k before blocks
+known-at k before blocks shelves at known counts = own (known.counted counts)
+  where
+    own : AreCounted blocks shelves → IsKnownAt k before blocks
+    own counted = record {
+      small = λ block stood. counted.each.small k before block tt at stood;
+      middle = λ block stood. counted.each.middle k before block tt at stood;
+      large = λ block stood. counted.each.large k before block tt at stood;
+    }
+
+-- shelves that aren't counted are known where their heights are in steps
+pub known-uncounted : (blocks : Blocks) (shelves : List KeptShelf) → blocks.are_counted ≡ false → (blocks.in_steps ≡ true → AreInSteps shelves) → AreKnown blocks shelves
+known-uncounted blocks shelves uncounted steps = record { counted = λ counts. absurd (cc); steps = steps }
+
+-- shelves of two small blocks are known to what was counted of these
+pub known-counted : (first second : Block) (blocks : Blocks) (shelves : List KeptShelf) → length shelves ≤ 16
+    → ((number : ℕ) (kept : KeptShelf) → 0 ≤ number → number < 0 + 8 → slice_get shelves number ≡ Some kept → IsKnown kept first)
+    → ((number : ℕ) (kept : KeptShelf) → 8 ≤ number → number < 8 + 8 → slice_get shelves number ≡ Some kept → IsKnown kept second)
+    → AreKnownOf (λ n. Unit {0}) 8 (changed_by (Some 1) (λ _. second) (changed_by (Some 0) (λ _. first) blocks.small)) shelves
+    × AreKnownOf (λ n. Unit {0}) 64 (changed_by (Some 0) (λ _. joined first second) blocks.middle) shelves
+    × AreKnownOf (λ n. Unit {0}) 512 (changed_by (Some 0) (λ _. joined first second) blocks.large) shelves
+known-counted first second blocks shelves few low high = (small, whole 64 blocks.middle (λ number below. omega (arith, below)), whole 512 blocks.large (λ number below. omega (arith, below)))
+  where
+    small : AreKnownOf (λ n. Unit {0}) 8 (changed_by (Some 1) (λ _. second) (changed_by (Some 0) (λ _. first) blocks.small)) shelves
+    small number kept block any at in_block =
+        let within = slice_get_within shelves number kept at in
+        read-changed (λ _. second) (changed_by (Some 0) (λ _. first) blocks.small) 1 (block_of 8 number) block in_block
+        (λ z stood same is. subst (IsKnown kept) (sym is) (high number kept (omega (arith, same)) (omega (arith, within, few)) at))
+        (λ apart stood.
+        read-changed (λ _. first) blocks.small 0 (block_of 8 number) block stood
+        (λ z stood same is. subst (IsKnown kept) (sym is) (low number kept (omega arith) (omega (arith, same)) at)) (λ other stood. absurd (omega (arith, apart, other, within, few))))
+
+    both : (number : ℕ) (kept : KeptShelf) → slice_get shelves number ≡ Some kept → IsKnown kept (joined first second)
+    both number kept at = by_low (nat_le 8 number) refl
+      where
+        by_low : (t : Bool) → nat_le 8 number ≡ t → IsKnown kept (joined first second)
+        by_low true e =
+            let within = slice_get_within shelves number kept at in
+            known-part kept second (joined first second) (high number kept (leb-true 8 number e) (omega (arith, within, few)) at) (part-own first second)
+        by_low false e =
+            let same : IsPart first first = record { room = omega arith; idle = λ h. h } in
+            known-part kept first (joined first second) (low number kept (omega arith) (omega (arith, leb-false 8 number e)) at) (part-still first first second same)
+
+    whole : (size : ℕ) (bs : List Block) → ((number : ℕ) → number < 16 → block_of size number ≡ 0) → AreKnownOf (λ n. Unit {0}) size (changed_by (Some 0) (λ _. joined first second) bs) shelves
+    whole size bs zero_ number kept block any at in_block =
+        read-changed (λ _. joined first second) bs 0 (block_of size number) block in_block (λ z stood same is. subst (IsKnown kept) (sym is) (both number kept at))
+        (λ apart stood. absurd (apart (zero_ number (omega (arith, slice_get_within shelves number kept at, few)))))
 
 -- a busy shelf with no more room than it had is known where it was, and all are where the others are
 pub known-stays : (k : ℕ) (before one : KeptShelf) (blocks : Blocks) (shelves : List KeptShelf) → slice_get shelves k ≡ Some one → one.widest_room ≤ before.widest_room → is_kept_idle one ≡ false → IsKnownAt k before blocks

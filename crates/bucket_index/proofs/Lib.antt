@@ -1,3 +1,4 @@
+pub mod FoundShelves
 pub mod KnownBlocks
 pub mod KnownSpans
 pub mod LimitedWaste

@@ -8,7 +8,7 @@ use Rattle.bucketed_records.specs.declared.records.KeptShelf.{KeptShelf}
 use Rattle.bucket_index.specs.declared.blocks.Block.{Block}
 use Rattle.bucket_index.specs.declared.blocks.Blocks.{Blocks}
 use Rattle.bucket_index.specs.declared.blocks.Others.{Others}
-use Rattle.bucket_index.specs.Private.Blocks.{AreBeside, AreKnown, AreKnownOf, AreKnownWhere, AreOthers, AreOthersKnown, AreOthersOf, IsKnown, block_at, block_of, forgotten, lowered, no_others, no_shelves, remembered, remembered_others, with_shelf}
+use Rattle.bucket_index.specs.Private.Blocks.{AreBeside, AreCounted, AreKnownOf, AreKnownWhere, AreOthers, AreOthersCounted, AreOthersOf, IsKnown, block_at, block_of, forgotten, lowered, no_others, no_shelves, remembered, remembered_others, with_shelf}
 use Rattle.bucket_index.proofs.KnownBlocks.{known-own, known-still, set-of, some-same}
 
 -- what is known of shelves by their blocks is known whatever is kept of others
@@ -22,7 +22,7 @@ kept-of size k blocks shelves within known number kept other same at =
     known number kept (block_at blocks (block_of size k)) other at (ap (slice_get blocks) same ∙ slice_get-get_or blocks (block_of size k) no_shelves within)
 
 -- what is kept of the blocks of a shelf before it is raised is right
-pub others-kept : (k room : ℕ) (blocks : Blocks) (shelves : List KeptShelf) → length blocks.small ≡ 512 → length blocks.middle ≡ 64 → length blocks.large ≡ 8 → AreOthersKnown k blocks shelves
+pub others-kept : (k room : ℕ) (blocks : Blocks) (shelves : List KeptShelf) → length blocks.small ≡ 512 → length blocks.middle ≡ 64 → length blocks.large ≡ 8 → AreOthersCounted k blocks shelves
     → AreOthers (remembered k room blocks).others shelves
 others-kept k room blocks shelves long wide few known = by_number (k == blocks.others.number) refl
   where
@@ -35,7 +35,7 @@ others-kept k room blocks shelves long wide few known = by_number (k == blocks.o
     }
 
 -- where others than this shelf are forgotten what is left is right
-pub others-left : (k : ℕ) (blocks : Blocks) (shelves : List KeptShelf) → AreOthersKnown k blocks shelves → AreOthers (forgotten k blocks).others shelves
+pub others-left : (k : ℕ) (blocks : Blocks) (shelves : List KeptShelf) → AreOthersCounted k blocks shelves → AreOthers (forgotten k blocks).others shelves
 others-left k blocks shelves known = by_number (k == blocks.others.number) refl
   where
     by_number : (t : Bool) → (k == blocks.others.number) ≡ t → AreOthers (cond t blocks.others (no_others blocks.others)) shelves
@@ -43,8 +43,8 @@ others-left k blocks shelves known = by_number (k == blocks.others.number) refl
     by_number false e some = absurd (omega (arith, some))
 
 -- all are known to the blocks of a shelf that are known by the others and it
-pub lower-known : (k : ℕ) (one : KeptShelf) (blocks : Blocks) (shelves : List KeptShelf) → slice_get shelves k ≡ Some one → blocks.others.number ≡ k → k < 4096 → AreOthersKnown k blocks shelves
-    → AreKnown (lowered k one blocks) shelves
+pub lower-known : (k : ℕ) (one : KeptShelf) (blocks : Blocks) (shelves : List KeptShelf) → slice_get shelves k ≡ Some one → blocks.others.number ≡ k → k < 4096 → AreOthersCounted k blocks shelves
+    → AreCounted (lowered k one blocks) shelves
 lower-known k one blocks shelves here same some known = record {
   each = record {
     small = of_size 8 blocks.others.small blocks.small beside.small known.each.small;
@@ -52,7 +52,6 @@ lower-known k one blocks shelves here same some known = record {
     large = of_size 512 blocks.others.large blocks.large beside.large known.each.large;
   };
   others = known.others same;
-  steps = known.steps;
 }
   where
     beside : AreBeside blocks.others shelves

@@ -1,9 +1,10 @@
 //! What is known of neighbouring shelves together, so that a search passes over many of them at once: how much room
 //! the buckets of one may have, and whether one may hold nothing live.
 //!
-//! Definitions: `Private/Blocks`. What is known of a block may be too much, never too little.
+//! Definitions: `Private/Blocks`. What is known of a block may be too much, never too little. Where no more shelves stand
+//! than in a small block nothing need be known.
 
-ghost use Rattle.std.specs.Prelude.{IsTrue, ◌≡◌, ◌+◌, ◌-◌, ◌*◌, ◌<◌, ◌≤◌, ◌^◌, Some, [], false, length, slice_get};
+ghost use Rattle.std.specs.Prelude.{IsTrue, ◌≡◌, ◌+◌, ◌-◌, ◌*◌, ◌<◌, ◌≤◌, ◌^◌, Some, [], false, true, length, slice_get};
 ghost use Rattle.etagere_links.specs.Edits.{changed_by};
 ghost use Rattle.bucketed_records.specs.Private.Store.{is_kept_idle};
 ghost use Rattle.bucket_index.specs.Private.Blocks as spec;
@@ -73,9 +74,11 @@ const NO_OTHERS: Others = Others {
     large: NO_SHELVES,
 };
 
-/// The blocks of the shelves of an atlas, in three sizes.
+/// The blocks of the shelves of an atlas, in three sizes. Before there are more shelves than in a small one nothing is
+/// known of them.
 #[derive(Clone, Copy)]
 pub struct Blocks {
+    pub are_counted: bool,
     /// Where it is true, the height of each shelf is a multiple of `STEP`.
     pub in_steps: bool,
     /// Those of the shelf that was raised last, so that it is lowered again without a recount.
@@ -123,7 +126,7 @@ fn joined(one: Block, other: Block) -> Block
 
 /// What is known of the shelves from this one on, as many as a small block has.
 fn counted(shelves: &[KeptShelf], from: usize) -> Block
-    requires { from ≤ length shelves.now }
+    requires { from < 2 ^ 62 }
     ensures { (number : spec.ℕ) (kept : spec.KeptShelf) → from ≤ number
         → number < from + 8
         → slice_get shelves.now number ≡ Some kept
@@ -233,6 +236,7 @@ impl Blocks {
         ensures none { result.others.number ≡ 4096 }
     {
         Blocks {
+            are_counted: false,
             in_steps: true,
             others: NO_OTHERS,
             small: [NO_SHELVES; MOST_SMALL],
@@ -251,6 +255,7 @@ impl Blocks {
             known.expect(kept.shelf.height);
             known.raise(number, kept);
         }
+        known.are_counted = SHELVES_OF_BLOCK < shelves.len();
         known
     }
 
@@ -270,8 +275,9 @@ impl Blocks {
 
     /// Where a search for a shelf with room for this width goes on that has come to the shelf of a number: at that
     /// one, or behind blocks in which none has room.
-    pub fn behind_narrow(&self, from: usize, width: u32) -> usize
-        requires { from < 2 ^ 62 }
+    pub(crate) fn behind_narrow(&self, from: usize, width: u32) -> usize
+        requires counted { self.now.are_counted ≡ true }
+        requires from { from < 2 ^ 62 }
         ensures on { from ≤ result }
         ensures small { result ≤ from + 512 }
         ensures narrow { (shelves : spec.Shelves) → spec.AreKnown self.now shelves
@@ -297,6 +303,9 @@ impl Blocks {
         ensures busy { (shelves : spec.Shelves) → spec.AreKnown self.now shelves
             → spec.AreBusy from result shelves }
     {
+        if !self.are_counted {
+            return from;
+        }
         if may_be_idle(&self.small, from / SHELVES_OF_BLOCK) {
             from
         } else if may_be_idle(&self.middle, from / SHELVES_OF_MIDDLE) {
@@ -337,6 +346,7 @@ impl Blocks {
 
     /// Knows the shelf of a number, which had this room and may have more, or hold nothing live any more.
     fn raise_beside(&mut self, shelves: &[KeptShelf], number: usize, room: u16)
+        requires counted { self.old.are_counted ≡ true }
         requires within { number < length shelves.now }
         requires others { spec.AreOthersKnown number self.old shelves.now }
         ensures { spec.AreKnown self.new shelves.now }
@@ -367,6 +377,7 @@ impl Blocks {
 
     /// Knows the shelf of a number, which may have less room, or hold something live now.
     fn lower(&mut self, shelves: &[KeptShelf], number: usize)
+        requires counted { self.old.are_counted ≡ true }
         requires within { number < length shelves.now }
         requires others { spec.AreOthersKnown number self.old shelves.now }
         ensures { spec.AreKnown self.new shelves.now }
@@ -382,6 +393,7 @@ impl Blocks {
     /// Knows the blocks of the shelf of a number anew.
     #[inline(never)]
     fn recount(&mut self, shelves: &[KeptShelf], number: usize)
+        requires counted { self.old.are_counted ≡ true }
         requires within { number < length shelves.now }
         requires others { spec.AreOthersKnown number self.old shelves.now }
         ensures { spec.AreKnown self.new shelves.now }
@@ -392,11 +404,6 @@ impl Blocks {
         let large = number / SHELVES_OF_LARGE;
         let fresh = counted(shelves, small * SHELVES_OF_BLOCK);
         set_block(&mut self.small, small, fresh);
-        if shelves.len() <= SHELVES_OF_BLOCK {
-            set_block(&mut self.middle, middle, fresh);
-            set_block(&mut self.large, large, fresh);
-            return;
-        }
         let fresh_middle = gathered(&self.small, middle * PARTS_OF_BLOCK);
         set_block(&mut self.middle, middle, fresh_middle);
         let fresh_large = gathered(&self.middle, large * PARTS_OF_BLOCK);
@@ -417,10 +424,13 @@ impl Blocks {
     #[inline(always)]
     pub fn follow(&mut self, shelves: &[KeptShelf], number: usize, before: &KeptShelf)
         requires within { number < length shelves.now }
-        requires before { spec.IsKnownAt number before.now self.old }
+        requires before { self.old.are_counted ≡ true → spec.IsKnownAt number before.now self.old }
         requires others { spec.AreOthersKnown number self.old shelves.now }
         ensures { spec.AreKnown self.new shelves.now }
     {
+        if !self.are_counted {
+            return;
+        }
         if stays_equal(before, &shelves[number]) {
             self.forget_others(number);
         } else {
@@ -432,6 +442,7 @@ impl Blocks {
     /// called, so that those who follow a shelf needn't keep what it uses.
     #[inline(never)]
     fn follow_change(&mut self, shelves: &[KeptShelf], number: usize, before: &KeptShelf)
+        requires counted { self.old.are_counted ≡ true }
         requires within { number < length shelves.now }
         requires before { spec.IsKnownAt number before.now self.old }
         requires others { spec.AreOthersKnown number self.old shelves.now }
@@ -450,12 +461,66 @@ impl Blocks {
         }
     }
 
-    /// Knows the last shelf beside the others.
+    /// Knows the last shelf beside the others. Where it is one more than a small block has, all are counted.
     pub fn add_last(&mut self, shelves: &[KeptShelf])
         requires some { 0 < length shelves.now }
         requires others { spec.AreOthersKnown (length shelves.now - 1) self.old shelves.now }
         ensures { spec.AreKnown self.new shelves.now }
     {
-        self.raise_beside(shelves, shelves.len() - 1, 0);
+        if self.are_counted {
+            self.raise_beside(shelves, shelves.len() - 1, 0);
+        } else if shelves.len() == SHELVES_OF_BLOCK + 1 {
+            self.count(shelves);
+        }
+    }
+
+    /// Knows all shelves, no more than stand in two small blocks.
+    #[inline(never)]
+    fn count(&mut self, shelves: &[KeptShelf])
+        requires few { length shelves.now ≤ 16 }
+        requires steps { self.old.in_steps ≡ true → spec.AreInSteps shelves.now }
+        ensures { spec.AreKnown self.new shelves.now }
+    {
+        let first = counted(shelves, 0);
+        let second = counted(shelves, SHELVES_OF_BLOCK);
+        let both = joined(first, second);
+        set_block(&mut self.small, 0, first);
+        set_block(&mut self.small, 1, second);
+        set_block(&mut self.middle, 0, both);
+        set_block(&mut self.large, 0, both);
+        self.others.number = MOST_SHELVES;
+        self.are_counted = true;
+    }
+
+    /// Knows the shelves that are left after some were dropped. That of a number was this one before, if it is left, and
+    /// may be known by more or by less now. Nothing is known any more of fewer than a small block has.
+    #[inline(always)]
+    pub fn follow_dropped(&mut self, shelves: &[KeptShelf], number: usize, before: &KeptShelf)
+        requires before { self.old.are_counted ≡ true → spec.IsKnownAt number before.now self.old }
+        requires others { spec.AreOthersKnown number self.old shelves.now }
+        ensures { spec.AreKnown self.new shelves.now }
+    {
+        if self.are_counted {
+            self.follow_left(shelves, number, before);
+        }
+    }
+
+    /// The same where they were counted.
+    #[inline(never)]
+    fn follow_left(&mut self, shelves: &[KeptShelf], number: usize, before: &KeptShelf)
+        requires before { self.old.are_counted ≡ true → spec.IsKnownAt number before.now self.old }
+        requires others { spec.AreOthersKnown number self.old shelves.now }
+        ensures { spec.AreKnown self.new shelves.now }
+    {
+        let before = *before;
+        if shelves.len() < SHELVES_OF_BLOCK {
+            self.are_counted = false;
+            return;
+        }
+        if number < shelves.len() {
+            self.follow(shelves, number, &before);
+        } else {
+            self.forget_others(number);
+        }
     }
 }

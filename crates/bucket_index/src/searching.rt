@@ -3,7 +3,7 @@
 //! Definitions: `Searching`, and `Picking` for what it means. No bucket is looked at of a shelf that one
 //! comparison tells has none that is wanted.
 
-ghost use Rattle.std.specs.Prelude.{◌≡◌, ◌+◌, ◌^◌, ◌<◌, ◌≤◌, IfSome, IsTrue, length, map, max, min, take, drop};
+ghost use Rattle.std.specs.Prelude.{◌≡◌, ◌+◌, ◌^◌, ◌<◌, ◌≤◌, IfSome, IsTrue, length, map, max, min, take, drop, true};
 ghost use Rattle.etagere_base.specs.Least.{first_least};
 ghost use Rattle.etagere_links.specs.Links.{no_link};
 ghost use Rattle.bucketed_model.specs.Picking.{or_else};
@@ -171,10 +171,30 @@ pub fn widest_room(buckets: &[LinkedBucket], spans: &Spans, first: Link, most: u
     requires most { spec.widest_from most_buckets buckets.now first ≤ most }
     ensures { result ≡ spec.widest_from most_buckets buckets.now first }
 {
+    if let Some(room) = room_of_only(buckets, first) {
+        return room;
+    }
     if spans.knows(first) {
         return widest_by_spans(buckets, spans, first, most);
     }
     widest_by_links(buckets, first, most)
+}
+
+/// The width that a bucket can give to one item, where the links from this one on lead to no other.
+fn room_of_only(buckets: &[LinkedBucket], first: Link) -> Option<u16>
+    ensures { IfSome result (λ room. room ≡ spec.widest_from most_buckets buckets.now first) }
+{
+    let Some(number) = first.number() else {
+        return None;
+    };
+    if number >= buckets.len() {
+        return None;
+    }
+    let bucket = &buckets[number];
+    match bucket.next.number() {
+        Some(_) => None,
+        None => Some(record_room(bucket)),
+    }
 }
 
 /// The same, link by link.
@@ -287,9 +307,27 @@ fn limit_beside(adds: bool, sides: &Sides, best: &Option<Least>) -> u32
     }
 }
 
-/// The shelf that wastes the least height, the first of such. Blocks in which none has room are passed over, and the
-/// first shelf ends the search that wastes so little that none can waste less.
+/// The shelf that wastes the least height, the first of such. The first shelf ends the search that wastes so little that
+/// none can waste less.
 fn least_waste(adds: bool, sides: &Sides, shelves: &[KeptShelf], blocks: &Blocks) -> Option<Least>
+    requires known { AreKnown blocks.now shelves.now }
+    ensures least { result ≡ first_least (map (spec.kept_waste adds sides.now) shelves.now) }
+    ensures within { IfSome result (λ least. least.number < length shelves.now) }
+{
+    if blocks.are_counted {
+        return least_by_blocks(adds, sides, shelves, blocks);
+    }
+    least_in(adds, sides, shelves, blocks.step(), 0, shelves.len(), None)
+}
+
+/// The same, where blocks in which none has room are passed over.
+fn least_by_blocks(
+    adds: bool,
+    sides: &Sides,
+    shelves: &[KeptShelf],
+    blocks: &Blocks,
+) -> Option<Least>
+    requires counted { blocks.now.are_counted ≡ true }
     requires known { AreKnown blocks.now shelves.now }
     ensures least { result ≡ first_least (map (spec.kept_waste adds sides.now) shelves.now) }
     ensures within { IfSome result (λ least. least.number < length shelves.now) }
@@ -302,8 +340,9 @@ fn least_waste(adds: bool, sides: &Sides, shelves: &[KeptShelf], blocks: &Blocks
         if from < behind {
             from = behind;
         } else {
-            best = least_in(adds, sides, shelves, step, from, best);
-            from += SHELVES_OF_BLOCK;
+            let end = from + SHELVES_OF_BLOCK;
+            best = least_in(adds, sides, shelves, step, from, end, best);
+            from = end;
             if is_least(step, &best) {
                 break;
             }
@@ -312,25 +351,28 @@ fn least_waste(adds: bool, sides: &Sides, shelves: &[KeptShelf], blocks: &Blocks
     best
 }
 
-/// The same with as many shelves as a block has, of which the first has this number, where this was found before it.
+/// The same with the shelves from one number up to another, where this was found before them.
+#[inline(always)]
 fn least_in(
     adds: bool,
     sides: &Sides,
     shelves: &[KeptShelf],
     step: u32,
     from: usize,
+    end: usize,
     best: Option<Least>,
 ) -> Option<Least>
     requires step { IsStep step shelves.now }
     requires from { from ≤ length shelves.now }
+    requires end { from ≤ end }
     requires best { best
         ≡ first_least (map (spec.kept_waste adds sides.now) (take from shelves.now)) }
     ensures { result
-        ≡ first_least (map (spec.kept_waste adds sides.now) (take (from + 8) shelves.now)) }
+        ≡ first_least (map (spec.kept_waste adds sides.now) (take end shelves.now)) }
 {
     let mut best = best;
     let mut limit = limit_beside(adds, sides, &best);
-    for number in from..shelves.len().min(from + SHELVES_OF_BLOCK) {
+    for number in from..shelves.len().min(end) {
         let Some(rank) = waste_below(limit, sides, &shelves[number]) else {
             continue;
         };
@@ -353,8 +395,7 @@ fn is_least(step: u32, best: &Option<Least>) -> bool
     }
 }
 
-/// The first exact bucket of a shelf that wastes no height, from the shelf of this number on. Blocks in which none has
-/// room are passed over.
+/// The first exact bucket of a shelf that wastes no height, from the shelf of this number on.
 fn exact_from(
     sides: &Sides,
     shelves: &[KeptShelf],
@@ -363,6 +404,27 @@ fn exact_from(
     spans: &Spans,
     from: usize,
 ) -> Option<Found>
+    requires from { from ≤ length shelves.now }
+    requires known { AreKnown blocks.now shelves.now }
+    requires spans { AreSpans spans.now buckets.now }
+    ensures { result ≡ spec.exact_from sides.now buckets.now from (drop from shelves.now) }
+{
+    if blocks.are_counted {
+        return exact_by_blocks(sides, shelves, buckets, blocks, spans, from);
+    }
+    exact_between(sides, shelves, buckets, spans, from, shelves.len())
+}
+
+/// The same, where blocks in which none has room are passed over.
+fn exact_by_blocks(
+    sides: &Sides,
+    shelves: &[KeptShelf],
+    buckets: &[LinkedBucket],
+    blocks: &Blocks,
+    spans: &Spans,
+    from: usize,
+) -> Option<Found>
+    requires counted { blocks.now.are_counted ≡ true }
     requires from { from ≤ length shelves.now }
     requires known { AreKnown blocks.now shelves.now }
     requires spans { AreSpans spans.now buckets.now }

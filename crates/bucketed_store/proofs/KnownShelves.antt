@@ -1,16 +1,15 @@
 -- What blocks know of the shelves that are left when some were dropped or merged.
-use Rattle.std.proofs.Common.{◌≡◌, ℕ, zero, suc, ◌+◌, ◌-◌, ◌<◌, ◌≤◌, Bool, true, false, Option, None, Some, List, [], ◌∷◌, length, map, take, drop, cond, refl, sym, arith, ◌∙◌, ◌==◌}
-use Rattle.std.proofs.lemmas.Option.{slice_get_within}
+use Rattle.std.proofs.Common.{◌≡◌, ℕ, zero, suc, ◌+◌, ◌-◌, Bool, true, false, Option, None, Some, List, [], ◌∷◌, length, map, take, drop, cond, refl, arith, ◌∙◌, ◌==◌}
 use Rattle.std.specs.Option.{option_map_or}
 use Rattle.std.specs.Prelude.{slice_get, ◌%◌}
 use Rattle.etagere_links.specs.Edits.{changed_by}
-use Rattle.etagere_links.proofs.RecordChanges.{get-changed_by-other, map-changed_by}
+use Rattle.etagere_links.proofs.RecordChanges.{map-changed_by}
 use Rattle.bucketed_model.specs.Merging.{Group}
 use Rattle.bucketed_records.specs.declared.records.KeptShelf.{KeptShelf}
 use Rattle.bucketed_records.specs.Private.Store.{last_kept}
 use Rattle.bucket_index.specs.declared.blocks.Blocks.{Blocks}
-use Rattle.bucket_index.specs.Private.Blocks.{AreBeside, AreInSteps, AreKnown, AreOthersKnown}
-use Rattle.bucket_index.proofs.KnownBlocks.{AreSome, known-same, known-some, known_of, some-taken, steps-changed}
+use Rattle.bucket_index.specs.Private.Blocks.{AreBeside, AreInSteps, AreKnown, AreOthersCounted, AreOthersKnown}
+use Rattle.bucket_index.proofs.KnownBlocks.{AreSome, known-same, known_of, some-taken, steps-changed}
 use Rattle.bucketed_store.specs.Private.Placing.{kept_height}
 use Rattle.bucketed_store.specs.Private.Returns.{Dropping, end_dropped, last_dropped}
 use Rattle.bucketed_store.specs.Private.StoreEdits.{across_of, flattened, group_height, kept_merged, to_height}
@@ -36,12 +35,7 @@ some-dropped (suc steps) done number kept at = by_last (λ next. some-dropped st
 -- where the others are known they are known of some of the shelves
 pub others-some : (k : ℕ) (blocks : Blocks) (all shelves : List KeptShelf) → AreSome all shelves → AreOthersKnown k blocks all → AreOthersKnown k blocks shelves
 others-some k blocks all shelves some known = record {
-  each = record {
-    small = λ number kept block other at in_block. known.each.small number kept block other (some number kept at) in_block;
-    middle = λ number kept block other at in_block. known.each.middle number kept block other (some number kept at) in_block;
-    large = λ number kept block other at in_block. known.each.large number kept block other (some number kept at) in_block;
-  };
-  others = λ same one. beside (known.others same one);
+  counted = λ counts. rest (known.counted counts);
   steps = λ in_steps number kept at. known.steps in_steps number kept (some number kept at);
 }
   where
@@ -52,20 +46,15 @@ others-some k blocks all shelves some known = record {
       large = λ number kept other same at. is.large number kept other same (some number kept at);
     }
 
--- where one shelf changed and none is left from there on, what is left is known
-pub known-left : (k : ℕ) (change : KeptShelf → KeptShelf) (blocks : Blocks) (shelves left : List KeptShelf) → AreSome (changed_by (Some k) change shelves) left → length left ≤ k → AreKnown blocks shelves → AreKnown blocks left
-known-left k change blocks shelves left some few known = known-some blocks shelves left stood known
-  where
-    inner : (number : ℕ) → Some k ≡ Some number → number ≡ k
-    inner number h = cc
-
-    stood : AreSome shelves left
-    stood number kept at =
-        let within = slice_get_within left number kept at in
-        sym (get-changed_by-other change shelves (Some k) number (λ (h : Some k ≡ Some number). apart within (inner number h))) ∙ some number kept at
-      where
-        apart : number < length left → number ≡ k → ⊥
-        apart within same = omega (arith, within, same, few)
+    rest : AreOthersCounted k blocks all → AreOthersCounted k blocks shelves
+    rest counted = record {
+      each = record {
+        small = λ number kept block other at in_block. counted.each.small number kept block other (some number kept at) in_block;
+        middle = λ number kept block other at in_block. counted.each.middle number kept block other (some number kept at) in_block;
+        large = λ number kept block other at in_block. counted.each.large number kept block other (some number kept at) in_block;
+      };
+      others = λ same one. beside (counted.others same one);
+    }
 
 -- what is left of shelves in steps is in steps
 steps-dropped : (n : ℕ) (shelves : List KeptShelf) → AreInSteps shelves → AreInSteps (drop n shelves)

@@ -50,6 +50,7 @@ fn new_record(new: &NewBuckets, next: Link, generation: u8) -> LinkedBucket
 }
 
 /// Makes a bucket in front of the first one of its shelf, and answers the link to it.
+#[inline(always)]
 fn make_bucket(
     buckets: &mut Vec<LinkedBucket>,
     spans: &mut Spans,
@@ -90,6 +91,7 @@ fn make_bucket(
 }
 
 /// Makes so many buckets from left to right, each in front of the one before, and answers the link to the last.
+#[inline(always)]
 pub(crate) fn make_buckets(
     buckets: &mut Vec<LinkedBucket>,
     spans: &mut Spans,

@@ -77,13 +77,14 @@ fn serves(sides: &Sides, shelves: &[KeptShelf], number: usize, others: usize) ->
 
 /// The first shelf that serves these sides with the next one, or with the next two. Blocks in which none holds nothing
 /// live are passed over.
+#[inline(never)]
 pub(crate) fn mergeable_shelves(
-    sides: &Sides,
+    sides: Sides,
     shelves: &[KeptShelf],
     blocks: &Blocks,
 ) -> Option<Group>
     requires { AreKnown blocks.now shelves.now }
-    ensures { result ≡ spec.kept_mergeable sides.now 0 shelves.now }
+    ensures { result ≡ spec.kept_mergeable sides 0 shelves.now }
 {
     let mut from = 0;
     for _block in 0..shelves.len() {
@@ -94,7 +95,7 @@ pub(crate) fn mergeable_shelves(
         if from < behind {
             from = behind;
         } else {
-            let group = mergeable_in(sides, shelves, from);
+            let group = mergeable_in(&sides, shelves, from);
             if group.is_some() {
                 return group;
             }

@@ -102,6 +102,6 @@ fn placement_in(
     if adds {
         return Some(Placement::InAdded(new_shelves(frame, left, sides)));
     }
-    let group = mergeable_shelves(sides, shelves, blocks)?;
+    let group = mergeable_shelves(*sides, shelves, blocks)?;
     Some(Placement::InMerged(group))
 }

@@ -143,6 +143,7 @@ impl Store {
     /// Makes the new shelves, with their buckets, where so many are in use. Takes memory for the records
     /// of shelves, and for those of buckets as far as too few were unused. The error comes only where
     /// there was no memory, and then nothing has changed.
+    #[inline(never)]
     pub(crate) fn add(
         &mut self,
         frame: &Frame,
@@ -203,17 +204,20 @@ impl Store {
         match place {
             Placement::InBucket(found) => Ok(*found),
             Placement::InAdded(news) => {
-                self.add(frame, news, in_use)?;
+                let news = *news;
+                self.add(frame, &news, in_use)?;
                 Ok(found_first(&self.shelves, self.shelves.len() - 1))
             }
             Placement::InMerged(group) => {
-                self.merge(group);
+                let group = *group;
+                self.merge(&group);
                 Ok(found_first(&self.shelves, group.first))
             }
         }
     }
 
     /// Merges neighbouring shelves into the first of them.
+    #[inline(never)]
     fn merge(&mut self, group: &Group)
         requires { spec.IsGroupIn group.now self.old.shelves }
         ensures { self.new
@@ -282,7 +286,7 @@ impl Store {
             } }
     {
         let before = self.shelves[found.shelf];
-        let keeps = keeps_widest(&self.shelves, &self.buckets, found, room);
+        let keeps = keeps_widest(&self.shelves, &self.buckets, found, room, self.may_be_long);
         let goes_far = self.goes_far(found, keeps);
         learn_row(
             &self.shelves,
@@ -345,9 +349,7 @@ impl Store {
             &mut self.spans,
             &mut self.unused,
         );
-        if shelf < self.shelves.len() {
-            self.blocks.follow(&self.shelves, shelf, &before);
-        }
+        self.blocks.follow_dropped(&self.shelves, shelf, &before);
         Returned {
             area,
             drops: true,
@@ -394,14 +396,33 @@ impl Store {
         Ok(left - rest)
     }
 
-    /// The current column, and the height that it leaves; these are known where they are kept.
-    pub fn end_unless(&self, frame: &Frame, is_kept: bool, kept: Sides) -> Sides
+    /// Finds the current column and the height that it leaves, and counts the buckets in use, after an item got a place.
+    /// Where that was there they are what they were.
+    pub fn follow_place(
+        &self,
+        frame: &Frame,
+        place: &Placement,
+        column: &mut u32,
+        height: &mut u32,
+        in_use: &mut u32,
+    )
         requires frame { IsBucketedFrame frame.now }
         requires short { spec.IsShort frame.now self.now.shelves }
-        requires kept { IsTrue is_kept → spec.end_of frame.now self.now.shelves ≡ kept }
-        ensures { result ≡ spec.end_of frame.now self.now.shelves }
+        requires kept { spec.IsThere (placing.placement_seen place.now)
+            → spec.end_of frame.now self.now.shelves
+            ≡ record { along = column.old; across = height.old } }
+        requires few { in_use.old + spec.needed_for (placing.placement_seen place.now) < 2 ^ 32 }
+        ensures column { column.new ≡ (spec.end_of frame.now self.now.shelves).along }
+        ensures height { height.new ≡ (spec.end_of frame.now self.now.shelves).across }
+        ensures in_use { in_use.new
+            ≡ in_use.old + spec.needed_for (placing.placement_seen place.now) }
     {
-        if is_kept { kept } else { self.end(frame) }
+        if !place.is_there() {
+            let end = self.end(frame);
+            *column = end.along;
+            *height = end.across;
+            *in_use += place.needed_buckets();
+        }
     }
 
     /// The current column, and the height that it leaves.
@@ -501,6 +522,7 @@ fn end_of(frame: &Frame, shelves: &[KeptShelf]) -> Sides
 }
 
 /// Makes a shelf after the others, with its buckets.
+#[inline(always)]
 fn add_shelf(
     frame: &Frame,
     shelves: &mut Vec<KeptShelf>,
@@ -667,17 +689,33 @@ fn learn_row(
     }
 }
 
+/// Whether the bucket that was found is the first of its shelf.
+fn is_first(shelves: &[KeptShelf], found: &Found) -> bool
+    requires { found.now.shelf < length shelves.now }
+{
+    usize::from(first_bucket(shelves, found.shelf).bits()) == found.bucket
+}
+
 /// Whether a shelf still has a bucket as wide as its widest was, after the one that was found gave an item, and had this
-/// room before: it had less, or one of the next few has as much.
+/// room before: it had less, or one of the next few has as much. Those behind the first one are gone through anyway where
+/// the shelf isn't long.
 #[inline(always)]
-fn keeps_widest(shelves: &[KeptShelf], buckets: &[LinkedBucket], found: &Found, room: u16) -> bool
+fn keeps_widest(
+    shelves: &[KeptShelf],
+    buckets: &[LinkedBucket],
+    found: &Found,
+    room: u16,
+    may_be_long: bool,
+) -> bool
     requires shelf { found.now.shelf < length shelves.now }
     requires widest { spec.IsWidestKept found.now.shelf found.now.bucket room shelves.now
         buckets.now }
     ensures { spec.KeepsWidest found.now.shelf result shelves.now buckets.now }
 {
     let widest = widest_of(shelves, found.shelf);
-    room < widest || has_room(widest, buckets, next_of(buckets, found.bucket))
+    room < widest
+        || (may_be_long || !is_first(shelves, found))
+            && has_room(widest, buckets, next_of(buckets, found.bucket))
 }
 
 /// The greatest width that a bucket of a shelf can give, after the one that was found gave an item. Buckets from

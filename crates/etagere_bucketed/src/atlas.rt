@@ -48,7 +48,7 @@ use bucketed_store::store::Store;
 use bucketed_store::usage;
 use etagere_base::{
     AllocId, Allocation, AllocatorOptions, DEFAULT_OPTIONS, Frame, OptionsFault, Rectangle,
-    RestoreFault, Sides, Size, UnknownId, asked, grown_frame, options_fault,
+    RestoreFault, Size, UnknownId, asked, grown_frame, options_fault,
 };
 use pictures::{GatheredText, Pictured, send_document, send_into};
 use snapshot_records::buckets::BucketedSnapshot;
@@ -256,14 +256,13 @@ impl BucketedAtlasAllocator {
             .prepare(&self.frame, &place, self.buckets_in_use)?;
         let allocation = self.store.allocation(&self.frame, &found, sides.along);
         let area = self.store.take(&found, sides.along);
-        let kept = Sides {
-            along: left.column,
-            across: left.height,
-        };
-        let end = self.store.end_unless(&self.frame, place.is_there(), kept);
-        self.current_column = end.along;
-        self.available_height = end.across;
-        self.buckets_in_use += place.needed_buckets();
+        self.store.follow_place(
+            &self.frame,
+            &place,
+            &mut self.current_column,
+            &mut self.available_height,
+            &mut self.buckets_in_use,
+        );
         self.allocated_space += area;
         Ok(Some(allocation))
     }

@@ -161,17 +161,24 @@ AreInSteps shelves =
 abbrev pub IsStep : ℕ → List KeptShelf → Type 0
 IsStep step shelves = 1 < step → (step ≡ 8) × AreInSteps shelves
 
--- each of these shelves is known to its blocks, what is known of others is right, and heights are in
--- steps where that is known
-pub record AreKnown (blocks : Blocks) (shelves : List KeptShelf) : Type 0 where
+-- each of these shelves is known to its blocks, and what is known of others is right
+pub record AreCounted (blocks : Blocks) (shelves : List KeptShelf) : Type 0 where
   pub each : AreKnownWhere (λ number. Unit {0}) blocks shelves
   pub others : AreOthers blocks.others shelves
+
+-- the same where they are counted, and heights are in steps where that is known
+pub record AreKnown (blocks : Blocks) (shelves : List KeptShelf) : Type 0 where
+  pub counted : blocks.are_counted ≡ true → AreCounted blocks shelves
   pub steps : blocks.in_steps ≡ true → AreInSteps shelves
 
 -- the same where nothing is said of one shelf
-pub record AreOthersKnown (one : ℕ) (blocks : Blocks) (shelves : List KeptShelf) : Type 0 where
+pub record AreOthersCounted (one : ℕ) (blocks : Blocks) (shelves : List KeptShelf) : Type 0 where
   pub each : AreKnownWhere (λ number. number ≡ one → ⊥) blocks shelves
   pub others : blocks.others.number ≡ one → AreOthers blocks.others shelves
+
+-- and the same where they are counted, with heights in steps where that is known
+pub record AreOthersKnown (one : ℕ) (blocks : Blocks) (shelves : List KeptShelf) : Type 0 where
+  pub counted : blocks.are_counted ≡ true → AreOthersCounted one blocks shelves
   pub steps : blocks.in_steps ≡ true → AreInSteps shelves
 
 -- each of the first so many shelves is known to its blocks

@@ -79,11 +79,11 @@ returns-then-rank-step c =
     let kept = c.index-shelves-number.result in
     let rank = kept_waste c.args.adds c.args.sides.now in
     let within : number < length shelves = omega (arith, c.loop-number-test.true, c.min-number-end.ensures) in
-    let end : suc number + (c.args.from + 8 - suc number) ≡ c.args.from + 8 = omega (arith, c.loop-number-test.true, c.min-number-end.ensures) in
+    let end : suc number + (c.args.end - suc number) ≡ c.args.end = omega (arith, c.loop-number-test.true, c.min-number-end.ensures) in
     let best : Some (at_rank number c.in-Some.rank) ≡ first_least (map rank (take (suc number) shelves)) =
     stepped c.args.adds c.args.sides.now shelves number c.loop-number.limit kept c.loop-number.best (Some c.in-Some.rank) within
     (slice_get_read shelves (length shelves) number kept refl within c.index-shelves-number.is) c.waste_below.ensures.small c.loop-number.invariant.best c.loop-number.invariant.limit
     (sym c.in-Some.is ∙ c.waste_below.ensures.value) in
     let done : is_least c.args.step (Some (at_rank number c.in-Some.rank)) ≡ true = less-lt c.in-Some.rank c.args.step c.if-rank-step.true in
     sym (ap (λ (k : ℕ). first_least (map rank (take k shelves))) (sym end)
-    ∙ best-done c.args.step c.args.adds c.args.sides.now shelves (Some (at_rank number c.in-Some.rank)) (suc number) (c.args.from + 8 - suc number) c.requires.step (sym best) done)
+    ∙ best-done c.args.step c.args.adds c.args.sides.now shelves (Some (at_rank number c.in-Some.rank)) (suc number) (c.args.end - suc number) c.requires.step (sym best) done)

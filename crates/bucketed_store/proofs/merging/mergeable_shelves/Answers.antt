@@ -14,7 +14,7 @@ none-first (Some found) later h = absurd (cc)
 
 pub loop-block-preserved : goal.loop-block-preserved
 loop-block-preserved c =
-    let sides = c.args.sides.now in
+    let sides = c.args.sides in
     let shelves = c.args.shelves.now in
     let from = c.loop-block.from in
     let behind = c.behind_busy-behind in

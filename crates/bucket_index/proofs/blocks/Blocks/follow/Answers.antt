@@ -12,10 +12,13 @@ returns-then-stays_equal c =
     let old = c.args.self.now in
     let one = c.index-shelves-number.result in
     let is = c.stays_equal.ensures c.if-stays_equal.true in
+    let counted = c.requires.others.counted c.if-not-self.false in
     rw c.forget_others.ensures (record {
-      each = known-whatever (forgotten number old).others old shelves
-          (known-stays number c.args.before.now one old shelves (slice_get_read shelves (length shelves) number one refl c.requires.within c.index-shelves-number.is) is.0 is.1
-          c.requires.before c.requires.others.each);
-      others = others-left number old shelves c.requires.others;
+      counted = λ _. record {
+        each = known-whatever (forgotten number old).others old shelves
+            (known-stays number c.args.before.now one old shelves (slice_get_read shelves (length shelves) number one refl c.requires.within c.index-shelves-number.is) is.0 is.1
+            (c.requires.before c.if-not-self.false) counted.each);
+        others = others-left number old shelves counted;
+      };
       steps = c.requires.others.steps;
     })

@@ -9,5 +9,8 @@ returns-then-knows_others c =
     let number = c.args.number in
     let one = c.index-shelves-number.result in
     let is = c.knows_others.ensures c.if-knows_others.true in
-    rw c.lower_again.ensures
-    (lower-known number one c.args.self.now shelves (slice_get_read shelves (length shelves) number one refl c.requires.within c.index-shelves-number.is) is.0 is.1 c.requires.others)
+    rw c.lower_again.ensures (record {
+      counted = λ _.
+          lower-known number one c.args.self.now shelves (slice_get_read shelves (length shelves) number one refl c.requires.within c.index-shelves-number.is) is.0 is.1 (c.requires.others.counted c.requires.counted);
+      steps = c.requires.others.steps;
+    })

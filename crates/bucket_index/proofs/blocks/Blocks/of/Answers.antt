@@ -50,9 +50,13 @@ loop-number-preserved c =
     })
 
 pub returns : goal.returns
-returns c = record {
-  each = all-known c.loop-number.number c.loop-number.known c.args.shelves.now c.loop-number-test.false c.loop-number.invariant.first;
-  others = c.loop-number.invariant.others;
-  steps = λ in_steps number kept at.
-      c.loop-number.invariant.steps in_steps number kept (omega (arith, slice_get_within c.args.shelves.now number kept at, c.loop-number-test.false)) at;
-}
+returns c =
+    let all = all-known c.loop-number.number c.loop-number.known c.args.shelves.now c.loop-number-test.false c.loop-number.invariant.first in
+    record {
+      counted = λ _. record {
+        each = record { small = all.small; middle = all.middle; large = all.large };
+        others = c.loop-number.invariant.others;
+      };
+      steps = λ in_steps number kept at.
+          c.loop-number.invariant.steps in_steps number kept (omega (arith, slice_get_within c.args.shelves.now number kept at, c.loop-number-test.false)) at;
+    }

@@ -11,9 +11,12 @@ returns c =
     let number = c.args.number in
     let old = c.args.self.now in
     let one = c.index-shelves-number.result in
+    let counted = c.requires.others.counted c.requires.counted in
     rw c.raise.ensures (rw c.remember.ensures (record {
-      each = raise-known (λ n. n ≡ number → ⊥) (λ n. Unit {0}) number one (remembered number c.args.room old) shelves
-          (slice_get_read shelves (length shelves) number one refl c.requires.within c.index-shelves-number.is) (λ n any other. other) (known-whatever (remembered number c.args.room old).others old shelves c.requires.others.each);
-      others = others-kept number c.args.room old shelves (search rules) (search rules) (search rules) c.requires.others;
+      counted = λ _. record {
+        each = raise-known (λ n. n ≡ number → ⊥) (λ n. Unit {0}) number one (remembered number c.args.room old) shelves
+            (slice_get_read shelves (length shelves) number one refl c.requires.within c.index-shelves-number.is) (λ n any other. other) (known-whatever (remembered number c.args.room old).others old shelves counted.each);
+        others = others-kept number c.args.room old shelves (search rules) (search rules) (search rules) counted;
+      };
       steps = c.requires.others.steps;
     }))

@@ -13,7 +13,7 @@ use Rattle.bucket_index.specs.Private.Spans.{AreSpans, AreSpansBut}
 use Rattle.bucket_index.proofs.KnownBlocks.{AreSome, known-at, known-others}
 use Rattle.bucket_index.proofs.KnownSpans.{spans-changed-room}
 use Rattle.bucketed_store.specs.Private.Returns.{Dropping, dropping_of, emptied_record, lessened_record, returned_kept, returned_record, width_of}
-use Rattle.bucketed_store.proofs.KnownShelves.{known-left, others-some, some-dropped}
+use Rattle.bucketed_store.proofs.KnownShelves.{others-some, some-dropped}
 use Rattle.bucketed_store.proofs.store.Store.return_item.Goals as goal
 
 -- a return keeps a record's link
@@ -69,8 +69,8 @@ pub invariant_of-self : goal.invariant_of-self
 invariant_of-self c =
     (subst (AreKnown c.follow.new.self) c.deref-then-not-ends_idle.ensures.value c.follow.ensures, subst (AreSpans c.track.new.self) c.deref-5.ensures.value c.track.ensures)
 
-pub follow-requires-then-shelf-len-clause-before : goal.follow-requires-then-shelf-len-clause-before
-follow-requires-then-shelf-len-clause-before c =
+pub follow_dropped-requires-clause-before : goal.follow_dropped-requires-clause-before
+follow_dropped-requires-clause-before c =
     let inside = c.self.inside in
     let shelves = inside.shelves.items in
     let shelf = c.shelf_number-shelf.result in
@@ -81,8 +81,8 @@ follow-requires-then-shelf-len-clause-before c =
     let there : slice_get shelves shelf ≡ Some before = slice_get-get_or shelves shelf before (omega (arith, same, within)) ∙ ap (λ (kept : KeptShelf). Some kept) (sym c.index.ensures) in
     known-at shelf before inside.blocks shelves there c.self.invariant.0
 
-pub follow-requires-then-shelf-len-clause-others : goal.follow-requires-then-shelf-len-clause-others
-follow-requires-then-shelf-len-clause-others c =
+pub follow_dropped-requires-clause-others : goal.follow_dropped-requires-clause-others
+follow_dropped-requires-clause-others c =
     let inside = c.self.inside in
     let number = c.args.number in
     let shelf : c.shelf_number-shelf.result ≡ shelf_of inside.buckets.items number =
@@ -103,41 +103,14 @@ follow-requires-then-shelf-len-clause-others c =
     let known : AreOthersKnown c.shelf_number-shelf.result inside.blocks (with_items inside.shelves c.return_item.new.shelves).items =
     subst (AreOthersKnown c.shelf_number-shelf.result inside.blocks) (sym (items ∙ returned))
     (known-others c.shelf_number-shelf.result change inside.blocks inside.shelves.items (λ x. refl) c.self.invariant.0) in
-    subst (AreOthersKnown c.shelf_number-shelf.result inside.blocks) (sym c.deref-then-shelf-len.ensures.value)
+    subst (AreOthersKnown c.shelf_number-shelf.result inside.blocks) (sym c.deref-7.ensures.value)
     (others-some c.shelf_number-shelf.result inside.blocks (with_items inside.shelves c.return_item.new.shelves).items c.drop_idle_end-dropped.new.shelves.items some known)
 
-pub invariant_of-self-then-shelf-len : goal.invariant_of-self-then-shelf-len
-invariant_of-self-then-shelf-len c =
+pub invariant_of-self-2 : goal.invariant_of-self-2
+invariant_of-self-2 c =
     let inside = c.self.inside in
     let buckets : (with_items (with_items inside.buckets c.return_item.new.buckets) c.drop_idle_end-dropped.new.buckets).items ≡ c.drop_idle_end-dropped.new.buckets =
     with_items_is (with_items inside.buckets c.return_item.new.buckets) c.drop_idle_end-dropped.new.buckets (omega (arith, c.drop_idle_end-dropped.auto.buckets, c.deref_mut-3.ensures.len)) in (
-      subst (AreKnown c.follow-then-shelf-len.new.self) c.deref-then-shelf-len.ensures.value c.follow-then-shelf-len.ensures,
-      subst (AreSpans c.drop_idle_end-dropped.new.spans) (sym buckets) c.drop_idle_end-dropped.ensures.spans,
-    )
-
-pub invariant_of-self-else-shelf-len : goal.invariant_of-self-else-shelf-len
-invariant_of-self-else-shelf-len c =
-    let inside = c.self.inside in
-    let number = c.args.number in
-    let shelf : c.shelf_number-shelf.result ≡ shelf_of inside.buckets.items number =
-    c.shelf_number-shelf.ensures ∙ ap (λ (bs : List LinkedBucket). shelf_of bs number) c.deref-3.ensures.value in
-    let change = returned_kept (nat_le (live_of inside.buckets.items number) 1) in
-    let items : (with_items inside.shelves c.return_item.new.shelves).items ≡ c.return_item.new.shelves =
-    with_items_is inside.shelves c.return_item.new.shelves (omega (arith, c.return_item.auto.shelves, c.deref_mut.ensures.len)) in
-    let returned : c.return_item.new.shelves ≡ changed_by (Some c.shelf_number-shelf.result) change inside.shelves.items =
-    c.return_item.ensures.shelves
-    ∙ ap (λ (bs : List LinkedBucket). changed_by (Some (shelf_of bs number)) (returned_kept (nat_le (live_of bs number) 1)) c.deref_mut.result.now) c.deref_mut-2.ensures.value
-    ∙ ap (λ (xs : List KeptShelf). changed_by (Some (shelf_of inside.buckets.items number)) change xs) c.deref_mut.ensures.value
-    ∙ ap (λ (n : ℕ). changed_by (Some n) change inside.shelves.items) (sym shelf) in
-    let left = ap (λ (done : Dropping). done.stored.shelves) c.drop_idle_end-dropped.ensures.dropped in
-    let some : AreSome (with_items inside.shelves c.return_item.new.shelves).items c.drop_idle_end-dropped.new.shelves.items =
-    subst (AreSome (with_items inside.shelves c.return_item.new.shelves).items) (sym left)
-    (some-dropped (vec_len (with_items inside.shelves c.return_item.new.shelves))
-    (dropping_of (with_items inside.shelves c.return_item.new.shelves).items c.deref_mut-3.result.now inside.unused 0)) in
-    let buckets : (with_items (with_items inside.buckets c.return_item.new.buckets) c.drop_idle_end-dropped.new.buckets).items ≡ c.drop_idle_end-dropped.new.buckets =
-    with_items_is (with_items inside.buckets c.return_item.new.buckets) c.drop_idle_end-dropped.new.buckets (omega (arith, c.drop_idle_end-dropped.auto.buckets, c.deref_mut-3.ensures.len)) in (
-      known-left c.shelf_number-shelf.result change inside.blocks inside.shelves.items c.drop_idle_end-dropped.new.shelves.items
-          (subst (λ (xs : List KeptShelf). AreSome xs c.drop_idle_end-dropped.new.shelves.items) (items ∙ returned) some)
-          (omega (arith, c.len.ensures, c.if-shelf-len.false)) c.self.invariant.0,
+      subst (AreKnown c.follow_dropped.new.self) c.deref-7.ensures.value c.follow_dropped.ensures,
       subst (AreSpans c.drop_idle_end-dropped.new.spans) (sym buckets) c.drop_idle_end-dropped.ensures.spans,
     )

@@ -147,36 +147,30 @@ take-area-requires-clause-widest c =
     let a = allocation c.self.inside c.self.invariant c.args.size c.in-Some.sides (placement_seen c.in-Some-placement_of.place) c.prepare.new.self c.in_ok-found.found m ready c.in_ok-found.ensures.found in
     subst (store.IsWidest c.in_ok-found.found.shelf c.in_ok-found.found.bucket c.in-Some.sides.along) (sym ready) a.widest
 
-pub end_unless-end-requires-clause-short : goal.end_unless-end-requires-clause-short
-end_unless-end-requires-clause-short c =
+pub follow_place-requires-clause-short : goal.follow_place-requires-clause-short
+follow_place-requires-clause-short c =
     let m = made c.self.inside c.self.invariant c.args.size c.in-Some.sides c.placement_of.result c.in-Some-placement_of.place (sym c.asked.ensures ∙ c.in-Some.is) c.placement_of.ensures c.in-Some-placement_of.is in
     let ready = c.in_ok-found.ensures.ok in
     let a = allocation c.self.inside c.self.invariant c.args.size c.in-Some.sides (placement_seen c.in-Some-placement_of.place) c.prepare.new.self c.in_ok-found.found m ready c.in_ok-found.ensures.found in
     let after = c.take-area.ensures.records ∙ ap (stored_taken c.in_ok-found.found.shelf c.in_ok-found.found.bucket c.in-Some.sides.along) ready in
     subst (λ (stored : Stored). IsShort c.self.inside.frame stored.shelves) (sym after) a.short
 
-pub end_unless-end-requires-clause-kept : goal.end_unless-end-requires-clause-kept
-end_unless-end-requires-clause-kept c = λ there.
+pub follow_place-requires-clause-kept : goal.follow_place-requires-clause-kept
+follow_place-requires-clause-kept c = λ there.
     end-allocated c.self.inside (placement_seen c.in-Some-placement_of.place) c.prepare.new.self c.take-area.new.self c.in_ok-found.found.shelf c.in_ok-found.found.bucket c.in-Some.sides.along
-    c.self.invariant c.in_ok-found.ensures.ok c.take-area.ensures.records (c.is_there.ensures there)
+    c.self.invariant c.in_ok-found.ensures.ok c.take-area.ensures.records there
 
-pub needed_buckets-requires : goal.needed_buckets-requires
-needed_buckets-requires c =
-    let m = made c.self.inside c.self.invariant c.args.size c.in-Some.sides c.placement_of.result c.in-Some-placement_of.place (sym c.asked.ensures ∙ c.in-Some.is) c.placement_of.ensures c.in-Some-placement_of.is in
-    omega (arith, needed-few (state_in c.self.inside) c.args.size c.in-Some.sides c.self.inside.store (placement_seen c.in-Some-placement_of.place) c.self.invariant.witnessed.valid m)
-
-pub overflow_add-self : goal.overflow_add-self
-overflow_add-self c =
+pub follow_place-requires-clause-few : goal.follow_place-requires-clause-few
+follow_place-requires-clause-few c =
     let m = made c.self.inside c.self.invariant c.args.size c.in-Some.sides c.placement_of.result c.in-Some-placement_of.place (sym c.asked.ensures ∙ c.in-Some.is) c.placement_of.ensures c.in-Some-placement_of.is in
     omega (
       arith,
-      c.needed_buckets.ensures,
       c.self.invariant.totals.in_use,
       needed-few (state_in c.self.inside) c.args.size c.in-Some.sides c.self.inside.store (placement_seen c.in-Some-placement_of.place) c.self.invariant.witnessed.valid m,
     )
 
-pub overflow_add-self-2 : goal.overflow_add-self-2
-overflow_add-self-2 c =
+pub overflow_add-self : goal.overflow_add-self
+overflow_add-self c =
     let m = made c.self.inside c.self.invariant c.args.size c.in-Some.sides c.placement_of.result c.in-Some-placement_of.place (sym c.asked.ensures ∙ c.in-Some.is) c.placement_of.ensures c.in-Some-placement_of.is in
     let ready = c.in_ok-found.ensures.ok in
     let a = allocation c.self.inside c.self.invariant c.args.size c.in-Some.sides (placement_seen c.in-Some-placement_of.place) c.prepare.new.self c.in_ok-found.found m ready c.in_ok-found.ensures.found in
@@ -191,23 +185,23 @@ invariant_of-self-2 c =
     let frame = c.self.inside.frame in
     let after = c.take-area.ensures.records ∙ ap (stored_taken c.in_ok-found.found.shelf c.in_ok-found.found.bucket c.in-Some.sides.along) ready in
     let area = c.take-area.ensures.area ∙ ap (λ (stored : Stored). c.in-Some.sides.along * height_of stored.shelves c.in_ok-found.found.shelf) ready in
-    let ends = c.end_unless-end.ensures ∙ ap (λ (stored : Stored). end_of frame stored.shelves) after ∙ a.end in
-    let totals : HasTotals c.end_unless-end.result.along c.end_unless-end.result.across (c.self.inside.buckets_in_use + c.needed_buckets.result) (c.self.inside.allocated_space + c.take-area.result) a.new =
+    let ends = ap (λ (stored : Stored). end_of frame stored.shelves) after ∙ a.end in
+    let totals : HasTotals c.follow_place.new.column c.follow_place.new.height c.follow_place.new.in_use (c.self.inside.allocated_space + c.take-area.result) a.new =
     record {
-      column = ap (λ (sides : Sides). sides.along) ends;
-      height = ap (λ (sides : Sides). sides.across) ends ∙ ap (λ (f : Frame). available_height f a.new.shelves) (sym a.frame);
-      in_use = omega (arith, c.needed_buckets.ensures, c.self.invariant.totals.in_use, a.in_use);
+      column = c.follow_place.ensures.column ∙ ap (λ (sides : Sides). sides.along) ends;
+      height = c.follow_place.ensures.height ∙ ap (λ (sides : Sides). sides.across) ends ∙ ap (λ (f : Frame). available_height f a.new.shelves) (sym a.frame);
+      in_use = omega (arith, c.follow_place.ensures.in_use, c.self.invariant.totals.in_use, a.in_use);
       space = omega (arith, area, a.space, c.self.invariant.totals.space);
     } in
     record {
       unused = a.unused;
       witnessed = subst (λ (stored : Stored). Witnessed stored a.unused (stored_state frame stored)) (sym after) a.witnessed;
-      totals = subst (HasTotals c.end_unless-end.result.along c.end_unless-end.result.across (c.self.inside.buckets_in_use + c.needed_buckets.result) (c.self.inside.allocated_space + c.take-area.result))
+      totals = subst (HasTotals c.follow_place.new.column c.follow_place.new.height c.follow_place.new.in_use (c.self.inside.allocated_space + c.take-area.result))
           (sym (ap (stored_state frame) after ∙ a.read)) totals;
     }
 
 -- what is given, and the state after it
-allocates : (c : goal.After-self-4-1) → Allocates (state_in c.self.inside) c.args.size c.allocation-allocation.result (stored_state c.self.inside.frame c.take-area.new.self)
+allocates : (c : goal.After-self-1) → Allocates (state_in c.self.inside) c.args.size c.allocation-allocation.result (stored_state c.self.inside.frame c.take-area.new.self)
 allocates c =
     let m = made c.self.inside c.self.invariant c.args.size c.in-Some.sides c.placement_of.result c.in-Some-placement_of.place (sym c.asked.ensures ∙ c.in-Some.is) c.placement_of.ensures c.in-Some-placement_of.is in
     let ready = c.in_ok-found.ensures.ok in

@@ -1,7 +1,7 @@
 use Rattle.std.proofs.Common.{◌≡◌, ◌-◌, length, map, take}
 use Rattle.etagere_base.specs.Least.{first_least}
 use Rattle.bucket_index.specs.Private.Searching.{kept_waste}
-use Rattle.bucket_index.proofs.searching.least_waste.Given as goal
+use Rattle.bucket_index.proofs.searching.least_by_blocks.Given as goal
 
 -- the best of the shelves so far
 abbrev pub invariant-loop-from : goal.invariant-loop-from

@@ -1,6 +1,6 @@
 use Rattle.std.proofs.Common.{◌≡◌, ◌≤◌, drop}
 use Rattle.bucket_index.specs.Private.Searching.{exact_from}
-use Rattle.bucket_index.proofs.searching.exact_from.Given as goal
+use Rattle.bucket_index.proofs.searching.exact_by_blocks.Given as goal
 
 -- what is sought from the first shelf on is what is sought from here on
 abbrev pub invariant-loop-block : goal.invariant-loop-block

@@ -1,0 +1,27 @@
+use Rattle.std.proofs.Common.{◌+◌, sym, ◌∙◌, arith}
+use Rattle.bucket_index.specs.Private.Searching.{kept_waste}
+use Rattle.bucket_index.proofs.PassedShelves.{least-past}
+use Rattle.bucket_index.proofs.FoundShelves.{all-within, before-end}
+use Rattle.bucket_index.proofs.SteppedShelves.{best-of_all}
+use Rattle.bucket_index.proofs.searching.least_by_blocks.Goals as goal
+
+pub loop-from-preserved-then-from-behind : goal.loop-from-preserved-then-from-behind
+loop-from-preserved-then-from-behind c =
+    let behind = c.behind_narrow-behind in
+    least-past c.args.adds c.args.sides.now c.args.shelves.now c.loop-from.best c.loop-from.from behind.result c.loop-from.invariant behind.ensures.on (behind.ensures.narrow c.args.shelves.now c.requires.known)
+
+pub least_in-best-requires-clause-step : goal.least_in-best-requires-clause-step
+least_in-best-requires-clause-step c = c.step-step.ensures c.args.shelves.now c.requires.known
+
+pub returns-after-loop-from : goal.returns-after-loop-from
+returns-after-loop-from c =
+    let rank = kept_waste c.args.adds c.args.sides.now in
+    let is = before-end rank c.args.shelves.now c.loop-from.best c.loop-from.from (omega (arith, c.loop-from-test.false)) c.loop-from.invariant in
+    record { least = is; within = all-within rank c.args.shelves.now c.loop-from.best is }
+
+pub returns-then-is_least : goal.returns-then-is_least
+returns-then-is_least c =
+    let rank = kept_waste c.args.adds c.args.sides.now in
+    let is = sym (best-of_all c.step-step.result c.args.adds c.args.sides.now c.args.shelves.now c.least_in-best.result (c.loop-from.from + 8) (c.step-step.ensures c.args.shelves.now c.requires.known)
+    (sym c.least_in-best.ensures) (sym c.is_least.ensures ∙ c.if-is_least.true)) in
+    record { least = is; within = all-within rank c.args.shelves.now c.least_in-best.result is }
