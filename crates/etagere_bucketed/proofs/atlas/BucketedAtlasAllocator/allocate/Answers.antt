@@ -26,7 +26,7 @@ use Rattle.bucketed_records.proofs.Spelling.Fresh.{space-small}
 use Rattle.bucket_index.specs.declared.searching.Found.{Found}
 use Rattle.bucketed_store.specs.declared.placing.Placement as code
 use Rattle.bucketed_store.specs.Private.Placing.{Placement, kept_placement, placement_seen}
-use Rattle.bucketed_store.specs.Private.StoreEdits.{CanGive, IsShort, end_of, found_of, height_of, kept_allocation, live_items_of, stored_ready, stored_taken}
+use Rattle.bucketed_store.specs.Private.StoreEdits.{CanGive, IsShort, end_of, found_of, height_of, live_items_of, stored_ready, stored_taken}
 use Rattle.bucketed_store.specs.Private.StoreEdits as store
 use Rattle.bucketed_store.proofs.Spelling.AllocatedRecords.{IsAllocation, Makes, allocation-is, makes, needed-few, needs-shelf, refused}
 use Rattle.etagere_bucketed.specs.declared.atlas.BucketedAtlasAllocator.TheInside.{Inside}
