@@ -23,3 +23,13 @@ IsNoPixel state id x y =
     (rectangle : Rectangle) → rectangle_of state id ≡ Some rectangle
     → Covers rectangle (rectangle.min.x +ℤ pos x) (rectangle.min.y +ℤ pos y)
     → ⊥
+
+-- the pixel (x, y) of a rectangle, counted from its corner, lies so far from the left and from the top of what it is in
+pub record LiesAt (rectangle : Rectangle) (x y left top : ℕ) : Type 0 where
+  pub from_left : pos left ≡ rectangle.min.x +ℤ pos x
+  pub from_top : pos top ≡ rectangle.min.y +ℤ pos y
+  pub covered : Covers rectangle (pos left) (pos top)
+
+-- a rectangle has no pixel (x, y), counted from its corner
+abbrev pub HasNoPixel : Rectangle → ℕ → ℕ → Type 0
+HasNoPixel rectangle x y = Covers rectangle (rectangle.min.x +ℤ pos x) (rectangle.min.y +ℤ pos y) → ⊥

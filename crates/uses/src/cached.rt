@@ -2,7 +2,7 @@
 //! atlas is drawn as it is in the end.
 
 use anyhow::{Context, Result};
-use etagere::{DEFAULT_OPTIONS, Size, size2};
+use etagere::{AtlasAllocator, DEFAULT_OPTIONS, Size, size2};
 use glyph_shelf::GlyphCache;
 use std::io::{self, Read};
 use std::num::NonZeroUsize;
@@ -14,11 +14,28 @@ const SIDES: (i32, i32) = (160, 96);
 const MOST_GLYPHS: usize = 64;
 
 pub fn draw_text(rt: &(impl Input + Print + AllocGlobal)) -> Result<()> {
+    let text = text_of(rt)?;
+    draw_glyphs(rt, &text)
+}
+
+fn text_of(rt: &(impl Input + AllocGlobal)) -> Result<Vec<u8>> {
     let mut text = Vec::new(rt.alloc());
     rt.reader().read_to_end(&mut text)?;
+    Ok(text)
+}
+
+fn draw_glyphs(rt: &(impl Print + AllocGlobal), text: &[u8]) -> Result<()> {
     let mut cache = empty_cache(rt)?;
-    place_text(&mut cache, &text)?;
-    cache.atlas().dump_svg(&mut io::writer(rt))?;
+    draw_placed(rt, &mut cache, text)
+}
+
+fn draw_placed(rt: &impl Print, cache: &mut GlyphCache, text: &[u8]) -> Result<()> {
+    place_text(cache, text)?;
+    draw(rt, cache.atlas())
+}
+
+fn draw(rt: &impl Print, atlas: &AtlasAllocator) -> Result<()> {
+    atlas.dump_svg(&mut io::writer(rt))?;
     Ok(())
 }
 

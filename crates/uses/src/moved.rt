@@ -17,12 +17,26 @@ const COUNT: usize = 400;
 const STAY: usize = 40;
 
 pub fn draw_both(rt: &(impl Print + AllocGlobal)) -> Result<()> {
+    let mut page = new_page(rt)?;
+    draw_used(rt, &mut page)
+}
+
+/// What a new atlas promises ends here, so that it isn't gone through in what draws one.
+fn new_page(rt: &impl AllocGlobal) -> Result<AtlasAllocator> {
     let (width, height) = SIDES;
-    let size = size2(width, height);
-    let mut atlas = AtlasAllocator::new(rt.alloc(), size)?;
-    use_for_long(rt, &mut atlas)?;
-    let done = rearranged(rt.alloc(), &atlas, size)?;
-    draw_pages(&mut io::writer(rt), &atlas, &done.atlas)
+    Ok(AtlasAllocator::new(rt.alloc(), size2(width, height))?)
+}
+
+fn draw_used(rt: &(impl Print + AllocGlobal), page: &mut AtlasAllocator) -> Result<()> {
+    use_for_long(rt, page)?;
+    let moved = moved_page(rt, page)?;
+    draw_pages(&mut io::writer(rt), page, &moved)
+}
+
+/// A new page of the same size, into which all has moved.
+fn moved_page(rt: &impl AllocGlobal, page: &AtlasAllocator) -> Result<AtlasAllocator> {
+    let (width, height) = SIDES;
+    Ok(rearranged(rt.alloc(), page, size2(width, height))?.atlas)
 }
 
 /// Draws both pages side by side.

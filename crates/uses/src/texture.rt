@@ -2,11 +2,11 @@
 //!
 //! Definition: `Texture`.
 
-ghost use Rattle.std.specs.Prelude.{◌≡◌, ◌+◌, ◌*◌, ◌^◌, ◌<◌, ◌≤◌, ◌≤ℤ◌, pos, IfSome, IfNone};
+ghost use Rattle.std.specs.Prelude.{◌≡◌, ◌+◌, ◌*◌, ◌^◌, ◌<◌, ◌≤◌, ◌≤ℤ◌, ◌<ℤ◌, pos, IfSome, IfNone};
 ghost use Rattle.etagere_base.specs.Rectangles.{IsInside};
 ghost use Rattle.shelf_model.specs.Atlas.{KeepsPromises};
 ghost use Rattle.shelf_model.specs.Places.{rectangle_of};
-ghost use Rattle.uses.specs.Texture.{IsNoPixel, IsPixel};
+ghost use Rattle.uses.specs.Texture.{HasNoPixel, IsNoPixel, IsPixel, LiesAt};
 
 use etagere::{AllocId, AtlasAllocator, Rectangle, Size};
 
@@ -25,13 +25,27 @@ pub fn pixel_offset(atlas: &AtlasAllocator, id: AllocId, x: u32, y: u32) -> Opti
         ≤ atlas.now.frame.width * atlas.now.frame.height * PIXEL_BYTES) }
 {
     let Size { width, height } = atlas.size();
-    let Rectangle { min, max } = rectangle_inside(atlas, id)?;
+    let rectangle = rectangle_inside(atlas, id)?;
+    let (left, top) = pixel_of(rectangle, x, y)?;
+    Some(byte_at(whole(width), whole(height), left, top))
+}
+
+/// Where a pixel of a rectangle lies in what the rectangle is in, if it has that pixel.
+fn pixel_of(rectangle: Rectangle, x: u32, y: u32) -> Option<(usize, usize)>
+    requires from_left { pos 0 ≤ℤ rectangle.min.x }
+    requires from_top { pos 0 ≤ℤ rectangle.min.y }
+    requires wide { rectangle.min.x <ℤ rectangle.max.x }
+    requires tall { rectangle.min.y <ℤ rectangle.max.y }
+    ensures lies { IfSome result (λ pixel. LiesAt rectangle x y pixel.0 pixel.1) }
+    ensures none { IfNone result (HasNoPixel rectangle x y) }
+{
+    let Rectangle { min, max } = rectangle;
     let left = whole(min.x) + x as usize;
     let top = whole(min.y) + y as usize;
     if left >= whole(max.x) || top >= whole(max.y) {
         return None;
     }
-    Some(byte_at(whole(width), whole(height), left, top))
+    Some((left, top))
 }
 
 /// What is allocated under an id lies inside the atlas.

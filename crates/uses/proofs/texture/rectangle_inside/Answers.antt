@@ -1,4 +1,4 @@
-use Rattle.std.proofs.Common.{◌≡◌, Bool, Option, option_map, ap, sym, subst, ◌∙◌, ◌==◌, IfSome, ⊎_elim}
+use Rattle.std.proofs.Common.{Bool, Option, option_map, ap, sym, subst, ◌∙◌, ◌==◌, IfSome, ⊎_elim}
 use Rattle.std.proofs.lemmas.List.Folds.{find_at}
 use Rattle.std.proofs.lemmas.Option.{slice_get_cases}
 use Rattle.std.specs.List.{position_or_len}
