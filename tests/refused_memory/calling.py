@@ -67,7 +67,8 @@ def mended(line, answer):
     if answer[0] == "unread":
         return [f"{place} {NOTHING}"]
     if answer[0].startswith("no memory"):
-        return [f"{place} remove {key}" for key in answer[0].split(" ")[3:]] or [f"{place} {NOTHING}"]
+        keys = (key.partition("=")[0] for key in answer[0].split(" ")[3:])
+        return [f"{place} remove {key}" for key in keys] or [f"{place} {NOTHING}"]
     return [line]
 
 

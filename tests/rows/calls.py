@@ -1,15 +1,15 @@
 """The calls of a test, made one after the other by the program of crates/rows, each compared with its row."""
 
+import json
 import re
 import subprocess
 
 from tables import expanded
 
-# What is answered where something couldn't be called or made: a row has to name it, and can't name the first.
-NOT_MADE = "unread"
-NOT_DONE = {NOT_MADE, "no such call", "nothing was made", "no memory"}
+# What is answered where something couldn't be called or made: a row has to name it.
+NOT_DONE = {"unread", "no such call", "nothing was made", "no memory"}
 ATLASES = ("atlas", "bucketed")
-KINDS = (*ATLASES, "cache", "pages", "padded", "padded_cache", "paged_cache")
+KINDS = (*ATLASES, "cache", "pages", "padded", "padded_cache", "paged_cache", "keyed", "map")
 # What the program writes in more than a line, up to one that ends it.
 LISTS = ("picture", "part", "iter", "moved")
 PICTURES = ("picture", "part")
@@ -17,8 +17,13 @@ PICTURES = ("picture", "part")
 IN_PLACE = ("fault ", "no memory", "no such call", "nothing was made")
 # What stands in rows for numbers.
 NAMED = {"h": "0", "v": "1", "first": "0", "fullest": "1"}
-# What takes a text; all other calls take numbers.
+# What takes a text; all other calls take numbers, and those of a map names too.
 OF_TEXTS = ("restore", "steps")
+NUMBER, NAME = r"-?\d+", r"[a-z]+"
+# How an answer begins that bounds a number.
+AT_MOST = "at most "
+# The link of the last record in a snapshot.
+NO_RECORD = 65535
 
 
 class Otherwise(Exception):
@@ -55,7 +60,8 @@ class Stage:
     def tell(self, place, call):
         """What the program answers to a call of what is in a place."""
         word, _, words = call.partition(" ")
-        if word not in OF_TEXTS and not re.fullmatch(r"(-?\d+( (?=.)|$))*", words):
+        form = f"{NUMBER}|{NAME}" if self.kind == "map" else NUMBER
+        if word not in OF_TEXTS and not re.fullmatch(rf"(({form})( (?=.)|$))*", words):
             raise Otherwise(f"no numbers: {words}")
         self.running.stdin.write(f"{place} {call}\n")
         lines = [self.running.stdout.readline()]
@@ -79,7 +85,9 @@ class Stage:
         if word == "moved":
             return " ".join(line for line in self.tell(place, call).splitlines() if line != "end")
         answer = self.tell(place, call)
-        return answer + " none" if answer.endswith(" evicts") else answer
+        if answer.startswith(" evicts"):
+            answer = answer.removeprefix(" ")
+        return answer + " none" if answer.endswith("evicts") else answer
 
     def answer(self, call):
         """What a call answers, in which a position may stand for an id."""
@@ -102,7 +110,8 @@ class Stage:
         if word in KINDS:
             return self.begin(words)
         if word in ("clone", "restore"):
-            answer = self.tell(1, f"restore {self.saved}" if word == "restore" else "clone")
+            names = f"{words.replace(' ', ',')} " if words else ""
+            answer = self.tell(1, f"restore {names}{self.saved}" if word == "restore" else "clone")
             self.has_other = answer == "made"
             return answer
         if word == "save":
@@ -110,6 +119,8 @@ class Stage:
             return self.saved
         if word == "change":
             return self.change(words)
+        if word == "each":
+            return self.change_each(words)
         if word == "steps":
             return self.tell(0, f"steps {self.saved}")
         if word == "first":
@@ -143,6 +154,16 @@ class Stage:
         self.saved = self.saved.replace(old, new)
         return "changed"
 
+    def change_each(self, words):
+        """Changes a field in each record of a list of what was saved, to a number, or to that of the next record."""
+        kind, field, _, number = words.split(" ")
+        saved = json.loads(self.saved)
+        following = [*range(1, len(saved[kind])), NO_RECORD]
+        for record, follows in zip(saved[kind], following, strict=True):
+            record[field] = follows if number == "next" else int(number)
+        self.saved = json.dumps(saved, separators=(",", ":"))
+        return "changed"
+
     def of_other(self, call):
         """What a call of the other one answers, or the words that make it."""
         word, _, words = call.partition(" ")
@@ -159,11 +180,16 @@ class Stage:
 
 
 def is_wanted(answer, wanted):
-    """Whether an answer is one of those that a row names, if it names any. One that ends in two dots says how it
-    begins."""
-    ones = [] if wanted is None else wanted.split(" or ")
-    is_one = lambda one: answer.startswith(one[:-2]) if one.endswith("..") else answer == one
-    return wanted is None or any(map(is_one, ones))
+    """Whether an answer is one of those that a row names, if it names any."""
+    return wanted is None or any(is_one(answer, one) for one in wanted.split(" or "))
+
+
+def is_one(answer, wanted):
+    """Whether an answer is this one, which says only how it begins where it ends in two dots, or what number it is at
+    most."""
+    if wanted.startswith(AT_MOST):
+        return 1 <= int(answer) <= int(wanted.removeprefix(AT_MOST))
+    return answer.startswith(wanted[:-2]) if wanted.endswith("..") else answer == wanted
 
 
 def judge(program, test):
@@ -173,7 +199,7 @@ def judge(program, test):
         for row, turn in test.turns():
             answer = answered(stage, row, turn)
             wanted = None if row.wanted is None else expanded(row.wanted, turn)
-            is_done = answer not in ({NOT_MADE} if wanted else NOT_DONE)
+            is_done = wanted is not None or answer not in NOT_DONE
             if not is_done or not is_wanted(answer, wanted):
                 raise Otherwise(f"line {row.line}: answered {answer}")
     finally:

@@ -17,9 +17,20 @@ def bytes_of(words):
     first, *parts = words[1:-1].split("\\")
     found = first.encode()
     for part in parts:
-        found += bytes.fromhex(part[1:3]) if part[0] == "x" else ESCAPES[part[0]]
-        found += part[3 if part[0] == "x" else 1 :].encode()
+        byte, rest = escaped(part)
+        found += byte + rest.encode()
     return found
+
+
+def escaped(part):
+    """The bytes for what stands behind a backslash, and the rest."""
+    if part[0] == "x":
+        return bytes.fromhex(part[1:3]), part[3:]
+    if part[0] == "{":
+        repeated, _, rest = part[1:].partition("}")
+        byte, _, count = repeated.partition(" ")
+        return bytes.fromhex(byte) * int(count), rest
+    return ESCAPES[part[0]], part[1:]
 
 
 def changed(text, words):

@@ -16,8 +16,3 @@ pub fn holds_at(rt: &impl Abort, fact: bool, case: &impl Debug) {
 pub fn equal<T: PartialEq + Debug>(rt: &impl Abort, found: &T, wanted: &T) {
     assert_eq!(rt; found, wanted);
 }
-
-/// The last tells of which case it is.
-pub fn equal_at<T: PartialEq + Debug>(rt: &impl Abort, found: &T, wanted: &T, case: &impl Debug) {
-    assert_eq!(rt; found, wanted, "at {case:?}");
-}

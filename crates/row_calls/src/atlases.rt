@@ -1,11 +1,11 @@
 //! The calls that atlases of both kinds have.
 
+use crate::kinds::{Atlas, NotGrown};
 use crate::lines::{asked, id_of, rectangle_of, say, say_fault, say_if, say_placed, size_of};
 use crate::places::NotMade;
 use etagere::{OptionsFault, RestoreFault, Size};
 use std::alloc::Global;
 use std::io;
-use test_support::atlases::{Atlas, NotGrown};
 
 /// An atlas of these words.
 pub fn made<A: Atlas>(alloc: Global, words: &str) -> Result<A, NotMade> {

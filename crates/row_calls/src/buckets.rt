@@ -1,6 +1,7 @@
 //! Calls of a bucketed atlas.
 
 use crate::atlases;
+use crate::kinds::Atlas;
 use crate::lines::{say, say_each, say_size, size_of};
 use crate::places::{Called, NotMade};
 use etagere::{
@@ -9,7 +10,6 @@ use etagere::{
 };
 use std::alloc::Global;
 use std::io;
-use test_support::atlases::Atlas;
 
 impl Called for BucketedAtlasAllocator {
     fn made(alloc: Global, words: &str) -> Result<BucketedAtlasAllocator, NotMade> {
@@ -59,7 +59,8 @@ fn read(alloc: Global, text: &str) -> Option<BucketedSnapshot> {
 }
 
 fn steps_of(alloc: Global, saved: BucketedSnapshot) -> Result<u64, NotMade> {
-    let mut steps = 0;
+    // Whatever it was, it becomes their number.
+    let mut steps = u64::MAX;
     match laws::restore_bucketed(alloc, saved, &mut steps) {
         Err(RestoreFault::Memory) => Err(NotMade::NoMemory),
         _ => Ok(steps),

@@ -119,12 +119,6 @@ pub fn say_bracketed(rt: &impl Print, rectangle: &Rectangle) -> io::Result<()> {
     print!(rt; "({},{})-({},{})", min.x, min.y, max.x, max.y)
 }
 
-/// Writes the corners of a rectangle as a replay does, within a line.
-pub fn say_corners(rt: &impl Print, rectangle: Rectangle) -> io::Result<()> {
-    let Rectangle { min, max } = rectangle;
-    print!(rt; "{} {} {} {}", min.x, min.y, max.x, max.y)
-}
-
 /// Writes what an allocation answers.
 pub fn say_placed(
     rt: &impl Print,

@@ -5,12 +5,14 @@ use std::alloc::Global;
 use std::io;
 
 /// Why something isn't made.
-#[derive(Clone, Copy)]
+#[derive(Drop)]
 pub enum NotMade {
     /// There was no memory.
     NoMemory,
     /// A fault of this number, which isn't that of memory.
     Fault(u32),
+    /// A fault that is told so, which isn't that of memory.
+    Told(String),
     /// No words say it, or no text can be read.
     Unread,
 }
@@ -109,6 +111,7 @@ fn say_not_made(rt: &impl Print, why: NotMade) -> io::Result<()> {
     match why {
         NotMade::NoMemory => say(rt, "no memory"),
         NotMade::Fault(number) => say_fault(rt, number),
+        NotMade::Told(text) => println!(rt; "fault {text}"),
         NotMade::Unread => say(rt, "unread"),
     }
 }

@@ -1,6 +1,7 @@
 //! Calls of a shelf atlas.
 
 use crate::atlases;
+use crate::kinds::Atlas;
 use crate::lines::{
     id_of, say, say_each, say_fault, say_given, say_number, say_rectangle, say_size, size_of,
 };
@@ -13,7 +14,6 @@ use etagere::{
 use moves::atlases::{Move, Rearranged, rearranged};
 use std::alloc::{AllocError, Global};
 use std::io;
-use test_support::atlases::Atlas;
 
 impl Called for AtlasAllocator {
     fn made(alloc: Global, words: &str) -> Result<AtlasAllocator, NotMade> {
@@ -69,7 +69,8 @@ fn read(alloc: Global, text: &str) -> Option<AtlasSnapshot> {
 }
 
 fn steps_of(alloc: Global, saved: AtlasSnapshot) -> Result<u64, NotMade> {
-    let mut steps = 0;
+    // Whatever it was, it becomes their number.
+    let mut steps = u64::MAX;
     match laws::restore_atlas(alloc, saved, &mut steps) {
         Err(RestoreFault::Memory) => Err(NotMade::NoMemory),
         _ => Ok(steps),
@@ -103,10 +104,14 @@ fn say_index(rt: &impl Print, index: Option<u32>) -> io::Result<()> {
     }
 }
 
-/// Writes a line for each allocation, in the order in which they are given, and one that ends them.
+/// Writes a line for each allocation, in the order in which they are given, and one that ends them, if none follows.
 fn list(rt: &impl Print, atlas: &AtlasAllocator) -> io::Result<()> {
-    for allocation in atlas {
+    let mut allocations = atlas.iter();
+    for allocation in &mut allocations {
         say_given(rt, "at", &allocation)?;
+    }
+    if allocations.next().is_some() {
+        say(rt, "more")?;
     }
     say(rt, "end")
 }

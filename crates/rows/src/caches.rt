@@ -1,9 +1,9 @@
 //! Calls of a cache of glyphs.
 
 use crate::moved_caches;
-use etagere::{AllocId, AllocatorOptions, DEFAULT_OPTIONS, OptionsFault, Rectangle, Size, size2};
+use etagere::{AllocatorOptions, DEFAULT_OPTIONS, OptionsFault, Rectangle, Size, size2};
 use glyph_shelf::laws::saved_and_restored;
-use glyph_shelf::{CacheRestoreFault, CacheSnapshot, GlyphCache, GlyphFault, Placed, SavedKey};
+use glyph_shelf::{CacheRestoreFault, CacheSnapshot, GlyphCache, GlyphFault, Placed};
 use row_calls::atlases::of_options;
 use row_calls::lines::{
     key_and_size_of, key_of, numbers, parted, say, say_bracketed, say_evicted, say_fault, say_if,
@@ -70,25 +70,20 @@ impl Called for CalledCache {
             "frame" => begin_frame(cache, rt),
             "moved" => moved_caches::say_moved(cache, rt, words),
             "rearrange" => moved_caches::rearrange(cache, rt, words),
-            _ => say_state(cache, rt, call, words),
+            _ => say_state(cache, rt, call),
         }
     }
 }
 
 /// The calls that change nothing.
-fn say_state(
-    cache: &GlyphCache,
-    rt: &(impl Print + AllocGlobal),
-    call: &str,
-    words: &str,
-) -> io::Result<()> {
+fn say_state(cache: &GlyphCache, rt: &impl Print, call: &str) -> io::Result<()> {
     match call {
         "used" => say_number(rt, used(cache)),
         "len" => say_number(rt, len(cache)),
         "capacity" => say_number(rt, capacity(cache)),
         "empty" => say_if(rt, is_empty(cache), "yes", "no"),
         "allocated" => say_number(rt, allocated(cache)),
-        _ => say_changed(cache, rt, call, words),
+        _ => say(rt, "no such call"),
     }
 }
 
@@ -99,7 +94,7 @@ fn place(cache: &mut GlyphCache, rt: &impl Print, words: &str) -> io::Result<()>
 }
 
 /// Writes what a key that is placed answers.
-fn say_placed(rt: &impl Print, answer: &Result<Placed, GlyphFault>) -> io::Result<()> {
+pub fn say_placed(rt: &impl Print, answer: &Result<Placed, GlyphFault>) -> io::Result<()> {
     match answer {
         Ok(placed) => say_entered(rt, placed),
         Err(GlyphFault::Memory(evicted)) => say_unentered(rt, evicted),
@@ -120,54 +115,6 @@ pub fn say_unentered(rt: &impl Print, evicted: &[u64]) -> io::Result<()> {
     say_evicted(rt, evicted)
 }
 
-/// The calls that save a cache, change what is saved, and restore it.
-fn say_changed(
-    cache: &GlyphCache,
-    rt: &(impl Print + AllocGlobal),
-    call: &str,
-    words: &str,
-) -> io::Result<()> {
-    match call {
-        "with_capacity" | "with_key" | "with_id" | "with_space" | "without_last" => {
-            say_restored(rt, &changed(cache, rt.alloc(), call, key_of(words)))
-        }
-        _ => say(rt, "no such call"),
-    }
-}
-
-fn say_restored(
-    rt: &impl Print,
-    restored: &Result<GlyphCache, CacheRestoreFault>,
-) -> io::Result<()> {
-    match restored {
-        Ok(_) => say(rt, "restored"),
-        Err(CacheRestoreFault::Memory) => say(rt, "no memory"),
-        Err(fault) => say_fault(rt, fault.number()),
-    }
-}
-
-/// Makes what is saved say something else, as the call tells.
-fn change(saved: &mut CacheSnapshot, call: &str, number: u64) {
-    match call {
-        "with_capacity" => saved.capacity = usize::try_from(number).unwrap_or(0),
-        "with_space" => saved.atlas.allocated_space = i32::try_from(number).unwrap_or(0),
-        "without_last" => {
-            let _ = saved.keys.pop();
-        }
-        _ => change_first(saved.keys.get_mut(0), call, number),
-    }
-}
-
-/// Gives the key that was used last another number, or another id.
-fn change_first(first: Option<&mut SavedKey>, call: &str, number: u64) {
-    if let Some(first) = first {
-        match call {
-            "with_key" => first.key = number,
-            _ => first.id = AllocId::deserialize(u32::try_from(number).unwrap_or(0)),
-        }
-    }
-}
-
 // What these calls promise ends in functions that promise nothing, so that it isn't gone through in what uses them.
 
 fn new_cache(
@@ -184,11 +131,14 @@ fn copy_of(alloc: Global, cache: &GlyphCache) -> Result<GlyphCache, CacheRestore
 }
 
 fn text_of(alloc: Global, cache: &GlyphCache) -> Option<String> {
-    let saved = cache.snapshot().ok()?;
-    String::from_utf8(write_saved_cache(alloc, &saved).ok()?).ok()
+    write(alloc, &cache.snapshot().ok()?)
 }
 
-fn read(alloc: Global, text: &str) -> Option<CacheSnapshot> {
+pub fn write(alloc: Global, saved: &CacheSnapshot) -> Option<String> {
+    String::from_utf8(write_saved_cache(alloc, saved).ok()?).ok()
+}
+
+pub fn read(alloc: Global, text: &str) -> Option<CacheSnapshot> {
     read_saved_cache(alloc, text.as_bytes()).ok()
 }
 
@@ -201,18 +151,6 @@ fn not_restored(fault: CacheRestoreFault) -> NotMade {
         CacheRestoreFault::Memory => NotMade::NoMemory,
         _ => NotMade::Fault(fault.number()),
     }
-}
-
-/// What is restored of what is saved with a change.
-fn changed(
-    cache: &GlyphCache,
-    alloc: Global,
-    call: &str,
-    number: u64,
-) -> Result<GlyphCache, CacheRestoreFault> {
-    let mut saved = cache.snapshot().map_err(|_| CacheRestoreFault::Memory)?;
-    change(&mut saved, call, number);
-    restored_of(alloc, saved)
 }
 
 fn placed(cache: &mut GlyphCache, key: u64, size: Size) -> Result<Placed, GlyphFault> {

@@ -1,14 +1,16 @@
 //! Makes the calls of standard input, one a line, and writes a line for each answer. `tests/rows/run` writes the calls of
 //! its rows here, and compares the answers.
 //!
-//! The argument is the kind of what is called: `atlas`, `bucketed`, `cache`, `pages`, `padded`, `padded_cache` or
-//! `paged_cache`. There are two places for such a one, and a line is the number of a place, 0 or 1, the call, and its
+//! The argument is the kind of what is called: `atlas`, `bucketed`, `cache`, `pages`, `padded`, `padded_cache`,
+//! `paged_cache`, `keyed` or `map`. There are two places for such a one, and a line is the number of a place, 0 or 1, the call, and its
 //! words. With `run` or `stream` standard input is a script.
 //!
 //! `tests/refused_memory/run` refuses memory to the calls of rows.
 #![tactic(auto)]
 
 mod caches;
+mod keyed;
+mod maps;
 mod moved_caches;
 mod padded_caches;
 mod padded_pages;
@@ -17,6 +19,8 @@ mod pages;
 mod runs;
 
 use crate::caches::CalledCache;
+use crate::keyed::CalledKeys;
+use crate::maps::CalledMap;
 use crate::padded_caches::CalledPaddedCache;
 use crate::padded_pages::CalledPaddedPages;
 use crate::paged_caches::CalledPagedCache;
@@ -41,6 +45,8 @@ fn answer_kind(rt: &HostRuntime, kind: &str) -> Result<()> {
         "padded" => answer_all::<CalledPaddedPages, _>(rt),
         "padded_cache" => answer_all::<CalledPaddedCache, _>(rt),
         "paged_cache" => answer_all::<CalledPagedCache, _>(rt),
+        "keyed" => answer_all::<CalledKeys, _>(rt),
+        "map" => answer_all::<CalledMap, _>(rt),
         "run" => runs::run(rt),
         "stream" => runs::stream(rt),
         _ => bail!("no such kind"),

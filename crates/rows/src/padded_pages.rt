@@ -5,11 +5,11 @@ use crate::pages::{
 };
 use atlas_pages::runs::{PageCommand, PageReply};
 use atlas_pages::{AtlasPages, PageOptions, PagesFault};
-use etagere::{AllocId, Rectangle};
+use etagere::{AllocId, Rectangle, Refusal, Size};
 use padding::Padding;
 use padding::pages::PaddedPages;
 use padding::pages::runs::answer_on_padded_pages;
-use row_calls::lines::{numbers, say, say_rectangle};
+use row_calls::lines::{numbers, say, say_rectangle, say_size, size_of};
 use row_calls::places::{Called, NotMade};
 use std::alloc::Global;
 use std::io;
@@ -44,6 +44,7 @@ impl Called for CalledPaddedPages {
         match call {
             "get" => say_rectangle(rt, rectangle_of(pages, page_and_id_of(words))),
             "iter" => list(pages, rt),
+            "with_padding" => say_padded(rt, padded(pages, size_of(words))),
             "spaces" => say_spaces(rt, spaces(pages.pages())),
             _ => match command_of(call, words) {
                 Some(command) => say_reply(rt, &answered(pages, command)),
@@ -69,6 +70,14 @@ fn list(pages: &PaddedPages, rt: &impl Print) -> io::Result<()> {
     say(rt, "end")
 }
 
+/// Writes how long the sides become, or why there is no room for them.
+fn say_padded(rt: &impl Print, padded: Result<Size, Refusal>) -> io::Result<()> {
+    match padded {
+        Ok(size) => say_size(rt, size),
+        Err(refusal) => println!(rt; "reason {}", refusal.number()),
+    }
+}
+
 // What these calls promise ends in functions that promise nothing, so that it isn't gone through in what uses them.
 
 fn new_pages(
@@ -85,6 +94,10 @@ fn with_padding(pages: AtlasPages, padding: Padding) -> PaddedPages {
 
 fn rectangle_of(pages: &PaddedPages, (page, id): (u32, AllocId)) -> Option<Rectangle> {
     pages.get(page, id)
+}
+
+fn padded(pages: &PaddedPages, size: Size) -> Result<Size, Refusal> {
+    pages.padding().padded(size)
 }
 
 fn answered(pages: &mut PaddedPages, command: PageCommand) -> PageReply {

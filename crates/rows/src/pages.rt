@@ -4,6 +4,7 @@ use atlas_pages::laws::saved_and_restored;
 use atlas_pages::runs::{PageCommand, PageReply, answer_on_pages};
 use atlas_pages::{
     AtlasPages, PageChoice, PageOptions, PagedAllocation, PagesFault, PagesRestoreFault,
+    PagesSnapshot,
 };
 use etagere::{AllocId, AllocatorOptions, DEFAULT_OPTIONS, Rectangle, size2};
 use moves::pages::{PageMove, RearrangedPages, rearranged_pages};
@@ -11,6 +12,7 @@ use row_calls::lines::{
     id_of, numbers, parted, say, say_given, say_if, say_number, say_rectangle, size_of,
 };
 use row_calls::places::{Called, NotMade};
+use saved_collections::pages::{read_saved_pages, write_saved_pages};
 use std::alloc::{AllocError, Global};
 use std::io;
 
@@ -30,6 +32,18 @@ impl Called for CalledPages {
         match copy_of(alloc, &self.0) {
             Ok(pages) => Ok(CalledPages(pages)),
             Err(_) => Err(NotMade::NoMemory),
+        }
+    }
+
+    fn saved(&self, alloc: Global) -> Option<String> {
+        text_of(alloc, &self.0)
+    }
+
+    fn restored(alloc: Global, text: &str) -> Result<CalledPages, NotMade> {
+        let saved = read(alloc, text).ok_or(NotMade::Unread)?;
+        match restored_of(alloc, saved) {
+            Ok(pages) => Ok(CalledPages(pages)),
+            Err(fault) => Err(not_restored(alloc, fault)),
         }
     }
 
@@ -53,6 +67,17 @@ impl Called for CalledPages {
                 None => say(rt, "no such call"),
             },
         }
+    }
+}
+
+/// The message of a fault.
+fn not_restored(alloc: Global, fault: PagesRestoreFault) -> NotMade {
+    if fault == PagesRestoreFault::Memory {
+        return NotMade::NoMemory;
+    }
+    match fault.to_string(alloc) {
+        Ok(text) => NotMade::Told(text),
+        Err(_) => NotMade::NoMemory,
     }
 }
 
@@ -160,6 +185,19 @@ fn new_pages(alloc: Global, options: &PageOptions) -> Result<AtlasPages, PagesFa
 
 pub fn copy_of(alloc: Global, pages: &AtlasPages) -> Result<AtlasPages, PagesRestoreFault> {
     saved_and_restored(alloc, pages)
+}
+
+fn text_of(alloc: Global, pages: &AtlasPages) -> Option<String> {
+    let saved = pages.snapshot().ok()?;
+    String::from_utf8(write_saved_pages(alloc, &saved).ok()?).ok()
+}
+
+fn read(alloc: Global, text: &str) -> Option<PagesSnapshot> {
+    read_saved_pages(alloc, text.as_bytes()).ok()
+}
+
+fn restored_of(alloc: Global, saved: PagesSnapshot) -> Result<AtlasPages, PagesRestoreFault> {
+    AtlasPages::restore(alloc, saved)
 }
 
 fn moved(alloc: Global, pages: &AtlasPages) -> Result<RearrangedPages, AllocError> {

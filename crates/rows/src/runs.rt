@@ -1,14 +1,14 @@
 //! Runs and streams of a script. What is written is what a replay of the script writes.
 
 use anyhow::{Context, Result, bail};
-use etagere::{Allocation, OptionsFault, Rectangle};
+use etagere::OptionsFault;
 use etagere_run::{
     Reply, RunFault, StreamFault, run_atlas, run_bucketed, stream_atlas, stream_bucketed,
 };
-use row_calls::lines::{say, say_corners};
 use run_scripts::reading::read_all;
+use run_scripts::reply_text::{Line, line_of};
 use run_scripts::script::{Commands, Script, read_script};
-use std::io;
+use std::io::{self, Write};
 
 /// Runs the script of standard input as a whole.
 pub fn run(rt: &(impl Input + Print + AllocGlobal)) -> Result<()> {
@@ -77,35 +77,10 @@ fn say_options(rt: &impl Print, fault: OptionsFault) -> Result<()> {
 
 /// Writes the lines of the replies of a run.
 fn say_all(rt: &impl Print, replies: &[Reply]) -> io::Result<()> {
+    let mut line = Line::new();
+    let mut writer = io::writer(rt);
     for reply in replies {
-        say_reply(rt, reply)?;
+        writer.write_all(line_of(reply, &mut line))?;
     }
     Ok(())
-}
-
-/// Writes the line of a reply, as a replay does.
-fn say_reply(rt: &impl Print, reply: &Reply) -> io::Result<()> {
-    match reply {
-        Reply::Placed(given) => say_placed(rt, given),
-        Reply::At(rectangle, index) => say_at(rt, *rectangle, *index),
-        Reply::GrowRefused(number) => println!(rt; "grow refused {number}"),
-        Reply::Refused => say(rt, "refused"),
-        Reply::Returned => say(rt, "returned"),
-        Reply::NotLive => say(rt, "not live"),
-        Reply::Cleared => say(rt, "cleared"),
-        Reply::Grown => say(rt, "grown"),
-        Reply::NoMemory => say(rt, "no memory"),
-    }
-}
-
-fn say_placed(rt: &impl Print, given: &Allocation) -> io::Result<()> {
-    print!(rt; "placed {} ", given.id.serialize())?;
-    say_corners(rt, given.rectangle)?;
-    say(rt, "")
-}
-
-fn say_at(rt: &impl Print, rectangle: Rectangle, index: u32) -> io::Result<()> {
-    rt.print("at ")?;
-    say_corners(rt, rectangle)?;
-    println!(rt; " {index}")
 }

@@ -1,6 +1,6 @@
-//! Readers and writers that move few bytes at once, and come to an end: there they fail, are
-//! interrupted, or move no byte. They end at every later call too, or once alone and then work.
-//! They count the calls after the first end, so that a test sees whether a call was retried.
+//! Readers and writers that move few bytes at once, and come to an end: there they fail, are interrupted, or move no byte.
+//! They end at every later call too, or once alone and then work. They count the calls after the first end, so that a
+//! test sees whether a call was retried.
 
 ghost use Rattle.std.specs.Prelude.{◌≡◌, IfOk};
 
@@ -31,8 +31,8 @@ impl End {
 }
 
 /// Counts the calls of a stream that come after its first end.
-#[derive(Clone, Copy, Debug)]
-struct LaterCalls {
+#[derive(Clone, Copy)]
+pub struct LaterCalls {
     has_ended: bool,
     count: usize,
 }
@@ -50,32 +50,26 @@ impl LaterCalls {
     }
 }
 
-/// Gives the bytes of `rest`, at most `at_once` in a call, and then ends.
+/// Gives the bytes of `rest`, at most `at_once` in a call, and then ends. Where it has more bytes for `later`, it ends so
+/// once, then gives these, and then none.
 #[derive(Drop)]
 pub struct FakeReader<'a> {
-    rest: &'a [u8],
-    at_once: usize,
-    end: End,
-    later: Option<&'a [u8]>,
-    later_calls: LaterCalls,
+    pub rest: &'a [u8],
+    pub at_once: usize,
+    pub end: End,
+    pub later: Option<&'a [u8]>,
+    pub later_calls: LaterCalls,
 }
 
 impl<'a> FakeReader<'a> {
-    pub fn new(rest: &'a [u8], at_once: usize, end: End) -> FakeReader<'a> {
+    /// A reader of seven bytes at once, and then none.
+    pub fn new(rest: &'a [u8]) -> FakeReader<'a> {
         FakeReader {
             rest,
-            at_once,
-            end,
+            at_once: 7,
+            end: End::Nothing,
             later: None,
             later_calls: LaterCalls::NONE,
-        }
-    }
-
-    /// The same reader, which ends like this once, then gives these bytes, and then none.
-    pub fn then_gives(self, later: &'a [u8]) -> FakeReader<'a> {
-        FakeReader {
-            later: Some(later),
-            ..self
         }
     }
 
@@ -84,6 +78,7 @@ impl<'a> FakeReader<'a> {
         self.rest.is_empty() && self.later.is_none()
     }
 
+    /// How many calls came after its first end.
     pub fn later_calls(&self) -> usize {
         self.later_calls.count
     }
@@ -109,43 +104,51 @@ impl Read for FakeReader<'_> {
     }
 }
 
-/// Takes bytes up to `room`, at most `at_once` in a call, and then ends.
+/// Takes bytes up to `room`, in so many writes and at most `at_once` in each, and then ends: once, where it works later,
+/// and from then on it takes every byte.
 #[derive(Drop)]
 pub struct FakeWriter {
-    written: Vec<u8>,
-    room: usize,
-    at_once: usize,
-    end: End,
-    works_later: bool,
-    later_calls: LaterCalls,
+    pub written: Vec<u8>,
+    pub room: usize,
+    pub writes: usize,
+    pub at_once: usize,
+    pub end: End,
+    pub works_later: bool,
+    pub later_calls: LaterCalls,
 }
 
 impl FakeWriter {
-    pub fn new(alloc: Global, room: usize, at_once: usize, end: End) -> FakeWriter {
+    /// A writer that takes every byte.
+    pub fn new(alloc: Global) -> FakeWriter {
         FakeWriter {
             written: Vec::new(alloc),
-            room,
-            at_once,
-            end,
+            room: usize::MAX,
+            writes: usize::MAX,
+            at_once: usize::MAX,
+            end: End::Failure,
             works_later: false,
             later_calls: LaterCalls::NONE,
         }
     }
 
-    /// The same writer, which ends like this once, where it is asked to, and then takes every byte.
-    pub fn then_works(self, works_later: bool) -> FakeWriter {
-        FakeWriter {
-            works_later,
-            ..self
-        }
-    }
-
+    /// The bytes that it took.
     pub fn written(&self) -> &[u8] {
         self.written.as_slice()
     }
 
+    /// How many calls came after its first end.
     pub fn later_calls(&self) -> usize {
         self.later_calls.count
+    }
+
+    fn end(&mut self) -> io::Result<usize>
+        ensures { IfOk result (λ count. count ≡ 0) }
+    {
+        self.later_calls.has_ended = true;
+        if self.works_later {
+            self.room = usize::MAX;
+        }
+        self.end.answer()
     }
 }
 
@@ -154,13 +157,10 @@ impl Write for FakeWriter {
         self.later_calls.add();
         let left = self.room.saturating_sub(self.written.len());
         let count = left.min(self.at_once).min(buf.len());
-        if count == 0 {
-            self.later_calls.has_ended = true;
-            if self.works_later {
-                self.room = usize::MAX;
-            }
-            return self.end.answer();
+        if count == 0 || self.writes == 0 {
+            return self.end();
         }
+        self.writes -= 1;
         self.written.extend_from_slice(&buf[..count])?;
         Ok(count)
     }
@@ -168,58 +168,4 @@ impl Write for FakeWriter {
     fn flush(&mut self) -> io::Result<()> {
         Ok(())
     }
-}
-
-/// Takes all bytes in each of so many calls of `write`, and fails in every later one.
-#[derive(Drop)]
-pub struct FewWrites {
-    written: Vec<u8>,
-    left: usize,
-}
-
-impl FewWrites {
-    pub fn new(alloc: Global, count: usize) -> FewWrites {
-        FewWrites {
-            written: Vec::new(alloc),
-            left: count,
-        }
-    }
-
-    pub fn written(&self) -> &[u8] {
-        self.written.as_slice()
-    }
-
-    /// How many calls it would still take.
-    pub fn left(&self) -> usize {
-        self.left
-    }
-}
-
-impl Write for FewWrites {
-    fn write(&mut self, buf: &[u8]) -> io::Result<usize> {
-        if self.left == 0 {
-            return Err(ErrorKind::BrokenPipe.into());
-        }
-        self.left -= 1;
-        self.written.extend_from_slice(buf)?;
-        Ok(buf.len())
-    }
-
-    fn flush(&mut self) -> io::Result<()> {
-        Ok(())
-    }
-}
-
-/// The first lines of a text, so many of them, or all where it has fewer.
-pub fn first_lines(text: &[u8], count: usize) -> &[u8] {
-    let mut left = count;
-    for (index, byte) in text.iter().enumerate() {
-        if left == 0 {
-            return &text[..index];
-        }
-        if *byte == b'\n' {
-            left -= 1;
-        }
-    }
-    text
 }

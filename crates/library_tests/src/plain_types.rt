@@ -1,7 +1,7 @@
 //! The plain types: numbers of ids, sides and areas, when two allocations are equal, which values hash alike, and the
 //! default options, all by the names under which `etagere` gives them to its users.
 
-use crate::assertions::{equal, equal_at, holds, holds_at};
+use crate::assertions::{equal, holds, holds_at};
 use etagere::{
     AllocId, Allocation, AllocatorOptions, DEFAULT_OPTIONS, Point, Rectangle, Size, point2, size2,
 };
@@ -81,7 +81,7 @@ fn are_hashed_by_what_is_compared<T: Eq + Hash + Debug>(rt: &impl Abort, values:
     for one in values {
         for other in values {
             let is_alike = hash_of(one) == hash_of(other);
-            equal_at(rt, &is_alike, &(*one == *other), &(one, other));
+            holds_at(rt, is_alike == (*one == *other), &(one, other));
         }
     }
 }
