@@ -75,27 +75,43 @@ fn unplaced_text(
     replies: &[PageReply],
 ) -> Result<String, AllocError> {
     let empty = empty_page(alloc, options)?;
+    unplaced_lines(alloc, &empty, wanted, replies)
+}
+
+fn unplaced_lines(
+    alloc: Global,
+    empty: &AtlasAllocator,
+    wanted: &[Wanted<'_>],
+    replies: &[PageReply],
+) -> Result<String, AllocError> {
     let mut text = String::new(alloc);
     for (one, reply) in wanted.iter().zip(replies) {
         match reply {
             PageReply::NoMemory => return Err(AllocError),
-            PageReply::Refused => {
-                let feed = if text.is_empty() { "" } else { "\n" };
-                push_pieces(
-                    &mut text,
-                    &[
-                        Words(feed),
-                        Words("line "),
-                        Count(u128::from(one.line)),
-                        Words(": "),
-                    ],
-                )?;
-                push_unplaced(&mut text, refusal_of(&empty, one.size), one.size)?;
-            }
+            PageReply::Refused => push_line(&mut text, one, refusal_of(empty, one.size))?,
             _ => {}
         }
     }
     Ok(text)
+}
+
+/// Adds the line of a size without a place.
+fn push_line(
+    text: &mut String,
+    one: &Wanted<'_>,
+    refusal: Option<Refusal>,
+) -> Result<(), AllocError> {
+    let feed = if text.is_empty() { "" } else { "\n" };
+    push_pieces(
+        text,
+        &[
+            Words(feed),
+            Words("line "),
+            Count(u128::from(one.line)),
+            Words(": "),
+        ],
+    )?;
+    push_unplaced(text, refusal, one.size)
 }
 
 // What these calls promise ends in functions that promise nothing, so that it isn't gone through in what uses them.
