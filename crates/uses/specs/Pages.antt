@@ -1,7 +1,6 @@
 -- What a place on one of several pages is.
-use Rattle.std.specs.Prelude.{◌≡◌, ◌≢◌, ℕ, ◌<◌, Some, List, [], ◌∷◌, ◌++◌, slice_get}
+use Rattle.std.specs.Prelude.{◌≡◌, ◌≢◌, ℕ, ◌<◌, Some, List, length, slice_get}
 use Rattle.etagere_base.specs.declared.geometry.Size.{Size}
-use Rattle.etagere_base.specs.declared.ids.Allocation.{Allocation}
 use Rattle.shelf_model.specs.Choice.{IsRefused}
 use Rattle.shelf_model.specs.Places.{rectangle_of}
 use Rattle.shelf_model.specs.State.{AtlasState}
@@ -17,9 +16,3 @@ pub record IsOnPage (old : List AtlasState) (size : Size) (place : PagedAllocati
   pub page : slice_get new place.page ≡ Some state
   pub found : rectangle_of state place.allocation.id ≡ Some place.allocation.rectangle
   pub others : (page : ℕ) → page ≢ place.page → slice_get new page ≡ slice_get old page
-
--- a page stands behind the others, and has a rectangle under its id
-pub record IsOnLast (old : List AtlasState) (allocation : Allocation) (new : List AtlasState) : Type 0 where
-  pub state : AtlasState
-  pub behind : new ≡ old ++ state ∷ []
-  pub found : rectangle_of state allocation.id ≡ Some allocation.rectangle

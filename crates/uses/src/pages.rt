@@ -7,7 +7,7 @@ ghost use Rattle.shelf_model.specs.Choice.{IsRefused};
 ghost use Rattle.shelf_model.specs.Fresh.{fresh};
 ghost use Rattle.etagere_base.specs.Frames.{atlas_frame};
 ghost use Rattle.etagere_base.specs.Options.{default_options};
-ghost use Rattle.uses.specs.Pages.{IsOnLast, IsOnPage};
+ghost use Rattle.uses.specs.Pages.{IsOnPage};
 
 use etagere::{Allocation, AtlasAllocator, Size};
 use std::alloc::{AllocError, Global};
@@ -46,32 +46,13 @@ pub fn allocate_on_pages(
             return Ok(Some(PagedAllocation { page, allocation }));
         }
     }
-    let page = pages.len();
-    let Some(allocation) = allocate_on_new(alloc, pages, size)? else {
-        return Ok(None);
-    };
-    Ok(Some(PagedAllocation { page, allocation }))
-}
-
-/// Places a size on a new page behind the others.
-fn allocate_on_new(
-    alloc: Global,
-    pages: &mut Vec<AtlasAllocator>,
-    size: Size,
-) -> Result<Option<Allocation>, AllocError>
-    ensures placed { IfOk result (λ answer. IfSome answer
-        (λ allocation. IsOnLast pages.old.items allocation pages.new.items)) }
-    ensures none { IfOk result (λ answer. IfNone answer
-        (IsRefused (fresh (atlas_frame PAGE default_options)) size)) }
-    ensures stay { IfOk result (λ answer. IfNone answer (pages.new.items ≡ pages.old.items)) }
-    ensures err { OnErr result (pages.new.items ≡ pages.old.items) }
-{
     let Ok(mut opened) = AtlasAllocator::new(alloc, PAGE) else {
         return Err(AllocError);
     };
     let Some(allocation) = opened.allocate(size)? else {
         return Ok(None);
     };
+    let page = pages.len();
     pages.push(opened)?;
-    Ok(Some(allocation))
+    Ok(Some(PagedAllocation { page, allocation }))
 }

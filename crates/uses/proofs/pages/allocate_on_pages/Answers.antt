@@ -24,16 +24,16 @@ loop-page-preserved c =
 
 pub returns-clause-placed : goal.returns-clause-placed
 returns-clause-placed c =
-    let last = rw c.in-Some-2.is at c.in_ok-allocation-2.ensures.placed in
+    let found = rw c.in-Some-2.is at c.in_ok-allocation-2.ensures.found in
     let pages = c.loop-page.pages.items in
-    let opened = last.state in
+    let opened = c.allocate-2.new.self in
     let long : length pages ≡ c.len-page.result = search rules in
-    rw last.behind
+    rw c.in_ok-push.ensures.items
     (record {
       refused = λ page below. c.loop-page.invariant.1 page (search rules);
       state = opened;
       page = slice_get-append pages opened [] c.len-page.result long;
-      found = last.found;
+      found = found;
       others = λ page other.
           ⊎_elim
           (λ there. slice_get-get_or (pages ++ opened ∷ []) page there.0 (omega (arith, there.1, length-append pages (opened ∷ [])))
