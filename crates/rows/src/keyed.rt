@@ -1,9 +1,9 @@
 //! Calls of keys with places of one atlas, which go as those of a cache of glyphs do.
 
-use crate::caches::say_placed;
 use etagere::{AtlasAllocator, Size, size2};
 use glyph_shelf::{GlyphFault, Placed};
 use paged_cache::{KeyedPlaces, PlacedKey, PlacingFault};
+use row_caches::caches::say_placed;
 use row_calls::lines::{capacity_of, key_and_size_of, numbers, say};
 use row_calls::places::{Called, NotMade};
 use std::alloc::Global;

@@ -2,31 +2,27 @@
 //! its rows here, and compares the answers.
 //!
 //! The argument is the kind of what is called: `atlas`, `bucketed`, `cache`, `pages`, `padded`, `padded_cache`,
-//! `paged_cache`, `keyed` or `map`. There are two places for such a one, and a line is the number of a place, 0 or 1, the call, and its
-//! words. With `run` or `stream` standard input is a script.
+//! `paged_cache`, `keyed` or `map`. There are two places for such a one, and a line is the number of a place, 0 or 1, the
+//! call, and its words. With `run` or `stream` standard input is a script.
 //!
 //! `tests/refused_memory/run` refuses memory to the calls of rows.
 #![tactic(auto)]
 
-mod caches;
 mod keyed;
-mod maps;
-mod moved_caches;
-mod padded_caches;
 mod padded_pages;
 mod paged_caches;
 mod pages;
 mod runs;
 
-use crate::caches::CalledCache;
 use crate::keyed::CalledKeys;
-use crate::maps::CalledMap;
-use crate::padded_caches::CalledPaddedCache;
 use crate::padded_pages::CalledPaddedPages;
 use crate::paged_caches::CalledPagedCache;
 use crate::pages::CalledPages;
 use anyhow::{Context, Result, bail};
 use etagere::{AtlasAllocator, BucketedAtlasAllocator};
+use row_caches::caches::CalledCache;
+use row_caches::maps::CalledMap;
+use row_caches::padded_caches::CalledPaddedCache;
 use row_calls::places::{Called, Places, answer};
 use std::env;
 use std::io::{BufRead, BufReader};

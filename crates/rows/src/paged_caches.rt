@@ -1,10 +1,10 @@
 //! Calls of a cache over several pages.
 
-use crate::caches::say_unentered;
 use crate::pages::options_of;
 use atlas_pages::{PageOptions, PagedAllocation};
 use paged_cache::runs::{PagedCall, PagedReply, answer_on_cache};
 use paged_cache::{NewCacheFault, PagedCache, PlacedKey, PlacingFault};
+use row_caches::caches::say_unentered;
 use row_calls::lines::{
     capacity_of, key_and_size_of, key_of, numbers, say, say_bracketed, say_evicted, say_fault,
     say_number,

@@ -4,10 +4,10 @@ ghost use Rattle.glyph_map.specs.Runs.{NeedsNoClone};
 ghost use Rattle.std.specs.Prelude.{IfSome};
 
 use crate::caches::{read, write};
-use glyph_map::runs::{MapCall, MapReply, answer_on_map, retain_on_map};
 use etagere::{
     AllocatorOptions, AtlasGrowFault, DEFAULT_OPTIONS, OptionsFault, Rectangle, Size, size2,
 };
+use glyph_map::runs::{MapCall, MapReply, answer_on_map, retain_on_map};
 use glyph_map::{GlyphMap, MapFault, MapRestoreFault, NotRestored, Placed, Refused};
 use glyph_shelf::CacheSnapshot;
 use row_calls::atlases::of_options;
