@@ -227,8 +227,8 @@ impl AtlasAllocator {
     /// time, or by binary search, and goes on by height; of each shelf that may have an item wide enough it searches the
     /// free list up to the first that is. Before that the list by height follows the shelves that were split or merged
     /// since the last search: each goes where it belongs by binary search, and an end of the list moves; many are sorted
-    /// anew. Where some have changed, and there are no more than some dozen shelves and 128 items, all shelves are gone
-    /// through instead.
+    /// anew. In the first searches after a change, where there are no more than some dozen shelves and 128 items, all
+    /// shelves are gone through instead.
     #[inline(always)]
     pub fn allocate(&mut self, size: Size) -> Result<Option<Allocation>, AllocError>
         ensures placed { IfOk result

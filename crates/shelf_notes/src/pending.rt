@@ -12,6 +12,9 @@ use shelf_records::LinkedShelf;
 use std::alloc::{AllocError, Global};
 use std::marker::Model;
 
+/// No more searches than this are counted.
+pub const MOST_SEARCHES: u32 = 8;
+
 /// What is known of a shelf beside the list by height.
 #[derive(Clone, Copy)]
 pub struct Standing {
@@ -45,8 +48,8 @@ pub struct PendingShelves {
     standing: Vec<Standing>,
     /// The numbers of those that have changed since, each once.
     noted: Vec<u16>,
-    /// Whether something was noted since that was asked last. Nothing rests on it.
-    has_changed: bool,
+    /// How many searches were counted since something was noted, up to `MOST_SEARCHES`. Nothing rests on it.
+    searches: u32,
 }
 
 impl Model for PendingShelves {
@@ -71,7 +74,7 @@ impl PendingShelves {
             kept,
             standing,
             noted,
-            has_changed: false,
+            searches: 0,
         })
     }
 
@@ -98,7 +101,7 @@ impl PendingShelves {
             kept: self.kept.clone()?,
             standing: self.standing.clone()?,
             noted,
-            has_changed: self.has_changed,
+            searches: self.searches,
         };
         pending.reserve(room)?;
         Ok(pending)
@@ -119,14 +122,14 @@ impl PendingShelves {
         self.noted.len()
     }
 
-    /// Whether a shelf has changed since this was asked last.
-    pub fn take_changed(&mut self) -> bool
+    /// Counts a search, and says how many were counted before it since a shelf has changed, up to `MOST_SEARCHES`.
+    pub fn count_search(&mut self) -> u32
         ensures notes { self.new.notes ≡ self.old.notes }
         ensures room { self.new.room ≡ self.old.room }
     {
-        let has_changed = self.has_changed;
-        self.has_changed = false;
-        has_changed
+        let searches = self.searches;
+        self.searches = searches.min(MOST_SEARCHES - 1) + 1;
+        searches
     }
 
     /// The number of one of them, in the order in which they changed.
@@ -175,7 +178,7 @@ impl PendingShelves {
         push_unless(&mut self.noted, known.noted, shelf);
         known.in_use = in_use;
         known.noted = true;
-        self.has_changed = true;
+        self.searches = 0;
     }
 
     /// Makes an entry for the shelf of this number, where there is none. Until the list follows the shelf, any record

@@ -16,7 +16,8 @@ use crate::choosing::{Candidate, Searched, rank_of, search_free_list};
 use etagere_links::Link;
 use shelf_records::{LinkedShelf, Records};
 
-/// What the first shelf of least rank offers.
+/// What the first shelf of least rank offers. Never inlined, so that a search by height doesn't carry it.
+#[inline(never)]
 pub(crate) fn first_of_least_rank(records: &Records, width: u32, height: u32) -> Option<Candidate>
     requires linked { IsLinked records.now (walked_lists records.now) }
     requires short { height ≤ longest_side }

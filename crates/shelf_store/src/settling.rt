@@ -19,7 +19,7 @@ use etagere_base::Frame;
 use etagere_links::Link;
 use shelf_heights::by_height::ShelvesByHeight;
 use shelf_heights::heights::{chain_order_of, position_of, put_in, raise_at, settle, take_out};
-use shelf_notes::pending::{IN_USE, PendingShelves, UNKNOWN};
+use shelf_notes::pending::{IN_USE, MOST_SEARCHES, PendingShelves, UNKNOWN};
 use shelf_records::{LinkedShelf, Records};
 use std::alloc::{AllocError, Global};
 
@@ -29,11 +29,11 @@ const FEW: usize = 4;
 /// Where more than so many have changed, and more than an eighth, all shelves in use are sorted anew.
 const MANY: usize = 32;
 
-/// To go through so many shelves is no more work than to search them by height.
-const WALKED: usize = 12;
+/// To go through so many shelves in the first search after one has changed is less work than to make the list follow.
+const WALKED_AT_FIRST: usize = 32;
 
-/// To go through so many is less work than to make the list follow what has changed.
-const WALKED_ONCE: usize = 32;
+/// So many are gone through in further searches, unless there are many of these.
+const WALKED: usize = 12;
 
 /// More items than this aren't gone through.
 const WALKED_ITEMS: u32 = 128;
@@ -188,16 +188,31 @@ fn settle_noted_unless_few(
     ensures capacity { by_height.old.capacity ≤ by_height.new.capacity }
     ensures room { pending.new.room ≡ pending.old.room }
 {
-    let most = if pending.take_changed() {
-        WALKED_ONCE
-    } else {
-        WALKED
-    };
-    if pending.len() <= most && by_height.len() <= most && items_in_use <= WALKED_ITEMS {
+    if by_height.len() <= WALKED_AT_FIRST && are_few(by_height, pending, items_in_use) {
         return false;
     }
-    settle_shelves(frame, records, by_height, pending);
+    settle_noted(frame, records, by_height, pending);
     true
+}
+
+/// Whether shelves and items are so few that all shelves are gone through in this search.
+fn are_few(by_height: &ShelvesByHeight, pending: &mut PendingShelves, items_in_use: u32) -> bool
+    ensures notes { pending.new.notes ≡ pending.old.notes }
+    ensures room { pending.new.room ≡ pending.old.room }
+{
+    let most = most_walked(pending.count_search());
+    pending.len() <= most && by_height.len() <= most && items_in_use <= WALKED_ITEMS
+}
+
+/// How many shelves are gone through at most, where so many searches were counted since one has changed.
+fn most_walked(searches: u32) -> usize {
+    if searches == 0 {
+        WALKED_AT_FIRST
+    } else if searches < MOST_SEARCHES {
+        WALKED
+    } else {
+        0
+    }
 }
 
 /// Makes the list follow what was noted.
