@@ -14,7 +14,7 @@ ghost use Rattle.atlas_pages.specs.Private.Taking.{NeedsSplitAmong, TakesPlace};
 use crate::open_pages::allocate_first;
 use crate::options::PageChoice;
 use crate::places::PagedAllocation;
-use etagere::{AtlasAllocator, Size};
+use etagere_shelves::{AtlasAllocator, Size};
 use std::alloc::AllocError;
 
 /// Allocates a size on the page that is chosen among the open ones; none where no page has a place.

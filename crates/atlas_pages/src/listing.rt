@@ -8,7 +8,7 @@ ghost use Rattle.atlas_pages.specs.Listing as spec;
 ghost use Rattle.atlas_pages.specs.Private.Listed.{left_of, left_on};
 
 use crate::places::PagedAllocation;
-use etagere::{self, AtlasAllocator};
+use etagere_shelves::{self, AtlasAllocator};
 use std::iter::FusedIterator;
 use std::marker::Model;
 
@@ -78,7 +78,7 @@ impl<'a> FusedIterator for Iter<'a> {}
 #[derive(Drop)]
 struct OnPage<'a> {
     page: u32,
-    allocations: etagere::Iter<'a>,
+    allocations: etagere_shelves::Iter<'a>,
 }
 
 impl<'a> Iterator for OnPage<'a> {

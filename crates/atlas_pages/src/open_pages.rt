@@ -20,7 +20,7 @@ ghost use Rattle.atlas_pages.specs.Private.Taking.{NeedsSplitAmong, TakesPlace};
 
 use crate::options::{PageChoice, PageOptions};
 use crate::places::PagedAllocation;
-use etagere::{AllocId, AtlasAllocator, Rectangle, Size, UnknownId};
+use etagere_shelves::{AllocId, AtlasAllocator, Rectangle, Size, UnknownId};
 use std::alloc::{AllocError, Global};
 
 /// Allocates a size on the first page that has a place for it; none where no page has.

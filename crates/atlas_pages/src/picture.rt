@@ -16,8 +16,8 @@ ghost use Rattle.atlas_pages.specs.Picture as spec;
 ghost use Rattle.atlas_pages.specs.Picture.{page_area, page_left, pages_width};
 ghost use Rattle.atlas_pages.specs.Private.Pieces.{piece_text, text_of};
 
-use etagere::AtlasAllocator;
 use etagere_base::{Colour, Drawn, Frame};
+use etagere_shelves::AtlasAllocator;
 use pictures::{GatheredText, Pictured, push_drawn};
 use std::io::{self, Write};
 

@@ -16,8 +16,8 @@ ghost use Rattle.atlas_pages.specs.Saved.{ArePagesBroken, EachStandsFor};
 
 use crate::faults::PagesRestoreFault;
 use crate::options::PageOptions;
-use etagere::{AtlasAllocator, AtlasSnapshot, RestoreFault};
 use etagere_base::{Frame, atlas_frame};
+use etagere_shelves::{AtlasAllocator, AtlasSnapshot, RestoreFault};
 use pictures::Pictured;
 use std::alloc::{AllocError, Global};
 

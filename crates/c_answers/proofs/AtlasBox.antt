@@ -7,8 +7,8 @@ use Rattle.std_alloc.proofs.BoxSteps.Form.{Bx}
 use Rattle.std.specs.contracts.alloc.Global as heap
 use Rattle.std.proofs.alloc.Global.TheLaws as heap_laws
 use Rattle.std.specs.contracts.impls.GlobalAllocator.TheImpl.{ghosts, dict}
-use Rattle.etagere.specs.contracts.atlas.AtlasAllocator as Atlas
-use Rattle.etagere.proofs.atlas.AtlasAllocator.TheLaws as atlas_laws
+use Rattle.etagere_shelves.specs.contracts.atlas.AtlasAllocator as Atlas
+use Rattle.etagere_shelves.proofs.atlas.AtlasAllocator.TheLaws as atlas_laws
 use Rattle.c_answers.specs.contracts.parts.Parts as parts
 use Rattle.c_answers.specs.contracts.atlas_handle.EtagereAtlas as handle
 

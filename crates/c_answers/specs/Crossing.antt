@@ -3,7 +3,7 @@ use Rattle.std.specs.Prelude.{ℕ, not, ◌==◌}
 use Rattle.etagere_base.specs.declared.geometry.Size.{Size}
 use Rattle.etagere_base.specs.declared.geometry.Rectangle.{Rectangle}
 use Rattle.etagere_base.specs.declared.options.AllocatorOptions.{AllocatorOptions}
-use Rattle.etagere.specs.Plain.{rectangle_in}
+use Rattle.etagere_shelves.specs.Plain.{rectangle_in}
 use Rattle.c_answers.specs.declared.geometry.EtagereEntry.{EtagereEntry}
 use Rattle.c_answers.specs.declared.geometry.EtagereOptions.{EtagereOptions}
 use Rattle.c_answers.specs.declared.geometry.EtagereSize.{EtagereSize}

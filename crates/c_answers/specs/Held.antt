@@ -9,7 +9,7 @@ use Rattle.std.specs.Box.Ownership.{box_owns}
 use base.Fml.{Fml, ftrue, fex}
 use denote.RattleType.{RattleType}
 use denote.RawPtr.{Ptr, null_ptr}
-use Rattle.etagere.specs.contracts.atlas.AtlasAllocator as Atlas
+use Rattle.etagere_shelves.specs.contracts.atlas.AtlasAllocator as Atlas
 use Rattle.glyph_shelf.specs.contracts.cache.GlyphCache as Cache
 use Rattle.etagere_bucketed.specs.contracts.atlas.BucketedAtlasAllocator as Bucketed
 

@@ -2,7 +2,7 @@
 use Rattle.std.specs.Borrow.{LendsIf, MutBor, Fml}
 use Rattle.std.specs.declared.option.Option.{Option}
 use Rattle.std.specs.declared.option.Option.TheVariants.{Some}
-use Rattle.etagere.specs.contracts.atlas.AtlasAllocator as Atlas
+use Rattle.etagere_shelves.specs.contracts.atlas.AtlasAllocator as Atlas
 use Rattle.glyph_shelf.specs.contracts.cache.GlyphCache as Cache
 use Rattle.etagere_bucketed.specs.contracts.atlas.BucketedAtlasAllocator as Bucketed
 use Rattle.c_answers.specs.declared.atlas_handle.EtagereAtlas.{EtagereAtlas}

@@ -1,6 +1,6 @@
 //! What the calls of a shelf atlas do to the atlas that a handle holds.
 //!
-//! Definitions: `Calls`, `Crossing`, `Statuses`, and those of `etagere`.
+//! Definitions: `Calls`, `Crossing`, `Statuses`, and those of `etagere_shelves`.
 
 ghost use Rattle.std.specs.Prelude.{◌≡◌, ◌≢◌, ◌-◌, [], ◌∷◌, None, false, Err, IfErr, IfOk, IfSome};
 ghost use Rattle.etagere_base.specs.Frames as frames;
@@ -10,7 +10,7 @@ ghost use Rattle.shelf_model.specs.Atlas.{Allocates, KeepsPromises, NeedsSplit};
 ghost use Rattle.shelf_model.specs.Choice.{IsRefused};
 ghost use Rattle.shelf_model.specs.Fresh.{fresh};
 ghost use Rattle.c_answers.specs.Calls.{IsAmong};
-ghost use Rattle.etagere.specs.Plain.{allocation_in};
+ghost use Rattle.etagere_shelves.specs.Plain.{allocation_in};
 ghost use Rattle.c_answers.specs.Crossing.{options_in, size_in};
 ghost use Rattle.c_answers.specs.Statuses as statuses;
 

@@ -11,7 +11,7 @@ ghost use Rattle.bucketed_model.specs.Frames.{longest_bucketed_side};
 ghost use Rattle.bucketed_model.specs.Placing.{IsBucketRefused};
 ghost use Rattle.bucketed_model.specs.State.{fresh};
 ghost use Rattle.c_answers.specs.Calls.{IsAmong};
-ghost use Rattle.etagere.specs.Plain.{allocation_in};
+ghost use Rattle.etagere_shelves.specs.Plain.{allocation_in};
 ghost use Rattle.c_answers.specs.Crossing.{options_in, size_in};
 ghost use Rattle.c_answers.specs.Statuses as statuses;
 

@@ -11,7 +11,7 @@ ghost use Rattle.glyph_shelf.specs.Cache.{empty_cache};
 ghost use Rattle.glyph_shelf.specs.Promises.{KeepsCachePromises};
 ghost use Rattle.c_answers.specs.Calls.{IsWritten};
 ghost use Rattle.c_answers.specs.Evicted.{HasRoomFor, IsGone};
-ghost use Rattle.etagere.specs.Plain.{rectangle_in};
+ghost use Rattle.etagere_shelves.specs.Plain.{rectangle_in};
 ghost use Rattle.c_answers.specs.Crossing.{options_in, size_in};
 ghost use Rattle.c_answers.specs.Statuses as statuses;
 

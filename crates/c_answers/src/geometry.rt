@@ -1,6 +1,6 @@
 //! What crosses to C by value: places, sizes, rectangles, allocations, entries of a cache, and options.
 //!
-//! Definitions: `Crossing`, and `Plain` of `etagere`. The header has the same fields in the same order.
+//! Definitions: `Crossing`, and `Plain` of `etagere_shelves`. The header has the same fields in the same order.
 
 ghost use Rattle.std.specs.Prelude.{◌≡◌};
 ghost use Rattle.c_answers.specs.Crossing.{entry_in, options_in, size_in};

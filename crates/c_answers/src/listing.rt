@@ -4,7 +4,7 @@
 
 ghost use Rattle.std.specs.Prelude.{◌≡◌, ◌↔◌, ◌≢◌, ◌<◌, ◌≤◌, [], ◌∷◌, length};
 ghost use Rattle.shelf_model.specs.Listing.{listed};
-ghost use Rattle.etagere.specs.Plain.{allocation_in};
+ghost use Rattle.etagere_shelves.specs.Plain.{allocation_in};
 ghost use Rattle.c_answers.specs.Calls.{IsAmong};
 ghost use Rattle.c_answers.specs.Listed.{AreWritten};
 ghost use Rattle.c_answers.specs.Statuses as statuses;

@@ -1,19 +1,11 @@
-//! A texture atlas allocator: rectangles are placed on shelves and given back in any order.
+//! A texture atlas allocator: rectangles are placed on shelves, or in their buckets, and given back in any order.
 //!
-//! The calls are in `atlas`, the form of `restore` that counts its steps in `laws`, the iterator in `listing`, and what
-//! callers in C keep in `plain`. The layers below are crates of their own, not meant for users: `shelf_model` has the
-//! model and its laws, `shelf_records` what records spell and are saved as, `shelf_heights` the shelves by height,
-//! `shelf_notes` what is noted beside these, `shelf_search` what calls find out from records, `shelf_store` what they
-//! change, and `shelf_restoring` how a snapshot is judged. The bucketed atlas of `etagere_bucketed` is re-exported.
+//! The atlas of shelves is that of `etagere_shelves`, and the bucketed one that of `etagere_bucketed`: two crates side by
+//! side, whose public items are re-exported here. `laws` has what the laws of restoring are stated of, of both.
 #![tactic(auto)]
 
-mod atlas;
 pub mod laws;
-mod listing;
-mod plain;
-mod restored;
 
-pub use atlas::AtlasAllocator;
 pub use etagere_base::{
     AllocId, Allocation, AllocatorOptions, DEFAULT_OPTIONS, OptionsFault, Point, Rectangle,
     RestoreFault, Size, UnknownId, point2, size2,
@@ -22,8 +14,7 @@ pub use etagere_bucketed::{
     BucketRecord, BucketShelfRecord, BucketedAtlasAllocator, BucketedRefusal, BucketedSnapshot,
     BucketedUsage, GrowFault,
 };
-pub use listing::Iter;
-pub use plain::{PlainAllocation, PlainPoint, PlainRectangle};
-pub use shelf_model::faults::{AtlasGrowFault, Refusal};
-pub use shelf_model::usage::Usage;
-pub use snapshot_records::shelves::{AtlasSnapshot, ItemRecord, ShelfRecord};
+pub use etagere_shelves::{
+    AtlasAllocator, AtlasGrowFault, AtlasSnapshot, ItemRecord, Iter, PlainAllocation, PlainPoint,
+    PlainRectangle, Refusal, ShelfRecord, Usage,
+};

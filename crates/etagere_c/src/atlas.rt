@@ -1,6 +1,6 @@
 //! The calls of a shelf atlas. Each calls what the handle holds, in its place.
 //!
-//! Definitions: `Calls`, `Crossing`, `Statuses`, and those of `etagere`.
+//! Definitions: `Calls`, `Crossing`, `Statuses`, and those of `etagere_shelves`.
 
 ghost use Rattle.std.specs.Prelude.{◌≡◌, ◌↔◌, ◌≢◌, ◌*◌, ◌-◌, [], ◌∷◌, None, Some, pos, ◌≤◌, false, Err, IsSome, IfNone, IfSome};
 ghost use Rattle.etagere_base.specs.Frames as frames;
@@ -17,7 +17,7 @@ ghost use Rattle.shelf_model.specs.Places.{allocations, is_allocated};
 ghost use Rattle.shelf_model.specs.Returning.{returned};
 ghost use Rattle.shelf_model.specs.Space as spaces;
 ghost use Rattle.c_answers.specs.Calls.{IsAmong, IsFlag, Leads};
-ghost use Rattle.etagere.specs.Plain.{allocation_in, rectangle_in};
+ghost use Rattle.etagere_shelves.specs.Plain.{allocation_in, rectangle_in};
 ghost use Rattle.c_answers.specs.Crossing.{options_in, size_in};
 ghost use Rattle.c_answers.specs.Statuses as statuses;
 

@@ -12,7 +12,7 @@ ghost use Rattle.bucketed_model.specs.Placing.{IsBucketRefused};
 ghost use Rattle.bucketed_model.specs.Returning.{bucket_returned, is_known};
 ghost use Rattle.c_answers.specs.Batches.{GivesOver, StepsOver};
 ghost use Rattle.c_answers.specs.Calls.{IsAmong, Leads};
-ghost use Rattle.etagere.specs.Plain.{allocation_in};
+ghost use Rattle.etagere_shelves.specs.Plain.{allocation_in};
 ghost use Rattle.c_answers.specs.Crossing.{size_in};
 ghost use Rattle.c_answers.specs.Statuses as statuses;
 

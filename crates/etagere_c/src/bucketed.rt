@@ -16,7 +16,7 @@ ghost use Rattle.bucketed_model.specs.Returning.{bucket_returned, is_known};
 ghost use Rattle.bucketed_model.specs.Space as spaces;
 ghost use Rattle.bucketed_model.specs.State.{fresh, is_idle};
 ghost use Rattle.c_answers.specs.Calls.{IsAmong, IsFlag, Leads};
-ghost use Rattle.etagere.specs.Plain.{allocation_in};
+ghost use Rattle.etagere_shelves.specs.Plain.{allocation_in};
 ghost use Rattle.c_answers.specs.Crossing.{options_in, size_in};
 ghost use Rattle.c_answers.specs.Statuses as statuses;
 

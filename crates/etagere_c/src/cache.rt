@@ -11,7 +11,7 @@ ghost use Rattle.glyph_shelf.specs.Cache.{empty_cache, evictable, frame_uses, in
 ghost use Rattle.glyph_shelf.specs.Placing.{IsFrameFull, IsNew, IsTooLarge, Places, RanOut};
 ghost use Rattle.glyph_shelf.specs.Promises.{KeepsCachePromises};
 ghost use Rattle.c_answers.specs.Calls.{IsAmong, IsFlag, Leads};
-ghost use Rattle.etagere.specs.Plain.{rectangle_in};
+ghost use Rattle.etagere_shelves.specs.Plain.{rectangle_in};
 ghost use Rattle.c_answers.specs.Crossing.{options_in, size_in};
 ghost use Rattle.c_answers.specs.Statuses as statuses;
 

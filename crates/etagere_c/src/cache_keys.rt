@@ -4,7 +4,7 @@
 
 ghost use Rattle.std.specs.Prelude.{◌≡◌, ◌↔◌, ◌≢◌, ◌<◌, [], ◌∷◌, None, Some, length, IfSome};
 ghost use Rattle.glyph_shelf.specs.Cache.{listed, rectangle_at};
-ghost use Rattle.etagere.specs.Plain.{rectangle_in};
+ghost use Rattle.etagere_shelves.specs.Plain.{rectangle_in};
 ghost use Rattle.c_answers.specs.Calls.{IsAmong};
 ghost use Rattle.c_answers.specs.Crossing.{entry_in};
 ghost use Rattle.c_answers.specs.Listed.{AreWritten};

@@ -6,7 +6,7 @@ ghost use Rattle.std.specs.Prelude.{◌≡◌, ◌≢◌, ◌↔◌, ◌<◌, []
 ghost use Rattle.shelf_model.specs.Svg.{svg_into};
 ghost use Rattle.bucketed_model.specs.Svg as buckets;
 ghost use Rattle.c_answers.specs.Calls.{IsAmong, IsWritten};
-ghost use Rattle.etagere.specs.Plain.{rectangle_in};
+ghost use Rattle.etagere_shelves.specs.Plain.{rectangle_in};
 ghost use Rattle.c_answers.specs.Statuses as statuses;
 
 use c_answers::buffers::hand_out;

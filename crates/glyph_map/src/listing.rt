@@ -8,7 +8,7 @@ ghost use Rattle.std.specs.Map.Iter.{TakesFirst};
 ghost use Rattle.glyph_map.specs.Private.Listed.{deref_seen, seen_both};
 
 use crate::ticketed::Ticketed;
-use etagere::Rectangle;
+use etagere_shelves::Rectangle;
 use std::iter::FusedIterator;
 use std::marker::Model;
 

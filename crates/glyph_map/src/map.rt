@@ -28,7 +28,9 @@ use crate::refusing::clones_of_refused;
 use crate::saving::{cache_fault, numbered, under_tickets};
 use crate::ticketed::{Ticketed, promote, put_first, revalue, take, take_first, take_last};
 use crate::tickets::{evictions, unused_ticket, with_evicted};
-use etagere::{AllocatorOptions, AtlasAllocator, AtlasGrowFault, OptionsFault, Rectangle, Size};
+use etagere_shelves::{
+    AllocatorOptions, AtlasAllocator, AtlasGrowFault, OptionsFault, Rectangle, Size,
+};
 use glyph_shelf::{CacheSnapshot, GlyphCache};
 use lru::LruCache;
 use std::alloc::{AllocError, Global};

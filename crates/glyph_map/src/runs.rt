@@ -13,7 +13,7 @@ mod calls;
 
 use crate::GlyphMap;
 pub use calls::{MapCall, MapReply};
-use etagere::Size;
+use etagere_shelves::Size;
 use std::hash::Hash;
 use std::num::NonZeroUsize;
 

@@ -22,7 +22,9 @@ use crate::faults::{CacheRestoreFault, GlyphFault};
 use crate::kept::Kept;
 use crate::listing::Iter;
 use crate::saving::CacheSnapshot;
-use etagere::{AllocatorOptions, AtlasAllocator, AtlasGrowFault, OptionsFault, Rectangle, Size};
+use etagere_shelves::{
+    AllocatorOptions, AtlasAllocator, AtlasGrowFault, OptionsFault, Rectangle, Size,
+};
 use std::alloc::{AllocError, Global};
 use std::marker::Model;
 use std::num::NonZeroUsize;

@@ -5,7 +5,7 @@
 ghost use Rattle.std.specs.Prelude.{◌≡◌};
 ghost use Rattle.glyph_shelf.specs.Faults.{cache_restore_fault_number, glyph_fault_number};
 
-use etagere::{AllocId, RestoreFault};
+use etagere_shelves::{AllocId, RestoreFault};
 use thiserror::Error;
 
 /// Why there is no room for a key.

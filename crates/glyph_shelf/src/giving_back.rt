@@ -8,7 +8,7 @@ ghost use Rattle.shelf_model.specs.Choice.{placement_of};
 ghost use Rattle.shelf_model.specs.Places.{allocations, is_allocated};
 ghost use Rattle.shelf_model.specs.Returning.{returned};
 
-use etagere::{AllocId, AtlasAllocator, Size};
+use etagere_shelves::{AllocId, AtlasAllocator, Size};
 use std::alloc::AllocError;
 
 /// Gives back what is allocated under an id.

@@ -28,7 +28,7 @@ use crate::giving_back::{give_back, takes};
 use crate::listing::Iter;
 use crate::saving::{CacheSnapshot, restored_atlas, restored_keys, saved_keys};
 use crate::used_keys::UsedKeys;
-use etagere::{
+use etagere_shelves::{
     Allocation, AllocatorOptions, AtlasAllocator, AtlasGrowFault, OptionsFault, Rectangle, Size,
 };
 use std::alloc::{AllocError, Global};

@@ -8,7 +8,7 @@ ghost use Rattle.glyph_shelf.specs.UsedKeys.Private.Stamps.{unstamped};
 ghost use Rattle.glyph_shelf.specs.Cache.{with_rectangles};
 
 use crate::used_keys::Entry;
-use etagere::Rectangle;
+use etagere_shelves::Rectangle;
 use std::alloc::AllocError;
 use std::iter::FusedIterator;
 use std::marker::Model;

@@ -13,7 +13,7 @@ ghost use Rattle.glyph_shelf.specs.Saved.{saved_key};
 
 use crate::faults::CacheRestoreFault;
 use crate::used_keys::UsedKeys;
-use etagere::{AllocId, Allocation, AtlasAllocator, AtlasSnapshot, RestoreFault};
+use etagere_shelves::{AllocId, Allocation, AtlasAllocator, AtlasSnapshot, RestoreFault};
 use std::alloc::{AllocError, Global};
 use std::num::NonZeroUsize;
 

@@ -15,7 +15,7 @@ use crate::faults::{NewCacheFault, PlacingFault};
 use crate::keyed::{KeyedPlaces, PlacedKey};
 use crate::listing::Iter;
 use atlas_pages::{AtlasPages, PageOptions, PagedAllocation};
-use etagere::Size;
+use etagere_shelves::Size;
 use std::alloc::Global;
 use std::marker::Model;
 use std::num::NonZeroUsize;

@@ -8,7 +8,7 @@ ghost use Rattle.paged_cache.specs.Held as held;
 ghost use Rattle.paged_cache.specs.Private.AtlasLaws as laws;
 
 use crate::allocating::Allocates;
-use etagere::{Allocation, AtlasAllocator, Size};
+use etagere_shelves::{Allocation, AtlasAllocator, Size};
 use std::alloc::AllocError;
 
 impl Allocates for AtlasAllocator {

@@ -10,8 +10,8 @@ ghost use Rattle.paged_cache.specs.Private.PagesLaws as laws;
 
 use crate::allocating::Allocates;
 use atlas_pages::{AtlasPages, PagedAllocation};
-use etagere::Size;
 use etagere_base::atlas_frame;
+use etagere_shelves::Size;
 use shelf_search::choosing::fits_when_empty;
 use std::alloc::AllocError;
 

@@ -9,7 +9,7 @@ mod calls;
 
 use crate::{PagedCache, PlacingFault};
 pub use calls::{PagedCall, PagedReply};
-use etagere::Size;
+use etagere_shelves::Size;
 
 /// A cache, new or not, keeps its promises after each of its calls, whatever these are and whichever of the replies
 /// that the definition allows are given, and what they tell is what is there.

@@ -7,7 +7,7 @@ ghost use Rattle.atlas_pages.specs.Runs.Runs.{PageStep};
 
 use crate::AtlasPages;
 use crate::runs::commands::{PageCommand, PageReply};
-use etagere::{AllocId, Size};
+use etagere_shelves::{AllocId, Size};
 
 /// Answers a command by the call that it names.
 ///

@@ -3,7 +3,7 @@
 //! The definition of runs (`Runs`) matches on them.
 
 use crate::PagedAllocation;
-use etagere::{AllocId, Size};
+use etagere_shelves::{AllocId, Size};
 
 /// A command of a run on pages.
 #[derive(Clone, Copy, Debug, PartialEq)]

@@ -11,7 +11,7 @@ use crate::runs::commands::{PageCommand, PageReply};
 use crate::runs::faults::PageRunFault;
 use crate::runs::running::run_pages;
 use crate::{AtlasPages, PageOptions};
-use etagere::Size;
+use etagere_shelves::Size;
 use std::alloc::{AllocError, Global};
 
 /// Asks for these sizes in order on new pages of these options, and gives the reply to each: its place, or that no page

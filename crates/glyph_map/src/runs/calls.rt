@@ -3,7 +3,7 @@
 //! The definition of runs (`Runs`) matches on them.
 
 use crate::{Placed, Refused};
-use etagere::{AtlasGrowFault, Rectangle, Size};
+use etagere_shelves::{AtlasGrowFault, Rectangle, Size};
 use std::num::NonZeroUsize;
 
 /// A call of a map.

@@ -8,7 +8,7 @@ ghost use Rattle.shelf_model.specs.State as state;
 ghost use Rattle.moves.specs.Atlases.Arranging.{Arranges};
 ghost use Rattle.moves.specs.Atlases.Private.Sides.{HasSides};
 
-use etagere::{Allocation, AtlasAllocator};
+use etagere_shelves::{Allocation, AtlasAllocator};
 use std::alloc::AllocError;
 
 /// A rectangle that found a place in the new atlas.

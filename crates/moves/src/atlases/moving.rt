@@ -22,7 +22,7 @@ ghost use Rattle.moves.specs.Atlases.Private.Sides.{HasSides};
 use crate::atlases::kept_options::options_of;
 use crate::atlases::moves::{Rearranged, place_next};
 use crate::atlases::order::sort_tallest_first;
-use etagere::{Allocation, AtlasAllocator, Iter, OptionsFault, Size};
+use etagere_shelves::{Allocation, AtlasAllocator, Iter, OptionsFault, Size};
 use pictures::Pictured;
 use std::alloc::{AllocError, Global};
 

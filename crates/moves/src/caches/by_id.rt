@@ -9,7 +9,7 @@ ghost use Rattle.moves.specs.Caches.Private.ById.{ids_moved, keyed_left, keyed_m
 
 use crate::atlases::Move;
 use crate::caches::moves::{KeyMove, UnplacedKey};
-use etagere::{AllocId, Allocation};
+use etagere_shelves::{AllocId, Allocation};
 use glyph_shelf::SavedKey;
 use std::alloc::{AllocError, Global};
 use std::collections::HashMap;

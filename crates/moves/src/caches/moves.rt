@@ -1,6 +1,6 @@
 //! What a rearrangement of a cache answers.
 
-use etagere::Rectangle;
+use etagere_shelves::Rectangle;
 use glyph_shelf::GlyphCache;
 
 /// A key that found a place in the new atlas.

@@ -10,7 +10,7 @@ ghost use Rattle.padding.specs.Padding.{IsNear};
 ghost use Rattle.padding.specs.Caches.Padded.{trimmed_entry};
 
 use crate::Padding;
-use etagere::Rectangle;
+use etagere_shelves::Rectangle;
 use std::iter::FusedIterator;
 use std::marker::Model;
 

@@ -19,7 +19,7 @@ ghost use Rattle.padding.specs.Caches.Padded.{KeepsCachePadding, PlacesPadded, R
 use crate::Padding;
 use crate::caches::listing::Iter;
 use crate::caches::trimming::without_padding;
-use etagere::{AllocatorOptions, AtlasGrowFault, OptionsFault, Rectangle, Size};
+use etagere_shelves::{AllocatorOptions, AtlasGrowFault, OptionsFault, Rectangle, Size};
 use glyph_shelf::{GlyphCache, GlyphFault, Placed};
 use std::alloc::{AllocError, Global};
 use std::marker::Model;

@@ -11,7 +11,7 @@ mod calls;
 
 use crate::caches::PaddedCache;
 pub use calls::{PaddedCall, PaddedReply};
-use etagere::{Rectangle, Size};
+use etagere_shelves::{Rectangle, Size};
 use std::num::NonZeroUsize;
 
 /// A cache with a padding, new or not, keeps its promises after each of its calls, whatever these are and whichever of

@@ -5,7 +5,7 @@ ghost use Rattle.padding.specs.Padding as spec;
 ghost use Rattle.padding.specs.Padding.{IsNear, IsNearPlace};
 
 use crate::Padding;
-use etagere::{Rectangle, point2};
+use etagere_shelves::{Rectangle, point2};
 
 /// The rectangle without its padding, as `Padding::trimmed` gives it, where no corner is farther than 2^30 from the
 /// origin. What a test may be told of isn't known to be near, though each rectangle of a cache is.

@@ -11,7 +11,7 @@ ghost use Rattle.padding.specs.Pages.Padded as spec;
 
 use crate::Padding;
 use atlas_pages::{Iter, PagedAllocation};
-use etagere::Allocation;
+use etagere_shelves::Allocation;
 use std::iter::FusedIterator;
 use std::marker::Model;
 

@@ -13,7 +13,7 @@ ghost use Rattle.atlas_pages.specs.Places.{NeedsMemory, cleared, is_allocated_on
 use crate::Padding;
 use crate::pages::listing::{PaddedIter, trimmed_place};
 use atlas_pages::{AtlasPages, FewerPages, PageOptions, PagedAllocation, PagesFault};
-use etagere::{AllocId, Rectangle, Size, UnknownId};
+use etagere_shelves::{AllocId, Rectangle, Size, UnknownId};
 use std::alloc::{AllocError, Global};
 use std::marker::Model;
 

@@ -6,7 +6,7 @@ ghost use Rattle.padding.specs.Pages.Runs.{EveryRunKeepsPadding, Step};
 
 use crate::pages::PaddedPages;
 use atlas_pages::runs::{PageCommand, PageReply};
-use etagere::{AllocId, Size};
+use etagere_shelves::{AllocId, Size};
 
 /// Pages with a padding, new or not, keep their promises after each command, whatever these are and whichever of the
 /// replies that the definition allows are given, and what they tell is what is there.

@@ -4,7 +4,7 @@
 
 use crate::PlacedKey;
 use atlas_pages::PagedAllocation;
-use etagere::Size;
+use etagere_shelves::Size;
 
 /// A call of a cache over pages.
 #[derive(Drop)]

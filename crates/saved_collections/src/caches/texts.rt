@@ -1,6 +1,6 @@
 //! What serde reads and writes of a cache. Whether it did is seen by holding the cache against the text.
 
-use etagere::{AllocId, AtlasSnapshot};
+use etagere_shelves::{AllocId, AtlasSnapshot};
 use glyph_shelf::{CacheSnapshot, SavedKey};
 use serde::{Deserialize, Serialize};
 use std::alloc::{AllocError, Global};

@@ -9,7 +9,7 @@ ghost use Rattle.saved_json.specs.Records.{AreRecords};
 ghost use Rattle.saved_json.specs.Snapshots.{IsArrayOf};
 ghost use Rattle.saved_collections.specs.Caches.Values.{IsCache, IsSavedAtlas, IsSavedKey};
 
-use etagere::AtlasSnapshot;
+use etagere_shelves::AtlasSnapshot;
 use glyph_shelf::{CacheSnapshot, SavedKey};
 use json::Value;
 use saved_json::{Spelled, field, holds_number};

@@ -1,7 +1,7 @@
 //! What serde reads and writes of pages. Whether it did is seen by holding the pages against the text.
 
 use atlas_pages::{PageChoice, PageOptions, PagesSnapshot};
-use etagere::{AllocatorOptions, AtlasSnapshot, Size};
+use etagere_shelves::{AllocatorOptions, AtlasSnapshot, Size};
 use serde::{Deserialize, Serialize};
 use std::alloc::{AllocError, Global};
 

@@ -1,7 +1,7 @@
 use Rattle.std.proofs.Common.{◌≡◌, length, take, drop}
 use Rattle.shelf_model.specs.Atlas.{Allocates}
 use Rattle.c_answers.specs.Batches.{GivesOver}
-use Rattle.etagere.specs.Plain.{allocation_in}
+use Rattle.etagere_shelves.specs.Plain.{allocation_in}
 use Rattle.c_answers.specs.Crossing.{size_in}
 use Rattle.c_answers.proofs.batches.allocate_each.Given as goal
 

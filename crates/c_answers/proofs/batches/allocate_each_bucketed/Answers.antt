@@ -3,7 +3,7 @@ use Rattle.std.specs.Prelude.{pos}
 use Rattle.std.proofs.Math.Seq.{take-suc}
 use Rattle.std.proofs.lemmas.List.{drop-set-lt}
 use Rattle.bucketed_model.specs.Atlas.{Allocates}
-use Rattle.etagere.specs.Plain.{allocation_in}
+use Rattle.etagere_shelves.specs.Plain.{allocation_in}
 use Rattle.c_answers.specs.Crossing.{size_in}
 use Rattle.c_answers.proofs.BatchSteps.{drop_on, gives_on}
 use Rattle.c_answers.proofs.batches.allocate_each_bucketed.Goals as goal

@@ -1,6 +1,6 @@
 use Rattle.std.proofs.Common.{◌≡◌, ◌+◌, ◌++◌, length, map, take, drop}
 use Rattle.shelf_model.specs.Listing.{listed}
-use Rattle.etagere.specs.Plain.{allocation_in}
+use Rattle.etagere_shelves.specs.Plain.{allocation_in}
 use Rattle.c_answers.proofs.listing.write_each.Given as goal
 
 -- what is written and what is left are all, and the rest of the buffer is as it was

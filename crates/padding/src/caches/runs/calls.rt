@@ -2,7 +2,7 @@
 //!
 //! The definition of runs (`Runs`) matches on them.
 
-use etagere::{AtlasGrowFault, Rectangle, Size};
+use etagere_shelves::{AtlasGrowFault, Rectangle, Size};
 use glyph_shelf::{GlyphFault, Placed};
 use std::num::NonZeroUsize;
 

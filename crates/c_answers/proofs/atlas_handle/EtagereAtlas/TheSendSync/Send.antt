@@ -3,8 +3,8 @@ use denote.Struct.Owning.{shape, fields, to}
 use denote.Param.Send.{IsSend, AllSend, owning_send, struct_send, sendable}
 use Rattle.std_alloc.proofs.SendSync.{quiet}
 use Rattle.std.proofs.alloc.Global.TheSendSync as heap
-use Rattle.etagere.specs.contracts.atlas.AtlasAllocator as Held
-use Rattle.etagere.proofs.atlas.AtlasAllocator.TheSendSync.{the_send as held_send}
+use Rattle.etagere_shelves.specs.contracts.atlas.AtlasAllocator as Held
+use Rattle.etagere_shelves.proofs.atlas.AtlasAllocator.TheSendSync.{the_send as held_send}
 use Rattle.c_answers.proofs.Sending.{held_keyless}
 use Rattle.c_answers.specs.contracts.atlas_handle.EtagereAtlas.{the_row, the_type}
 

@@ -35,7 +35,7 @@ use Rattle.std.specs.contracts.alloc.Global as heap
 use Rattle.c_answers.specs.contracts.atlas_handle.EtagereAtlas.{the_row as TheRow}
 use Rattle.c_answers.proofs.HandleSteps.{pointer_typed, word, word_typed, handle_out, handle_in, either_held, boxed}
 use Rattle.c_answers.specs.Held.{held}
-use Rattle.etagere.specs.contracts.atlas.AtlasAllocator as Atlas
+use Rattle.etagere_shelves.specs.contracts.atlas.AtlasAllocator as Atlas
 use Rattle.c_answers.specs.contracts.atlas_handle.EtagereAtlas.into_parts as F
 use Rattle.c_answers.specs.contracts.atlas_handle.EtagereAtlas.into_parts.Key.{name as #self}
 use Rattle.c_answers.proofs.atlas_handle.EtagereAtlas.into_parts.Statement as stated

@@ -36,7 +36,7 @@ use Rattle.std.proofs.option.Made.{Some-of, none_of}
 use Rattle.std.proofs.raw_atomic.Walks.{proved}
 use Rattle.c_answers.specs.Held.{held}
 use Rattle.c_answers.proofs.HandleSteps.{pointer_typed, word, handle_out, handle_in, either_held, boxed}
-use Rattle.etagere.specs.contracts.atlas.AtlasAllocator as Held
+use Rattle.etagere_shelves.specs.contracts.atlas.AtlasAllocator as Held
 use Rattle.c_answers.specs.contracts.atlas_handle.EtagereAtlas.{the_row as R}
 use Rattle.c_answers.specs.contracts.atlas_handle.EtagereAtlas.lend as f
 use Rattle.c_answers.proofs.atlas_handle.EtagereAtlas.lend.Statement.{statement}

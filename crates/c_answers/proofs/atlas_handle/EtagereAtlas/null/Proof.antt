@@ -28,7 +28,7 @@ use Rattle.std.proofs.alloc.Calls.{handle_tells}
 use Rattle.c_answers.proofs.AtlasBox.{Alloc}
 use Rattle.c_answers.proofs.HandleSteps.{al, word, word_typed, handle_in}
 use Rattle.c_answers.specs.Held.{held}
-use Rattle.etagere.specs.contracts.atlas.AtlasAllocator as Atlas
+use Rattle.etagere_shelves.specs.contracts.atlas.AtlasAllocator as Atlas
 use Rattle.c_answers.specs.contracts.atlas_handle.EtagereAtlas.null as F
 use Rattle.c_answers.specs.contracts.atlas_handle.EtagereAtlas.null.Key.{name as #self}
 use Rattle.c_answers.proofs.atlas_handle.EtagereAtlas.null.Statement as stated

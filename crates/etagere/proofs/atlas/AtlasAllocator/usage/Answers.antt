@@ -1,6 +1,0 @@
-use Rattle.std.proofs.Common.{ap, ◌∙◌}
-use Rattle.shelf_model.specs.Usage.{usage}
-use Rattle.etagere.proofs.atlas.AtlasAllocator.usage.Goals as goal
-
-pub returns : goal.returns
-returns c = c.usage.ensures ∙ ap usage c.self.view_is

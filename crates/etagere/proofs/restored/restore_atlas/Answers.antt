@@ -1,5 +1,0 @@
-use Rattle.etagere_base.specs.declared.faults.RestoreFault.TheVariants.{Space}
-use Rattle.etagere.proofs.restored.restore_atlas.Goals as goal
-
-pub of_judged-requires-clause-space : goal.of_judged-requires-clause-space
-of_judged-requires-clause-space c = c.in_ok-walked.ensures.ok.keeps Space

@@ -1,0 +1,225 @@
+use Rattle.std.specs.Prelude.{◌≡◌, Bool, true, false, OnErr, Result, Ok, Err, Some}
+use Rattle.std.proofs.Common.{◌≤◌, List, ap, length, refl, sym, subst, arith, ◌∙◌}
+use Rattle.etagere_base.specs.Rectangles.{IsLarge}
+use Rattle.etagere_base.specs.declared.ids.Allocation.{Allocation}
+use Rattle.shelf_records.specs.RecordLists.{Records}
+use Rattle.shelf_model.specs.Atlas.{Adds, Allocates, KeepsPromises, NeedsSplit}
+use Rattle.shelf_model.specs.Choice.{Placement}
+use Rattle.shelf_model.specs.ById.{IsClear, KeepsRectangles}
+use Rattle.shelf_model.specs.Places.{allocations, rectangle_of}
+use Rattle.etagere_shelves.specs.Plain.{allocation_in, rectangle_in}
+use Rattle.etagere_shelves.specs.Private.Consistent.{IsConsistent, state_in}
+use Rattle.etagere_shelves.specs.declared.atlas.AtlasAllocator.TheInside.{Inside}
+use Rattle.shelf_heights.specs.Private.ByHeight.{AreByHeight}
+use Rattle.shelf_store.specs.Private.Settling.{AreByHeightButNoted, AreSettled}
+use Rattle.shelf_records.specs.Private.Kept.{state_of}
+use Rattle.shelf_notes.specs.Private.Pending.{Notes}
+use Rattle.shelf_store.specs.Private.PlacementTaken.{placement_taken, taken_notes}
+use Rattle.shelf_model.specs.State.{AtlasState}
+use Rattle.shelf_heights.specs.declared.by_height.BoundedShelf.{BoundedShelf}
+use Rattle.shelf_model.proofs.Allocations.SeenById.{added-clear, keeps-rectangles}
+use Rattle.shelf_store.proofs.ByHeight.NewByHeight.{columns-by_height}
+use Rattle.shelf_store.proofs.ByHeight.RoomByHeight.{items-short}
+use Rattle.shelf_store.proofs.ByHeight.SplitByHeight.{settled-holds}
+use Rattle.shelf_model.proofs.Promises.{promises}
+use Rattle.shelf_store.proofs.Recorded.RecordedTaking.{AfterTaking, after-taking, found-as_placed, found-holds, found-there}
+use Rattle.shelf_store.proofs.Spelled.TakenPremises.{can-take}
+use Rattle.etagere_base.proofs.FrameSides.{column_width-le, sides_low}
+use Rattle.shelf_records.proofs.Spelled.StandsKept.{witnesses}
+use Rattle.etagere_shelves.proofs.atlas.AtlasAllocator.allocate_to.Goals as goal
+
+on_err : {T E P : Type 0} (r : Result T E) → P → OnErr r P
+on_err (Ok x) p = tt
+on_err (Err e) p = p
+
+pub returns-in_default-clause-promises : goal.returns-in_default-clause-promises
+returns-in_default-clause-promises c = promises (state_in c.self.inside) (witnesses c.self.invariant.kept).valid
+
+pub rectangle-rectangle-requires : goal.rectangle-rectangle-requires
+rectangle-rectangle-requires c =
+    let inside = c.self.inside in
+    let as_placed = found-as_placed inside.frame inside.records c.args.size c.in-Some.placement c.self.invariant.kept c.in-Some.ensures.some in
+    record { right = as_placed.right; bottom = as_placed.bottom }
+
+pub take_placement-requires-clause-takes : goal.take_placement-requires-clause-takes
+take_placement-requires-clause-takes c =
+    let inside = c.self.inside in
+    let finds = c.in-Some.ensures.some in
+    can-take inside.frame inside.records c.args.size finds.placement c.in-Some.placement c.self.invariant.kept finds.placed finds.located
+
+pub take_placement-requires-clause-there : goal.take_placement-requires-clause-there
+take_placement-requires-clause-there c =
+    let inside = c.self.inside in
+    found-there inside.frame inside.records c.args.size c.in-Some.placement c.self.invariant.kept c.in-Some.ensures.some
+
+pub take_placement-requires-clause-room : goal.take_placement-requires-clause-room
+take_placement-requires-clause-room c = omega (arith, c.self.invariant.room, c.settle_unless_few-follows.ensures.capacity, c.placement_of-found.ensures.capacity)
+
+pub take_placement-requires-clause-room_to_note : goal.take_placement-requires-clause-room_to_note
+take_placement-requires-clause-room_to_note c = omega (arith, c.self.invariant.room_to_note, c.settle_unless_few-follows.ensures.room)
+
+pub returns-in_err-id-clause-split : goal.returns-in_err-id-clause-split
+returns-in_err-id-clause-split c =
+    let inside = c.self.inside in
+    let finds = c.in-Some.ensures.some in
+    let as_placed = found-as_placed inside.frame inside.records c.args.size c.in-Some.placement c.self.invariant.kept finds in
+    let needs : NeedsSplit (state_in inside) c.args.size =
+    record {
+      placement = finds.placement;
+      placed = finds.placed;
+      split = omega (arith, as_placed.splits, c.in_err-id.ensures.split);
+      short = λ none.
+          items-short inside.frame inside.records c.in-Some.placement.splits_shelf c.in-Some.placement.splits_item c.self.invariant.kept c.in_err-id.ensures.short
+          (ap (λ (p : Placement). p.splits_shelf) finds.located.same ∙ none);
+    } in
+    on_err c.from_residual.result (subst (λ (state : AtlasState). NeedsSplit state c.args.size) c.self.view_is needs)
+
+pub returns-in_err-id-clause-promises : goal.returns-in_err-id-clause-promises
+returns-in_err-id-clause-promises c =
+    let frame = c.self.inside.frame in
+    subst (λ (r : Records). KeepsPromises (state_of frame r)) (sym c.in_err-id.ensures.err) (promises (state_in c.self.inside) (witnesses c.self.invariant.kept).valid)
+
+pub area-requires : goal.area-requires
+area-requires c =
+    let inside = c.self.inside in
+    let as_placed = found-as_placed inside.frame inside.records c.args.size c.in-Some.placement c.self.invariant.kept c.in-Some.ensures.some in
+    (omega (arith, as_placed.right), omega (arith, as_placed.bottom))
+
+pub overflow_add-self-2 : goal.overflow_add-self-2
+overflow_add-self-2 c =
+    let inside = c.self.inside in
+    let done : AfterTaking inside.frame inside.records c.args.size c.in-Some.placement (record { id = c.in_ok-id.id; rectangle = c.rectangle-rectangle.result }) c.take_placement.new.records =
+    after-taking inside.frame inside.records c.take_placement.new.records c.args.size c.in-Some.placement c.in_ok-id.id c.rectangle-rectangle.result
+    c.self.invariant.kept c.in-Some.ensures.some c.in_ok-id.ensures.ok c.in_ok-id.ensures.id c.rectangle-rectangle.ensures in
+    omega (arith, done.small, c.area.ensures, c.self.invariant.space)
+
+-- what is known at the end
+after : (c : goal.After-of) → AfterTaking c.self.inside.frame c.self.inside.records c.args.size c.in-Some.placement (record { id = c.in_ok-id.id; rectangle = c.rectangle-rectangle.result }) c.take_placement.new.records
+after c =
+    let inside = c.self.inside in
+    after-taking inside.frame inside.records c.take_placement.new.records c.args.size c.in-Some.placement c.in_ok-id.id c.rectangle-rectangle.result
+    c.self.invariant.kept c.in-Some.ensures.some c.in_ok-id.ensures.ok c.in_ok-id.ensures.id c.rectangle-rectangle.ensures
+
+-- what the fields keep of the shelves by height once these were searched, where the list follows the records, and where not
+searched : (inside : Inside) (by_height new : List BoundedShelf) (notes : Notes) (follows : Bool) → IsConsistent inside → AreByHeightButNoted inside.frame inside.records notes by_height
+    → (follows ≡ true → AreSettled inside.records notes) → (follows ≡ true → AreByHeight inside.frame inside.records new)
+    → (follows ≡ false → by_height ≡ inside.by_height.items) → (follows ≡ false → new ≡ by_height)
+    → AreByHeightButNoted inside.frame inside.records notes new × (inside.frame.columns ≤ length new)
+searched inside by_height new notes true is holds settled are before same =
+    (settled-holds inside.frame inside.records notes new is.kept (are refl) (settled refl), columns-by_height inside.frame inside.records new is.kept (are refl))
+searched inside by_height new notes false is holds settled are before same = (
+  subst (AreByHeightButNoted inside.frame inside.records notes) (sym (same refl)) holds,
+  subst (λ (bs : List BoundedShelf). inside.frame.columns ≤ length bs) (sym (same refl ∙ before refl)) is.columns,
+)
+
+searched-before : (c : goal.After-of) → AreByHeightButNoted c.self.inside.frame c.self.inside.records c.settle_unless_few-follows.new.pending.notes c.placement_of-found.new.by_height.items × (c.self.inside.frame.columns ≤ length c.placement_of-found.new.by_height.items)
+searched-before c =
+    searched c.self.inside c.settle_unless_few-follows.new.by_height.items c.placement_of-found.new.by_height.items c.settle_unless_few-follows.new.pending.notes c.settle_unless_few-follows.result c.self.invariant
+    c.settle_unless_few-follows.ensures.by_height c.settle_unless_few-follows.ensures.settled c.placement_of-found.ensures.by_height c.settle_unless_few-follows.ensures.same c.placement_of-found.ensures.same
+
+-- and once what was found was taken
+by_height-after : (c : goal.After-of) → AreByHeightButNoted c.self.inside.frame c.take_placement.new.records c.take_placement.new.pending.notes c.take_placement.new.by_height.items
+by_height-after c =
+    let inside = c.self.inside in
+    let column_width = inside.frame.column_width in
+    let found = c.in-Some.placement in
+    let notes : Notes = c.settle_unless_few-follows.new.pending.notes in
+    let by_height : List BoundedShelf = c.placement_of-found.new.by_height.items in
+    let before = searched-before c in
+    let holds : AreByHeightButNoted inside.frame (placement_taken column_width found inside.records) (taken_notes found inside.records notes) by_height =
+    found-holds inside.frame inside.records c.args.size found notes by_height c.self.invariant.kept c.in-Some.ensures.some before.0 in
+    subst (AreByHeightButNoted inside.frame c.take_placement.new.records c.take_placement.new.pending.notes) (sym c.in_ok-id.ensures.by_height)
+    (subst (λ (n : Notes). AreByHeightButNoted inside.frame c.take_placement.new.records n by_height) (sym c.in_ok-id.ensures.notes)
+    (subst (λ (r : Records). AreByHeightButNoted inside.frame r (taken_notes found inside.records notes) by_height) (sym c.in_ok-id.ensures.ok) holds))
+
+pub invariant_of-self : goal.invariant_of-self
+invariant_of-self c =
+    let same = searched c.self.inside c.settle_unless_few-follows.new.by_height.items c.placement_of-found.new.by_height.items c.settle_unless_few-follows.new.pending.notes c.settle_unless_few-follows.result c.self.invariant
+    c.settle_unless_few-follows.ensures.by_height c.settle_unless_few-follows.ensures.settled c.placement_of-found.ensures.by_height c.settle_unless_few-follows.ensures.same c.placement_of-found.ensures.same in
+    record {
+      kept = c.self.invariant.kept;
+      by_height = same.0;
+      columns = same.1;
+      room = omega (arith, c.self.invariant.room, c.settle_unless_few-follows.ensures.capacity, c.placement_of-found.ensures.capacity);
+      room_to_note = omega (arith, c.self.invariant.room_to_note, c.settle_unless_few-follows.ensures.room);
+      counted = c.self.invariant.counted;
+      space = c.self.invariant.space;
+    }
+
+pub invariant_of-self-in_err-id : goal.invariant_of-self-in_err-id
+invariant_of-self-in_err-id c =
+    let inside = c.self.inside in
+    let same = searched c.self.inside c.settle_unless_few-follows.new.by_height.items c.placement_of-found.new.by_height.items c.settle_unless_few-follows.new.pending.notes c.settle_unless_few-follows.result c.self.invariant
+    c.settle_unless_few-follows.ensures.by_height c.settle_unless_few-follows.ensures.settled c.placement_of-found.ensures.by_height c.settle_unless_few-follows.ensures.same c.placement_of-found.ensures.same in
+    rw c.in_err-id.ensures.err
+    (record {
+      kept = c.self.invariant.kept;
+      by_height = subst (AreByHeightButNoted inside.frame inside.records c.take_placement.new.pending.notes) (sym c.in_err-id.ensures.by_height)
+          (subst (λ (n : Notes). AreByHeightButNoted inside.frame inside.records n c.placement_of-found.new.by_height.items) (sym c.in_err-id.ensures.notes_err) same.0);
+      columns = subst (λ (bs : List BoundedShelf). inside.frame.columns ≤ length bs) (sym c.in_err-id.ensures.by_height) same.1;
+      room = subst (λ (r : Records). length r.shelves ≤ c.take_placement.new.by_height.capacity) c.in_err-id.ensures.err c.in_err-id.ensures.room;
+      room_to_note = subst (λ (r : Records). length r.shelves ≤ c.take_placement.new.pending.room) c.in_err-id.ensures.err c.in_err-id.ensures.room_to_note;
+      counted = c.self.invariant.counted;
+      space = c.self.invariant.space;
+    })
+
+pub invariant_of-self-2 : goal.invariant_of-self-2
+invariant_of-self-2 c = record {
+  kept = (after c).kept;
+  by_height = by_height-after c;
+  columns = subst (λ (bs : List BoundedShelf). c.self.inside.frame.columns ≤ length bs) (sym c.in_ok-id.ensures.by_height) (searched-before c).1;
+  room = c.in_ok-id.ensures.room;
+  room_to_note = c.in_ok-id.ensures.room_to_note;
+  counted = omega (arith, (after c).counted, c.splits.ensures.value, c.self.invariant.counted);
+  space = omega (arith, (after c).space, c.area.ensures, c.self.invariant.space);
+}
+
+-- what is given, for which stands what was written
+abbrev given : (c : goal.After-of) → Allocation
+given c = record { id = c.in_ok-id.id; rectangle = c.rectangle-rectangle.result }
+
+-- the state after
+abbrev state-after : (c : goal.After-of) → AtlasState
+state-after c = state_of c.self.inside.frame c.take_placement.new.records
+
+pub returns-clause-placed : goal.returns-clause-placed
+returns-clause-placed c = λ _.
+    subst (λ (state : AtlasState). Allocates state c.args.size (allocation_in c.of.result) (state-after c)) c.self.view_is
+    (subst (λ (allocation : Allocation). Allocates (state_in c.self.inside) c.args.size allocation (state-after c)) (sym c.of.ensures) (after c).allocated.allocates)
+
+pub returns-clause-allocated : goal.returns-clause-allocated
+returns-clause-allocated c = λ _.
+    subst (λ (state : AtlasState). Adds (allocations state) (allocation_in c.of.result) (allocations (state-after c))) c.self.view_is
+    (subst (λ (allocation : Allocation). Adds (allocations (state_in c.self.inside)) allocation (allocations (state-after c))) (sym c.of.ensures) (after c).allocated.adds)
+
+pub returns-clause-found : goal.returns-clause-found
+returns-clause-found c = λ _.
+    subst (λ (allocation : Allocation). rectangle_of (state-after c) allocation.id ≡ Some allocation.rectangle) (sym c.of.ensures) (after c).allocated.found
+
+pub returns-clause-large : goal.returns-clause-large
+returns-clause-large c = λ _.
+    subst (λ (state : AtlasState). IsLarge state.frame c.args.size (rectangle_in c.of.result.rectangle)) c.self.view_is
+    (subst (λ (allocation : Allocation). IsLarge c.self.inside.frame c.args.size allocation.rectangle) (sym c.of.ensures) (after c).allocated.large)
+
+pub returns-clause-promises : goal.returns-clause-promises
+returns-clause-promises c = (after c).allocated.promises_after
+
+pub returns-clause-kept : goal.returns-clause-kept
+returns-clause-kept c =
+    subst (λ (state : AtlasState). KeepsRectangles state (state-after c)) c.self.view_is
+    (keeps-rectangles (state_in c.self.inside) (given c) (state-after c) (after c).allocated.adds (after c).allocated.allocates.fresh_id)
+
+pub returns-clause-clear : goal.returns-clause-clear
+returns-clause-clear c = λ _.
+    subst (λ (state : AtlasState). IsClear state (rectangle_in c.of.result.rectangle)) c.self.view_is
+    (subst (λ (allocation : Allocation). IsClear (state_in c.self.inside) allocation.rectangle) (sym c.of.ensures)
+    (added-clear (state_in c.self.inside) (given c) (state-after c) (after c).allocated.adds (after c).allocated.promises_after.apart))
+
+pub overflow_cast-column_width : goal.overflow_cast-column_width
+overflow_cast-column_width c =
+    let frame = c.self.inside.frame in
+    let is_frame = (witnesses c.self.invariant.kept).valid.frame in
+    omega (arith, column_width-le 65535 frame is_frame, (sides_low 65535 frame is_frame).0)
+
+pub overflow_add-self : goal.overflow_add-self
+overflow_add-self c = omega (arith, c.self.invariant.counted, c.splits.ensures.few, (witnesses c.self.invariant.kept).valid.peak_items)
