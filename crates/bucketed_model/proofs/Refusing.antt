@@ -9,24 +9,26 @@ use Rattle.etagere_base.proofs.Least.{first_least-is}
 use Rattle.etagere_base.specs.Least.{Found, first_least, one_later}
 use Rattle.etagere_base.specs.declared.frames.Frame.{Frame}
 use Rattle.etagere_base.specs.declared.geometry.Size.{Size}
+use Rattle.etagere_base.specs.declared.faults.SizeRefusal.TheVariants as sizes
 use Rattle.etagere_base.specs.declared.sides.Sides.{Sides}
 use Rattle.etagere_base.specs.Frames.{across_side, asked, rounded}
 use Rattle.etagere_base.specs.Sides.{side}
 use Rattle.bucketed_model.specs.declared.refusals.BucketedRefusal.{BucketedRefusal}
-use Rattle.bucketed_model.specs.declared.refusals.BucketedRefusal.TheVariants.{NotPositive, TooLong, WiderThanColumn, TallerThanAtlas, NoRoom, NoBuckets, ItemsUsedUp}
+use Rattle.bucketed_model.specs.declared.refusals.BucketedRefusal.TheVariants.{NoRoom, NoBuckets, ItemsUsedUp}
 use Rattle.bucketed_model.specs.Adding.{Remaining, can_add, left_to, needs_filler, new_shelves}
 use Rattle.bucketed_model.specs.Merging.{mergeable_shelves}
 use Rattle.bucketed_model.specs.Picking.{Spot, exact_or, free_width, has_room, is_eligible, or_else, pick, roomy_bucket, spot_in, waste}
 use Rattle.bucketed_model.specs.Placing.{BucketPlace, BucketPlacement, InAdded, InBucket, InMerged, bucket_place, placement_of}
-use Rattle.bucketed_model.specs.Refusal.{greatest, has_space, has_width, is_wide, place_refusal, refusal, room, rooms_in, shelves_refusal, size_refusal, widest}
+use Rattle.bucketed_model.specs.Refusal.{greatest, has_space, has_width, is_wide, of_size, place_refusal, refusal, room, rooms_in, shelves_refusal, size_refusal, widest}
 use Rattle.bucketed_model.specs.RefusalLaws.{IsUsedUp}
 use Rattle.bucketed_model.specs.State.{Bucket, BucketShelf, BucketedState, buckets_left, most_given}
 
 -- the reasons of a size, by the tests of its sides
 abbrev reason_by : (empty long wide tall : Bool) → Option BucketedRefusal
 reason_by empty long wide tall =
-    if empty then Some NotPositive
-    else (if long then Some TooLong else (if wide then Some WiderThanColumn else (if tall then Some TallerThanAtlas else None)))
+    option_map of_size
+    (if empty then Some sizes.NotPositive
+    else (if long then Some sizes.TooLong else (if wide then Some sizes.WiderThanColumn else (if tall then Some sizes.TallerThanAtlas else None))))
 
 -- the sides asked for, by the same tests
 abbrev asked_by : (no_width no_height wide_side tall_side wide tall : Bool) → Sides → Option Sides

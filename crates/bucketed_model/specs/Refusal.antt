@@ -1,10 +1,13 @@
 -- Why a size has no place in a bucketed atlas, and by which number that is told.
-use Rattle.std.specs.Prelude.{ℕ, Bool, ◌&&◌, ◌||◌, max, not, Option, None, Some, option_and_then, is_some, List, [], ◌∷◌, find, flat_map, map, nat_le, nat_lt, ◌==◌, if◌then◌else◌}
+use Rattle.std.specs.Prelude.{ℕ, Bool, ◌&&◌, ◌||◌, max, not, Option, None, Some, option_and_then, option_map, is_some, List, [], ◌∷◌, find, flat_map, map, nat_le, nat_lt, if◌then◌else◌}
 use Rattle.std.specs.List.{list_any}
 use Rattle.etagere_base.specs.declared.frames.Frame.{Frame}
 use Rattle.etagere_base.specs.declared.geometry.Size.{Size}
 use Rattle.etagere_base.specs.declared.sides.Sides.{Sides}
-use Rattle.etagere_base.specs.Frames.{across_side, asked, is_not_positive, is_too_long, rounded}
+use Rattle.etagere_base.specs.declared.faults.SizeRefusal.{SizeRefusal}
+use Rattle.etagere_base.specs.declared.faults.SizeRefusal.TheVariants as sizes
+use Rattle.etagere_base.specs.Frames.{asked}
+use Rattle.etagere_base.specs.Refusing as sizes_refused
 use Rattle.bucketed_model.specs.declared.refusals.BucketedRefusal.{BucketedRefusal}
 use Rattle.bucketed_model.specs.declared.refusals.BucketedRefusal.TheVariants as reasons
 use Rattle.bucketed_model.specs.Adding.{Remaining, has_later_column, left_to}
@@ -12,15 +15,16 @@ use Rattle.bucketed_model.specs.Picking.{free_width, or_else}
 use Rattle.bucketed_model.specs.Placing.{bucket_place}
 use Rattle.bucketed_model.specs.State.{Bucket, BucketShelf, BucketedState, most_given}
 
+-- the reason of a size itself, as one of a bucketed atlas
+abbrev pub of_size : SizeRefusal → BucketedRefusal
+of_size sizes.NotPositive = reasons.NotPositive
+of_size sizes.TooLong = reasons.TooLong
+of_size sizes.WiderThanColumn = reasons.WiderThanColumn
+of_size sizes.TallerThanAtlas = reasons.TallerThanAtlas
+
 -- the first reason why no shelf of a frame, however empty, could take a size
 abbrev pub size_refusal : Frame → Size → Option BucketedRefusal
-size_refusal frame size =
-    if is_not_positive size then Some reasons.NotPositive
-    else (if is_too_long size then Some reasons.TooLong
-    else (if nat_lt frame.column_width (rounded frame size).along then Some reasons.WiderThanColumn
-    else (if nat_lt (across_side frame) (rounded frame size).across
-    then Some reasons.TallerThanAtlas
-    else None)))
+size_refusal frame size = option_map of_size (sizes_refused.size_refusal frame size)
 
 -- the greatest of some numbers, 0 where there are none
 abbrev pub greatest : List ℕ → ℕ

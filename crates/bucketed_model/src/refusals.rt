@@ -7,7 +7,7 @@ ghost use Rattle.bucketed_model.specs.Adding as adding;
 ghost use Rattle.bucketed_model.specs.Refusal as spec;
 
 use crate::adding::{Remaining, has_later_column};
-use etagere_base::{Frame, Size, is_not_positive, is_too_long, rounded};
+use etagere_base::{Frame, Size, SizeRefusal};
 use thiserror::Error;
 
 /// Why a bucketed atlas has no place for a size. The first is returned, in this order. `along` and `across` are meant
@@ -70,20 +70,12 @@ pub fn size_refusal(frame: &Frame, size: Size) -> Option<BucketedRefusal>
         (frame.now.alignment_height < 2 ^ 31) }
     ensures { result ≡ spec.size_refusal frame.now size }
 {
-    if is_not_positive(size) {
-        return Some(BucketedRefusal::NotPositive);
+    match etagere_base::size_refusal(frame, size)? {
+        SizeRefusal::NotPositive => Some(BucketedRefusal::NotPositive),
+        SizeRefusal::TooLong => Some(BucketedRefusal::TooLong),
+        SizeRefusal::WiderThanColumn => Some(BucketedRefusal::WiderThanColumn),
+        SizeRefusal::TallerThanAtlas => Some(BucketedRefusal::TallerThanAtlas),
     }
-    if is_too_long(size) {
-        return Some(BucketedRefusal::TooLong);
-    }
-    let sides = rounded(frame, size);
-    if frame.column_width < sides.along {
-        return Some(BucketedRefusal::WiderThanColumn);
-    }
-    if frame.across_side() < sides.across {
-        return Some(BucketedRefusal::TallerThanAtlas);
-    }
-    None
 }
 
 /// Whether there is space for a new shelf so tall: in the current column, or in one after it.

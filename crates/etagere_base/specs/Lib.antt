@@ -11,5 +11,6 @@ pub mod MergingAt
 pub mod Options
 pub mod Places
 pub mod Rectangles
+pub mod Refusing
 pub mod RestoreFaults
 pub mod Sides

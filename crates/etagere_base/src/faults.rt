@@ -61,6 +61,20 @@ pub enum ResizeFault {
     Area,
 }
 
+/// Why no shelf of an atlas, however empty, could take a size, tested in this order. Each kind of atlas has a reason of its
+/// own for each.
+#[derive(Clone, Copy, Debug, PartialEq, Eq)]
+pub enum SizeRefusal {
+    /// A side of the size is below 1.
+    NotPositive,
+    /// A side of the size is above 65535.
+    TooLong,
+    /// The side along the shelves, rounded up to its alignment, is above the width of a column.
+    WiderThanColumn,
+    /// The side across the shelves, rounded up to its alignment, is above that of the atlas.
+    TallerThanAtlas,
+}
+
 /// Why an atlas can't be restored from a snapshot: a rule that the snapshot breaks. Where it breaks several, any of
 /// them is returned.
 #[derive(Clone, Copy, Debug, PartialEq, Eq, Error)]

@@ -198,14 +198,14 @@ pub(crate) fn are_sides(longest: u16, size: Size) -> bool
 }
 
 /// Whether a side of a size is below 1.
-pub fn is_not_positive(size: Size) -> bool
+pub(crate) fn is_not_positive(size: Size) -> bool
     ensures { result ≡ spec.is_not_positive size }
 {
     side(size.width) == 0 || side(size.height) == 0
 }
 
 /// Whether a side of a size is longer than that of any atlas.
-pub fn is_too_long(size: Size) -> bool
+pub(crate) fn is_too_long(size: Size) -> bool
     ensures { result ≡ spec.is_too_long size }
 {
     let longest = u32::from(LONGEST_SIDE);

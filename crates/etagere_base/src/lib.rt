@@ -14,18 +14,17 @@ mod ids;
 mod options;
 mod places;
 mod plain_laws;
+mod refusing;
 mod sides;
 
 pub use drawing::{Colour, Drawn};
-pub use faults::{OptionsFault, ResizeFault, RestoreFault, UnknownId};
+pub use faults::{OptionsFault, ResizeFault, RestoreFault, SizeRefusal, UnknownId};
 pub use frame_ranges::is_frame;
-pub use frames::{
-    Frame, LONGEST_SIDE, asked, atlas_frame, column_width, is_not_positive, is_too_long,
-    options_fault, rounded,
-};
+pub use frames::{Frame, LONGEST_SIDE, asked, atlas_frame, column_width, options_fault, rounded};
 pub use geometry::{Point, Rectangle, Size, point2, size2};
 pub use growing::{grown_frame, resize_fault};
 pub use ids::{AllocId, Allocation, INDEX_MODULUS};
 pub use options::{AllocatorOptions, DEFAULT_OPTIONS};
 pub use places::{rectangle_at, size_at};
+pub use refusing::size_refusal;
 pub use sides::{Sides, side, step, swapped_axes, up};

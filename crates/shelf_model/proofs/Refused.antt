@@ -5,15 +5,17 @@ use Rattle.std.specs.Prelude.{◌↔◌, ◌==◌, ◌&&◌, ◌||◌, IsTrue, f
 use Rattle.std.specs.Option.{option_map_or}
 use Rattle.etagere_base.specs.declared.frames.Frame.{Frame}
 use Rattle.etagere_base.specs.declared.geometry.Size.{Size}
+use Rattle.etagere_base.specs.declared.faults.SizeRefusal.TheVariants as sizes
 use Rattle.etagere_base.specs.declared.sides.Sides.{Sides}
 use Rattle.etagere_base.specs.Frames.{across_side, asked, is_not_positive, is_too_long, rounded}
+use Rattle.etagere_base.specs.Refusing.{is_taller_than_atlas, is_wider_than_column}
 use Rattle.etagere_base.specs.Sides.{side}
 use Rattle.etagere_base.proofs.AskedSides.{asked-sides}
 use Rattle.shelf_model.specs.declared.faults.Refusal.{Refusal}
 use Rattle.shelf_model.specs.declared.faults.Refusal.TheVariants.{NotPositive, TooLong, WiderThanColumn, TallerThanAtlas, NoRoom, NoRecords}
 use Rattle.shelf_model.specs.Choice.{Placement, chosen, placement_of, shelf_height, splits}
 use Rattle.shelf_model.specs.Laws.{FitsShelf}
-use Rattle.shelf_model.specs.Refusal.{has_no_room, is_taller_than_atlas, is_wider_than_column, lacks_records, refusal, widest_for}
+use Rattle.shelf_model.specs.Refusal.{has_no_room, lacks_records, of_size, refusal, widest_for}
 use Rattle.shelf_model.specs.RefusalLaws.{HasNoRoom, SomeFits}
 use Rattle.shelf_model.specs.State.{AtlasState, Item, Shelf, is_free, items_in_use}
 use Rattle.shelf_model.specs.Valid.{IsValid}
@@ -204,11 +206,13 @@ module _ (state : AtlasState) (valid : IsValid state) (size : Size) where
   -- the reasons, by their tests
   abbrev first_reason : Bool → Bool → Bool → Bool → Bool → Bool → Option Refusal
   first_reason missing long wide tall no_room no_records =
-      cond missing (Some NotPositive)
-      (cond long (Some TooLong)
-      (cond wide (Some WiderThanColumn)
-      (cond tall (Some TallerThanAtlas)
-      (cond no_room (Some (NoRoom (widest_for state asks))) (cond no_records (Some NoRecords) None)))))
+      option_map_or
+      (λ reason. Some (of_size reason))
+      (cond missing (Some sizes.NotPositive)
+      (cond long (Some sizes.TooLong)
+      (cond wide (Some sizes.WiderThanColumn)
+      (cond tall (Some sizes.TallerThanAtlas) None))))
+      (cond no_room (Some (NoRoom (widest_for state asks))) (cond no_records (Some NoRecords) None))
 
   -- there is no reason exactly where there is a place
   pub exact : (refusal state size ≡ None) ↔ IsTrue (is_some (placement_of state size))

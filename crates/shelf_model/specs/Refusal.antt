@@ -1,10 +1,13 @@
 -- Why a size has no place: each reason as a test of the state and the size, and the first that holds.
-use Rattle.std.specs.Prelude.{ℕ, ◌+◌, Bool, false, ◌||◌, Option, None, Some, nat_lt, ◌==◌, if◌then◌else◌}
+use Rattle.std.specs.Prelude.{ℕ, ◌+◌, Bool, false, Option, None, Some, nat_lt, if◌then◌else◌}
 use Rattle.std.specs.Option.{option_map_or}
 use Rattle.etagere_base.specs.declared.frames.Frame.{Frame}
 use Rattle.etagere_base.specs.declared.geometry.Size.{Size}
 use Rattle.etagere_base.specs.declared.sides.Sides.{Sides}
-use Rattle.etagere_base.specs.Frames.{across_side, is_not_positive, is_too_long, rounded}
+use Rattle.etagere_base.specs.declared.faults.SizeRefusal.{SizeRefusal}
+use Rattle.etagere_base.specs.declared.faults.SizeRefusal.TheVariants as sizes
+use Rattle.etagere_base.specs.Frames.{rounded}
+use Rattle.etagere_base.specs.Refusing.{size_refusal}
 use Rattle.shelf_model.specs.declared.faults.Refusal.{Refusal}
 use Rattle.shelf_model.specs.declared.faults.Refusal.TheVariants.{NotPositive, TooLong, WiderThanColumn, TallerThanAtlas, NoRoom, NoRecords}
 use Rattle.shelf_model.specs.Choice.{chosen, most_items, shelf_height, splits}
@@ -20,13 +23,12 @@ refusal_number TallerThanAtlas = 4
 refusal_number (NoRoom widest) = 5
 refusal_number NoRecords = 6
 
--- the side along is above the width of a column
-abbrev pub is_wider_than_column : Frame → Size → Bool
-is_wider_than_column frame size = nat_lt frame.column_width (rounded frame size).along
-
--- the side across is above that of the atlas
-abbrev pub is_taller_than_atlas : Frame → Size → Bool
-is_taller_than_atlas frame size = nat_lt (across_side frame) (rounded frame size).across
+-- the reason of a size itself, as one of an atlas of shelves
+abbrev pub of_size : SizeRefusal → Refusal
+of_size sizes.NotPositive = NotPositive
+of_size sizes.TooLong = TooLong
+of_size sizes.WiderThanColumn = WiderThanColumn
+of_size sizes.TallerThanAtlas = TallerThanAtlas
 
 -- the width of the widest free item of the shelves that are tall enough
 abbrev pub widest_for : AtlasState → Sides → ℕ
@@ -43,14 +45,16 @@ lacks_records state sides =
     (λ placement. nat_lt most_items (items_in_use state.shelves + splits placement))
     (chosen state sides) false
 
+-- the first reason for which the sides of a size that could fit have no place
+abbrev pub sides_refusal : AtlasState → Sides → Option Refusal
+sides_refusal state sides =
+    if has_no_room state sides then Some (NoRoom (widest_for state sides))
+    else (if lacks_records state sides then Some NoRecords
+    else None)
+
 -- the first reason for which a size has no place; none where it has one
 abbrev pub refusal : AtlasState → Size → Option Refusal
 refusal state size =
-    let sides = rounded state.frame size in
-    if is_not_positive size then Some NotPositive
-    else (if is_too_long size then Some TooLong
-    else (if is_wider_than_column state.frame size then Some WiderThanColumn
-    else (if is_taller_than_atlas state.frame size then Some TallerThanAtlas
-    else (if has_no_room state sides then Some (NoRoom (widest_for state sides))
-    else (if lacks_records state sides then Some NoRecords
-    else None)))))
+    option_map_or
+    (λ reason. Some (of_size reason))
+    (size_refusal state.frame size) (sides_refusal state (rounded state.frame size))

@@ -18,7 +18,7 @@ ghost use Rattle.shelf_search.specs.Private.Searching as searching;
 use crate::by_place::first_of_least_rank;
 use crate::choosing::{MOST_ITEMS, MOST_SPLITS, placement_at, shelf_height};
 use crate::free_items::free_items_of;
-use etagere_base::{Frame, Sides, Size, is_not_positive, is_too_long, rounded};
+use etagere_base::{Frame, Sides, Size, SizeRefusal, rounded, size_refusal};
 use etagere_links::{Chain, next_of};
 use shelf_model::faults::Refusal;
 use shelf_records::{LinkedShelf, Records, fields};
@@ -30,19 +30,10 @@ pub fn refusal(frame: &Frame, records: &Records, items_in_use: u32, size: Size) 
         ≡ state.items_in_use (state_of frame.now records.now).shelves }
     ensures { result ≡ spec.refusal (state_of frame.now records.now) size }
 {
-    if is_not_positive(size) {
-        return Some(Refusal::NotPositive);
-    }
-    if is_too_long(size) {
-        return Some(Refusal::TooLong);
+    if let Some(reason) = size_refusal(frame, size) {
+        return Some(of_size(reason));
     }
     let sides = rounded(frame, size);
-    if sides.along > frame.column_width {
-        return Some(Refusal::WiderThanColumn);
-    }
-    if sides.across > frame.across_side() {
-        return Some(Refusal::TallerThanAtlas);
-    }
     let height = shelf_height(frame, sides.across);
     let widest = widest_free(records, height);
     if u32::from(widest) < sides.along {
@@ -52,6 +43,18 @@ pub fn refusal(frame: &Frame, records: &Records, items_in_use: u32, size: Size) 
         return Some(Refusal::NoRecords);
     }
     None
+}
+
+/// The reason of a size itself, as one of an atlas of shelves.
+fn of_size(reason: SizeRefusal) -> Refusal
+    ensures { result ≡ spec.of_size reason }
+{
+    match reason {
+        SizeRefusal::NotPositive => Refusal::NotPositive,
+        SizeRefusal::TooLong => Refusal::TooLong,
+        SizeRefusal::WiderThanColumn => Refusal::WiderThanColumn,
+        SizeRefusal::TallerThanAtlas => Refusal::TallerThanAtlas,
+    }
 }
 
 /// That a size has no room, where the widest free item is so wide.
