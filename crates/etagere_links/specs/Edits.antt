@@ -48,6 +48,6 @@ linked_between family previous next number records =
     (changed_by (Some number) (family.with_previous previous)
     (changed_by (Some number) (family.with_next next) records)))
 
--- the records after the one of this number was put onto a pile with this top
+-- the records after the one of this number was made unused, where the first unused one was this
 abbrev pub made_unused : {T : Type 0} → Family T → Option ℕ → ℕ → List T → List T
 made_unused family top number records = changed_by (Some number) (family.with_next top) records

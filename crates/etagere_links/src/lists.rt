@@ -200,8 +200,8 @@ pub fn insert_front<List, T: Linked<List>>(records: &mut [T], first: &mut Link, 
     *first = Link::to(number);
 }
 
-/// Puts the record of this number, which is there and stands in no list, onto the pile whose top record `top` names. A
-/// pile is linked through `next` alone.
+/// Makes the record of this number, which is there and stands in no list, the first unused one; `top` names the first.
+/// Unused records are linked through `next` alone.
 pub fn make_unused_present<List, T: Linked<List>>(records: &mut [T], top: &mut Link, number: usize)
     requires here { number < length records.old }
     requires small { number < no_link }
@@ -212,8 +212,7 @@ pub fn make_unused_present<List, T: Linked<List>>(records: &mut [T], top: &mut L
     *top = Link::to(number);
 }
 
-/// Takes the record that became unused last off the pile whose top record `top` names; none where the pile
-/// is empty.
+/// Takes the unused record that `top` names, the one that became unused last; none where none is unused.
 pub fn take<List, T: Linked<List>>(records: &[T], top: &mut Link) -> Option<usize>
     ensures number { result ≡ top.old }
     ensures top { top.new ≡ option_and_then (spec.link_at T.family.next records.now) top.old }

@@ -83,7 +83,7 @@ pub fn set_width_present(items: &mut [LinkedItem], number: usize, width: u16)
     here.width = width;
 }
 
-/// Says that an item that is there is free, and puts its record onto the pile whose top record `top` names.
+/// Says that an item that is there is free, and makes its record the first unused one; `top` names the first.
 pub fn free_and_make_unused_present(items: &mut [LinkedItem], top: &mut Link, number: usize)
     requires here { number < length items.old }
     requires small { number < no_link }
