@@ -1,4 +1,4 @@
-//! Replays a script: reads all of it, judges it, and runs it, writing each reply's line before the next command runs.
+//! Replays a script: reads all of it, and then runs it, writing each reply's line before the next command runs.
 //!
 //! Definition: `Replaying`, over `Script`, `AtlasRuns`, `BucketedRuns` and `ReplyText`. What is written is decided
 //! there.
@@ -42,7 +42,7 @@ pub fn replay<R: Read, W: Write>(
     answer(alloc, input, writer)
 }
 
-/// Judges a script, and writes what answers it. The text is given back before a command runs.
+/// Reads the commands of a script, and writes what answers it. The text is given back before a command runs.
 fn answer<W: Write>(alloc: Global, input: Vec<u8>, writer: &mut W) -> Result<Outcome, ReplayFault>
     ensures { Replays (Some input.items) (W.contents writer.old) (W.contents writer.new) result }
 {

@@ -1,4 +1,4 @@
-//! Replays a script: reads all of it, judges it, and runs it, writing each reply's line before the next command runs.
+//! Replays a script: reads all of it, and then runs it, writing each reply's line before the next command runs.
 //!
 //! Definition: `Replaying`, over `Script`, `Runs` and `ReplyText`. What is written, and where, is settled there.
 
@@ -41,7 +41,7 @@ pub fn replay_cache<R: Read, W: Write>(
     answer(alloc, input.as_slice(), writer)
 }
 
-/// Judges a script, and writes what answers it.
+/// Reads the commands of a script, and writes what answers it.
 fn answer<W: Write>(alloc: Global, bytes: &[u8], writer: &mut W) -> Result<Outcome, ReplayFault>
     ensures { Replays (Some bytes.now) (W.contents writer.old) (W.contents writer.new) result }
 {

@@ -1,4 +1,4 @@
-//! What a test judges, as calls that promise nothing. A test is proved safe before it runs, in a fraction of the time
+//! What a test asserts, as calls that promise nothing. A test is proved safe before it runs, in a fraction of the time
 //! where it calls these than where it asserts by itself. A failure names the line of the test.
 
 use std::fmt::Debug;
