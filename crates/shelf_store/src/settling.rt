@@ -12,7 +12,7 @@ ghost use Rattle.etagere_base.specs.Lists.{times};
 ghost use Rattle.etagere_links.specs.Links.{no_link};
 ghost use Rattle.shelf_notes.specs.Private.Pending.{is_in_use, is_listed, is_noted};
 ghost use Rattle.shelf_records.specs.Private.Kept.{AreKept};
-ghost use Rattle.shelf_store.specs.Private.Settling.{AreByHeightButNoted, AreInPlace, AreSettled, Follows, IsBounded, IsInPlace, IsSettled};
+ghost use Rattle.shelf_store.specs.Private.Settling.{AreByHeightButNoted, AreSettled, BeginAsListed, BeginsAsListed, Follows, IsBounded, IsSettled};
 
 use crate::starting::{FIRST_ROOM, newly_bounded, sort_shelves};
 use etagere_base::Frame;
@@ -278,7 +278,7 @@ fn take_out_moved(
     requires kept { AreKept frame.now records.now }
     requires by_height { AreByHeightButNoted frame.now records.now pending.old.notes by_height.old.items }
     ensures by_height { AreByHeightButNoted frame.now records.now pending.new.notes by_height.new.items }
-    ensures in_place { AreInPlace records.now.shelves pending.new.notes }
+    ensures as_listed { BeginAsListed records.now.shelves pending.new.notes }
     ensures capacity { by_height.old.capacity ≤ by_height.new.capacity }
     ensures room { pending.new.room ≡ pending.old.room }
 {
@@ -301,9 +301,9 @@ fn take_out_if_moved(
     requires known { shelf < length pending.old.notes.standing }
     requires noted { is_noted pending.old.notes shelf ≡ true }
     ensures by_height { AreByHeightButNoted frame.now records.now pending.new.notes by_height.new.items }
-    ensures in_place { IsInPlace records.now.shelves pending.new.notes shelf }
-    ensures others { (k : ℕ) → IsInPlace records.now.shelves pending.old.notes k
-        → IsInPlace records.now.shelves pending.new.notes k }
+    ensures as_listed { BeginsAsListed records.now.shelves pending.new.notes shelf }
+    ensures others { (k : ℕ) → BeginsAsListed records.now.shelves pending.old.notes k
+        → BeginsAsListed records.now.shelves pending.new.notes k }
     ensures noted { pending.new.notes.noted ≡ pending.old.notes.noted }
     ensures known { length pending.new.notes.standing ≡ length pending.old.notes.standing }
     ensures same { (k : ℕ) → is_noted pending.new.notes k ≡ is_noted pending.old.notes k }
@@ -311,7 +311,7 @@ fn take_out_if_moved(
     ensures room { pending.new.room ≡ pending.old.room }
 {
     let standing = pending.standing(shelf);
-    if !standing.listed || (standing.in_use && is_in_place(records, pending, shelf)) {
+    if !standing.listed || (standing.in_use && begins_as_listed(records, pending, shelf)) {
         return;
     }
     take_out(pending.kept(), by_height, shelf);
@@ -319,7 +319,7 @@ fn take_out_if_moved(
 }
 
 /// Whether a shelf begins where it began when the list followed it.
-fn is_in_place(records: &Records, pending: &PendingShelves, shelf: usize) -> bool
+fn begins_as_listed(records: &Records, pending: &PendingShelves, shelf: usize) -> bool
     requires there { shelf < length records.now.shelves }
     requires kept { shelf < length pending.now.notes.kept }
     ensures { result ≡ true
@@ -337,7 +337,7 @@ fn settle_each(
 )
     requires kept { AreKept frame.now records.now }
     requires by_height { AreByHeightButNoted frame.now records.now pending.old.notes by_height.old.items }
-    requires in_place { AreInPlace records.now.shelves pending.old.notes }
+    requires as_listed { BeginAsListed records.now.shelves pending.old.notes }
     requires room { length records.now.shelves ≤ by_height.old.capacity }
     ensures by_height { AreByHeight frame.now records.now by_height.new.items }
     ensures settled { AreSettled records.now pending.new.notes }
@@ -358,11 +358,11 @@ fn settle_last(
 )
     requires kept { AreKept frame.now records.now }
     requires by_height { AreByHeightButNoted frame.now records.now pending.old.notes by_height.old.items }
-    requires in_place { AreInPlace records.now.shelves pending.old.notes }
+    requires as_listed { BeginAsListed records.now.shelves pending.old.notes }
     requires some { 0 < length pending.old.notes.noted }
     requires room { length records.now.shelves ≤ by_height.old.capacity }
     ensures by_height { AreByHeightButNoted frame.now records.now pending.new.notes by_height.new.items }
-    ensures in_place { AreInPlace records.now.shelves pending.new.notes }
+    ensures as_listed { BeginAsListed records.now.shelves pending.new.notes }
     ensures fewer { length pending.new.notes.noted + 1 ≡ length pending.old.notes.noted }
     ensures capacity { by_height.old.capacity ≤ by_height.new.capacity }
     ensures room { pending.new.room ≡ pending.old.room }
@@ -382,12 +382,12 @@ fn settle_one(
 )
     requires kept { AreKept frame.now records.now }
     requires by_height { AreByHeightButNoted frame.now records.now pending.old.notes by_height.old.items }
-    requires in_place { AreInPlace records.now.shelves pending.old.notes }
+    requires as_listed { BeginAsListed records.now.shelves pending.old.notes }
     requires known { shelf < length pending.old.notes.standing }
     requires noted { is_noted pending.old.notes shelf ≡ true }
     requires room { length records.now.shelves ≤ by_height.old.capacity }
     ensures by_height { AreByHeightButNoted frame.now records.now pending.new.notes by_height.new.items }
-    ensures in_place { AreInPlace records.now.shelves pending.new.notes }
+    ensures as_listed { BeginAsListed records.now.shelves pending.new.notes }
     ensures settled { IsSettled records.now.shelves pending.new.notes shelf }
     ensures bounded { IsBounded frame.now records.now shelf by_height.new.items }
     ensures noted { pending.new.notes.noted ≡ pending.old.notes.noted }
@@ -416,13 +416,13 @@ fn move_listed(
 )
     requires kept { AreKept frame.now records.now }
     requires by_height { AreByHeightButNoted frame.now records.now pending.old.notes by_height.old.items }
-    requires in_place { AreInPlace records.now.shelves pending.old.notes }
+    requires as_listed { BeginAsListed records.now.shelves pending.old.notes }
     requires known { shelf < length pending.old.notes.standing }
     requires noted { is_noted pending.old.notes shelf ≡ true }
     requires in_use { is_in_use pending.old.notes shelf ≡ true }
     requires listed { is_listed pending.old.notes shelf ≡ true }
     ensures by_height { AreByHeightButNoted frame.now records.now pending.new.notes by_height.new.items }
-    ensures in_place { AreInPlace records.now.shelves pending.new.notes }
+    ensures as_listed { BeginAsListed records.now.shelves pending.new.notes }
     ensures settled { IsSettled records.now.shelves pending.new.notes shelf }
     ensures bounded { IsBounded frame.now records.now shelf by_height.new.items }
     ensures noted { pending.new.notes.noted ≡ pending.old.notes.noted }
@@ -446,14 +446,14 @@ fn put_in_new(
 )
     requires kept { AreKept frame.now records.now }
     requires by_height { AreByHeightButNoted frame.now records.now pending.old.notes by_height.old.items }
-    requires in_place { AreInPlace records.now.shelves pending.old.notes }
+    requires as_listed { BeginAsListed records.now.shelves pending.old.notes }
     requires known { shelf < length pending.old.notes.standing }
     requires noted { is_noted pending.old.notes shelf ≡ true }
     requires in_use { is_in_use pending.old.notes shelf ≡ true }
     requires unlisted { is_listed pending.old.notes shelf ≡ false }
     requires room { length records.now.shelves ≤ by_height.old.capacity }
     ensures by_height { AreByHeightButNoted frame.now records.now pending.new.notes by_height.new.items }
-    ensures in_place { AreInPlace records.now.shelves pending.new.notes }
+    ensures as_listed { BeginAsListed records.now.shelves pending.new.notes }
     ensures settled { IsSettled records.now.shelves pending.new.notes shelf }
     ensures bounded { IsBounded frame.now records.now shelf by_height.new.items }
     ensures noted { pending.new.notes.noted ≡ pending.old.notes.noted }

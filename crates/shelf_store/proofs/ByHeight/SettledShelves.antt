@@ -27,7 +27,7 @@ use Rattle.shelf_store.proofs.ByHeight.NewByHeight.{wide-bound}
 use Rattle.shelf_store.proofs.ByHeight.RoomByHeight.{shelves-count}
 use Rattle.shelf_store.proofs.ByHeight.SplitByHeight.{used-once}
 use Rattle.shelf_store.proofs.ByHeight.SplitOrders.{StandsSame, order-stands, orders-apart}
-use Rattle.shelf_store.specs.Private.Settling.{AreByHeightButNoted, AreInPlace, AreSettled, Follows, IsBoundIn, IsBounded, IsInPlace, IsSettled}
+use Rattle.shelf_store.specs.Private.Settling.{AreByHeightButNoted, AreSettled, BeginAsListed, BeginsAsListed, Follows, IsBoundIn, IsBounded, IsSettled}
 
 -- how often a number stands where another was left out
 times-left : (k n : ℕ) (ns : List ℕ) → k ≢ n → times k (remove_place n ns) ≡ times k ns
@@ -110,9 +110,9 @@ module _ (frame : Frame) (records : Records) (notes : Notes) (by_height : List B
   pub stands-listed : (k : ℕ) → 1 ≤ times k (numbers_by_height by_height) → is_listed notes k ≡ true
   stands-listed k stands = once-true (is_listed notes k) (omega (arith, stands, holds.listed k))
 
-  -- a shelf that has not changed is in place
-  pub unnoted-in_place : (k : ℕ) → is_noted notes k ≡ false → IsInPlace records.shelves notes k
-  unnoted-in_place k unnoted =
+  -- a shelf that has not changed begins as listed
+  pub unnoted-as_listed : (k : ℕ) → is_noted notes k ≡ false → BeginsAsListed records.shelves notes k
+  unnoted-as_listed k unnoted =
       let is = holds.settled k unnoted in
       record { in_use = λ stands. sym is.listed ∙ stands; place = is.place }
 
@@ -168,16 +168,16 @@ module _ (frame : Frame) (records : Records) (notes : Notes) (by_height : List B
             let other : k ≢ shelf = grind arith in
             times-without shelf k other ∙ holds.listed k ∙ sym (ap (λ (s : Standing). once_where s.listed) (unlisted-other notes shelf known k other))
 
-    pub gone-in_place : IsInPlace records.shelves (unlisted shelf notes) shelf
-    gone-in_place =
+    pub gone-as_listed : BeginsAsListed records.shelves (unlisted shelf notes) shelf
+    gone-as_listed =
         let none : is_listed (unlisted shelf notes) shelf ≡ false = unlisted-so notes shelf known in
         record { in_use = λ stands. absurd (cc); place = λ stands. absurd (cc) }
 
-    pub others-in_place : (k : ℕ) → IsInPlace records.shelves notes k → IsInPlace records.shelves (unlisted shelf notes) k
-    others-in_place k is = by_number (k == shelf) refl
+    pub others-as_listed : (k : ℕ) → BeginsAsListed records.shelves notes k → BeginsAsListed records.shelves (unlisted shelf notes) k
+    others-as_listed k is = by_number (k == shelf) refl
       where
-        by_number : (b : Bool) → (k == shelf) ≡ b → IsInPlace records.shelves (unlisted shelf notes) k
-        by_number true e = let own : k ≡ shelf = grind arith in rw own gone-in_place
+        by_number : (b : Bool) → (k == shelf) ≡ b → BeginsAsListed records.shelves (unlisted shelf notes) k
+        by_number true e = let own : k ≡ shelf = grind arith in rw own gone-as_listed
         by_number false e =
             let other : k ≢ shelf = grind arith in
             let same = unlisted-other notes shelf known k other in
@@ -187,7 +187,7 @@ module _ (frame : Frame) (records : Records) (notes : Notes) (by_height : List B
             }
 
     -- or is put where its record puts it, where each that is listed is in use and begins where it began
-    module _ (one : BoundedShelf) (read : LinkedShelf) (named : one.shelf ≡ shelf) (in_use : is_in_use notes shelf ≡ true) (places : AreInPlace records.shelves notes) (entries : length notes.kept ≡ length notes.standing) (is_read : read ≡ get_or records.shelves shelf read) where
+    module _ (one : BoundedShelf) (read : LinkedShelf) (named : one.shelf ≡ shelf) (in_use : is_in_use notes shelf ≡ true) (as_listed : BeginAsListed records.shelves notes) (entries : length notes.kept ≡ length notes.standing) (is_read : read ≡ get_or records.shelves shelf read) where
       abbrev after : Notes
       after = listed_as shelf read notes
 
@@ -218,9 +218,9 @@ module _ (frame : Frame) (records : Records) (notes : Notes) (by_height : List B
           in_order-put_in after.kept one Others (omega (arith, own-within, named))
           (λ k stands. subst (λ n. order_of after.kept k ≢ order_of after.kept n) (sym named)
           (orders-apart frame records after.kept k shelf kept
-          (in_use-met k ((places k).in_use (other-listed shelf k stands)))
+          (in_use-met k ((as_listed k).in_use (other-listed shelf k stands)))
           (in_use-met shelf in_use)
-          ((other-stands k (other-differs shelf k stands)).place ∙ (places k).place (other-listed shelf k stands))
+          ((other-stands k (other-differs shelf k stands)).place ∙ (as_listed k).place (other-listed shelf k stands))
           own-stands.place
           (other-differs shelf k stands)))
           others-order
@@ -274,10 +274,10 @@ module _ (frame : Frame) (records : Records) (notes : Notes) (by_height : List B
               let so : is_noted after one.shelf ≡ true = rw named (listed-noted notes shelf read known shelf ∙ noted) in
               absurd (cc)
 
-      pub put-in_place : AreInPlace records.shelves after
-      put-in_place k = by_number (k == shelf) refl
+      pub put-as_listed : BeginAsListed records.shelves after
+      put-as_listed k = by_number (k == shelf) refl
         where
-          by_number : (b : Bool) → (k == shelf) ≡ b → IsInPlace records.shelves after k
+          by_number : (b : Bool) → (k == shelf) ≡ b → BeginsAsListed records.shelves after k
           by_number true e =
               let own : k ≡ shelf = grind arith in
               rw own (record { in_use = λ stands. listed-in_use notes shelf read known shelf ∙ in_use; place = λ stands. own-stands.place })
@@ -285,8 +285,8 @@ module _ (frame : Frame) (records : Records) (notes : Notes) (by_height : List B
               let other : k ≢ shelf = grind arith in
               let same = listed-other notes shelf read known k other in
               record {
-                in_use = λ stands. ap (λ (s : Standing). s.in_use) same ∙ (places k).in_use (sym (ap (λ (s : Standing). s.listed) same) ∙ stands);
-                place = λ stands. (other-stands k other).place ∙ (places k).place (sym (ap (λ (s : Standing). s.listed) same) ∙ stands);
+                in_use = λ stands. ap (λ (s : Standing). s.in_use) same ∙ (as_listed k).in_use (sym (ap (λ (s : Standing). s.listed) same) ∙ stands);
+                place = λ stands. (other-stands k other).place ∙ (as_listed k).place (sym (ap (λ (s : Standing). s.listed) same) ∙ stands);
               }
 
       pub put-settled : IsSettled records.shelves after shelf
@@ -332,8 +332,8 @@ module _ (frame : Frame) (records : Records) (notes : Notes) (by_height : List B
         holds.bounds
 
     -- there is room for one that is put in, where each that is listed is in use
-    pub put-room : is_in_use notes shelf ≡ true → is_listed notes shelf ≡ false → AreInPlace records.shelves notes → length by_height < length records.shelves
-    put-room in_use unlisted_so places =
+    pub put-room : is_in_use notes shelf ≡ true → is_listed notes shelf ≡ false → BeginAsListed records.shelves notes → length by_height < length records.shelves
+    put-room in_use unlisted_so as_listed =
         omega (
           arith,
           length-map by_height (λ (one : BoundedShelf). one.shelf),
@@ -350,7 +350,7 @@ module _ (frame : Frame) (records : Records) (notes : Notes) (by_height : List B
             omega (arith, here, none, so, holds.listed k, holds.in_use k)
         by_number k false e true f =
             let here : hit shelf k ≡ 0 = grind arith in
-            omega (arith, here, holds.listed k, holds.in_use k, ap once_where ((places k).in_use f), ap once_where f)
+            omega (arith, here, holds.listed k, holds.in_use k, ap once_where ((as_listed k).in_use f), ap once_where f)
         by_number k false e false f =
             let here : hit shelf k ≡ 0 = grind arith in
             omega (arith, here, holds.listed k, ap once_where f)
@@ -396,21 +396,21 @@ module _ (frame : Frame) (records : Records) (notes : Notes) (by_height : List B
             let other : one.shelf ≢ shelf = grind arith in
             both.0 (sym (ap (λ (s : Standing). s.noted) (forgotten-other notes shelf left known one.shelf other)) ∙ unnoted)
 
-    pub forgotten-in_place : (left : List ℕ) → AreInPlace records.shelves notes → AreInPlace records.shelves (forgotten shelf left notes)
-    forgotten-in_place left places k =
+    pub forgotten-as_listed : (left : List ℕ) → BeginAsListed records.shelves notes → BeginAsListed records.shelves (forgotten shelf left notes)
+    forgotten-as_listed left as_listed k =
         let listed = forgotten-listed notes shelf left known k in
         record {
-          in_use = λ stands. forgotten-in_use notes shelf left known k ∙ (places k).in_use (sym listed ∙ stands);
-          place = λ stands. (places k).place (sym listed ∙ stands);
+          in_use = λ stands. forgotten-in_use notes shelf left known k ∙ (as_listed k).in_use (sym listed ∙ stands);
+          place = λ stands. (as_listed k).place (sym listed ∙ stands);
         }
 
   -- a shelf out of use is settled, where each that is listed is in use
-  module _ (shelf : ℕ) (unused : is_in_use notes shelf ≡ false) (places : AreInPlace records.shelves notes) where
+  module _ (shelf : ℕ) (unused : is_in_use notes shelf ≡ false) (as_listed : BeginAsListed records.shelves notes) where
     unused-unlisted : is_listed notes shelf ≡ false
     unused-unlisted = by_list (is_listed notes shelf) refl
       where
         by_list : (b : Bool) → is_listed notes shelf ≡ b → b ≡ false
-        by_list true e = let so : is_in_use notes shelf ≡ true = (places shelf).in_use e in absurd (cc)
+        by_list true e = let so : is_in_use notes shelf ≡ true = (as_listed shelf).in_use e in absurd (cc)
         by_list false e = refl
 
     pub unused-settled : IsSettled records.shelves notes shelf
@@ -492,50 +492,50 @@ absent-stays shelf (one ∷ others) none = by_test (one.shelf == shelf) refl (λ
         absurd (omega (arith, none, here))
     by_test false e rest = ap (λ (xs : List BoundedShelf). one ∷ xs) (rest (omega (arith, none)))
 
--- those of a front of the numbers are in place
-abbrev pub AreInPlaceOf : List LinkedShelf → Notes → List ℕ → Type 0
-AreInPlaceOf shelves notes numbers = (k : ℕ) → 1 ≤ times k numbers → IsInPlace shelves notes k
+-- those of these numbers begin as listed
+abbrev pub BeginAsListedAmong : List LinkedShelf → Notes → List ℕ → Type 0
+BeginAsListedAmong shelves notes numbers = (k : ℕ) → 1 ≤ times k numbers → BeginsAsListed shelves notes k
 
--- and so is one more
-pub one-more-in_place : (shelves : List LinkedShelf) (old new : Notes) (n shelf : ℕ) → n < length old.noted → shelf ≡ get_or old.noted n 0
-    → ((k : ℕ) → IsInPlace shelves old k → IsInPlace shelves new k) → IsInPlace shelves new shelf
-    → AreInPlaceOf shelves old (take n old.noted) → AreInPlaceOf shelves new (take (n + 1) old.noted)
-one-more-in_place shelves old new n shelf below read others own before k stands = by_number (k == shelf) refl
+-- and so does one more
+pub one-more-as_listed : (shelves : List LinkedShelf) (old new : Notes) (n shelf : ℕ) → n < length old.noted → shelf ≡ get_or old.noted n 0
+    → ((k : ℕ) → BeginsAsListed shelves old k → BeginsAsListed shelves new k) → BeginsAsListed shelves new shelf
+    → BeginAsListedAmong shelves old (take n old.noted) → BeginAsListedAmong shelves new (take (n + 1) old.noted)
+one-more-as_listed shelves old new n shelf below read others own before k stands = by_number (k == shelf) refl
   where
     more : (m : ℕ) (ns : List ℕ) → m < length ns → times k (take (suc m) ns) ≡ times k (take m ns) + hit (get_or ns m 0) k
     more m [] low = absurd (omega (arith, low))
     more zero (x ∷ xs) low = omega arith
     more (suc m) (x ∷ xs) low = omega (arith, more m xs (omega (arith, low)))
 
-    by_number : (b : Bool) → (k == shelf) ≡ b → IsInPlace shelves new k
+    by_number : (b : Bool) → (k == shelf) ≡ b → BeginsAsListed shelves new k
     by_number true e = let same : k ≡ shelf = grind arith in rw same own
     by_number false e =
         let other : get_or old.noted n 0 ≢ k = grind (arith, read) in
         let none : hit (get_or old.noted n 0) k ≡ 0 = grind (arith, other) in
         others k (before k (omega (arith, stands, ap (λ m. times k (take m old.noted)) (add-one n), more n old.noted below, none)))
 
--- where all that have changed are in place, all are
-pub all-in_place : (frame : Frame) (records : Records) (notes : Notes) (by_height : List BoundedShelf) → AreKept frame records → AreByHeightButNoted frame records notes by_height → AreTied notes → AreInPlaceOf records.shelves notes notes.noted → AreInPlace records.shelves notes
-all-in_place frame records notes by_height kept holds tied places k = by_note (is_noted notes k) refl
+-- where all that have changed begin as listed, all do
+pub all-as_listed : (frame : Frame) (records : Records) (notes : Notes) (by_height : List BoundedShelf) → AreKept frame records → AreByHeightButNoted frame records notes by_height → AreTied notes → BeginAsListedAmong records.shelves notes notes.noted → BeginAsListed records.shelves notes
+all-as_listed frame records notes by_height kept holds tied as_listed k = by_note (is_noted notes k) refl
   where
-    by_note : (b : Bool) → is_noted notes k ≡ b → IsInPlace records.shelves notes k
-    by_note true e = places k (omega (arith, tied k, ap once_where e))
-    by_note false e = unnoted-in_place frame records notes by_height kept holds k e
+    by_note : (b : Bool) → is_noted notes k ≡ b → BeginsAsListed records.shelves notes k
+    by_note true e = as_listed k (omega (arith, tied k, ap once_where e))
+    by_note false e = unnoted-as_listed frame records notes by_height kept holds k e
 
 -- what holds once the number of the shelf that changed last was taken away
 pub popped-holds : (frame : Frame) (records : Records) (old new : Notes) (by_height : List BoundedShelf) (shelf : ℕ) (result : Option ℕ)
-    → AreKept frame records → AreByHeightButNoted frame records old by_height → AreInPlace records.shelves old → IsSettled records.shelves old shelf → IsBounded frame records shelf by_height
+    → AreKept frame records → AreByHeightButNoted frame records old by_height → BeginAsListed records.shelves old → IsSettled records.shelves old shelf → IsBounded frame records shelf by_height
     → (result ≡ None → old.noted ≡ []) → IfSome result (λ s. s < length old.standing) → IfSome result (λ s. old.noted ≡ new.noted ++ s ∷ []) → IfSome result (λ s. new ≡ forgotten s new.noted old)
     → 0 < length old.noted → shelf ≡ get_or old.noted (length old.noted - 1) 0
-    → AreByHeightButNoted frame records new by_height × AreInPlace records.shelves new
-popped-holds frame records old new by_height shelf None kept holds places settled bounded none within last made some read =
+    → AreByHeightButNoted frame records new by_height × BeginAsListed records.shelves new
+popped-holds frame records old new by_height shelf None kept holds as_listed settled bounded none within last made some read =
     absurd (omega (arith, some, ap (λ (ns : List ℕ). length ns) (none refl)))
-popped-holds frame records old new by_height shelf (Some s) kept holds places settled bounded none within last made some read =
+popped-holds frame records old new by_height shelf (Some s) kept holds as_listed settled bounded none within last made some read =
     let end : length old.noted - 1 ≡ length new.noted = omega (arith, ap (λ (ns : List ℕ). length ns) last, length-append new.noted (s ∷ [])) in
     let same : shelf ≡ s =
     read ∙ ap (λ n. get_or old.noted n 0) end ∙ ap (λ (ns : List ℕ). get_or ns (length new.noted) 0) last ∙ get_or-append_seam new.noted s [] 0 in
     let known : shelf < length old.standing = omega (arith, within, same) in
     let is : new ≡ forgotten shelf new.noted old = made ∙ ap (λ n. forgotten n new.noted old) (sym same) in (
       subst (λ (notes : Notes). AreByHeightButNoted frame records notes by_height) (sym is) (forgotten-holds frame records old by_height kept holds shelf known new.noted settled bounded),
-      subst (AreInPlace records.shelves) (sym is) (forgotten-in_place frame records old by_height kept holds shelf known new.noted places),
+      subst (BeginAsListed records.shelves) (sym is) (forgotten-as_listed frame records old by_height kept holds shelf known new.noted as_listed),
     )

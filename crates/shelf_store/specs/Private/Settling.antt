@@ -58,13 +58,13 @@ pub record AreSettled (records : Records) (notes : Notes) : Type 0 where
   pub within : (k : ℕ) → is_listed notes k ≡ true → k < length notes.kept
 
 -- a listed shelf is in use, and begins where it began when the list followed it
-pub record IsInPlace (shelves : List LinkedShelf) (notes : Notes) (shelf : ℕ) : Type 0 where
+pub record BeginsAsListed (shelves : List LinkedShelf) (notes : Notes) (shelf : ℕ) : Type 0 where
   pub in_use : is_listed notes shelf ≡ true → is_in_use notes shelf ≡ true
   pub place : is_listed notes shelf ≡ true → chain_order notes.kept shelf ≡ chain_order shelves shelf
 
 -- each is
-abbrev pub AreInPlace : List LinkedShelf → Notes → Type 0
-AreInPlace shelves notes = (k : ℕ) → IsInPlace shelves notes k
+abbrev pub BeginAsListed : List LinkedShelf → Notes → Type 0
+BeginAsListed shelves notes = (k : ℕ) → BeginsAsListed shelves notes k
 
 -- a shelf of this number, if it stands there, has a bound that none of its free items passes
 abbrev pub IsBounded : Frame → Records → ℕ → List BoundedShelf → Type 0

@@ -6,8 +6,8 @@ use Rattle.shelf_notes.specs.Private.Pending.{Notes, is_listed, is_noted, listed
 use Rattle.shelf_heights.specs.declared.by_height.BoundedShelf.{BoundedShelf}
 use Rattle.shelf_heights.proofs.ByHeight.Edited.{in_order-once}
 use Rattle.shelf_notes.proofs.NotedShelves.{listed-known, listed-noted, listed-so}
-use Rattle.shelf_store.proofs.ByHeight.SettledShelves.{in_use-there, others-order, put-holds, put-in_place, put-settled, raised-bounded, raised-holds}
-use Rattle.shelf_store.specs.Private.Settling.{AreByHeightButNoted, AreInPlace, IsBounded, IsSettled}
+use Rattle.shelf_store.proofs.ByHeight.SettledShelves.{in_use-there, others-order, put-holds, put-as_listed, put-settled, raised-bounded, raised-holds}
+use Rattle.shelf_store.specs.Private.Settling.{AreByHeightButNoted, BeginAsListed, IsBounded, IsSettled}
 use Rattle.etagere_base.specs.declared.frames.Frame.{Frame}
 use Rattle.shelf_records.specs.RecordLists.{Records}
 use Rattle.shelf_records.proofs.Spelled.StandsKept.{witnesses}
@@ -52,7 +52,7 @@ others c = taken_out c.args.shelf c.args.by_height.now.items
 still-others : (c : After-kept-2) → AreInOrder (after c).kept (others c)
 still-others c =
     others-order c.args.frame.now c.args.records.now c.args.pending.now.notes c.args.by_height.now.items c.requires.kept c.requires.by_height c.args.shelf c.requires.known c.requires.noted
-    (one c) (read c) refl c.requires.in_use c.requires.in_place c.list.ensures.entries (is_read c)
+    (one c) (read c) refl c.requires.in_use c.requires.as_listed c.list.ensures.entries (is_read c)
 
 pub settle-index-requires-clause-order : goal.settle-index-requires-clause-order
 settle-index-requires-clause-order c =
@@ -66,7 +66,7 @@ settled c =
 -- what holds of it
 record Follows (frame : Frame) (records : Records) (notes : Notes) (by_height : List BoundedShelf) (shelf : ℕ) : Type 0 where
   holds : AreByHeightButNoted frame records notes by_height
-  in_place : AreInPlace records.shelves notes
+  as_listed : BeginAsListed records.shelves notes
   settled : IsSettled records.shelves notes shelf
   known : shelf < length notes.standing
   noted : is_noted notes shelf ≡ true
@@ -80,11 +80,11 @@ followed c =
     let by_height = c.args.by_height.now.items in
     record {
       holds = put-holds frame records notes by_height c.requires.kept c.requires.by_height c.args.shelf c.requires.known c.requires.noted
-          (one c) (read c) refl c.requires.in_use c.requires.in_place c.list.ensures.entries (is_read c);
-      in_place = put-in_place frame records notes by_height c.requires.kept c.requires.by_height c.args.shelf c.requires.known c.requires.noted
-          (one c) (read c) refl c.requires.in_use c.requires.in_place c.list.ensures.entries (is_read c);
+          (one c) (read c) refl c.requires.in_use c.requires.as_listed c.list.ensures.entries (is_read c);
+      as_listed = put-as_listed frame records notes by_height c.requires.kept c.requires.by_height c.args.shelf c.requires.known c.requires.noted
+          (one c) (read c) refl c.requires.in_use c.requires.as_listed c.list.ensures.entries (is_read c);
       settled = put-settled frame records notes by_height c.requires.kept c.requires.by_height c.args.shelf c.requires.known c.requires.noted
-          (one c) (read c) refl c.requires.in_use c.requires.in_place c.list.ensures.entries (is_read c);
+          (one c) (read c) refl c.requires.in_use c.requires.as_listed c.list.ensures.entries (is_read c);
       known = omega (arith, c.requires.known, listed-known notes c.args.shelf (read c) c.requires.known);
       noted = listed-noted notes c.args.shelf (read c) c.requires.known c.args.shelf ∙ c.requires.noted;
       listed = listed-so notes c.args.shelf (read c) c.requires.known;
@@ -113,10 +113,10 @@ returns-clause-by_height c =
     subst (AreByHeightButNoted c.args.frame.now c.args.records.now c.list.new.self.notes) (sym (risen at.After-raise_at))
     (raised-holds c.args.frame.now c.args.records.now c.list.new.self.notes c.settle-index.new.by_height.items c.requires.kept is.holds c.args.shelf is.known is.noted c.args.frame.now.column_width)
 
-pub returns-clause-in_place : goal.returns-clause-in_place
-returns-clause-in_place c =
-    let at = goal.at.returns-clause-in_place c in
-    (follows at.After-settle-index (followed at.After-kept-2)).in_place
+pub returns-clause-as_listed : goal.returns-clause-as_listed
+returns-clause-as_listed c =
+    let at = goal.at.returns-clause-as_listed c in
+    (follows at.After-settle-index (followed at.After-kept-2)).as_listed
 
 pub returns-clause-settled : goal.returns-clause-settled
 returns-clause-settled c =

@@ -3,7 +3,7 @@ use Rattle.shelf_records.specs.declared.records.LinkedShelf.{LinkedShelf}
 use Rattle.shelf_heights.specs.Private.ByHeight.{AreInOrder, newly_bounded, put_in, taken_out}
 use Rattle.shelf_notes.specs.Private.Pending.{Notes, listed_as, once_where}
 use Rattle.shelf_heights.specs.declared.by_height.BoundedShelf.{BoundedShelf}
-use Rattle.shelf_store.proofs.ByHeight.SettledShelves.{absent-stays, in_use-there, listed-stands, others-order, own-within, put-bounded, put-holds, put-in_place, put-room, put-settled}
+use Rattle.shelf_store.proofs.ByHeight.SettledShelves.{absent-stays, in_use-there, listed-stands, others-order, own-within, put-bounded, put-holds, put-as_listed, put-room, put-settled}
 use Rattle.shelf_store.specs.Private.Settling.{AreByHeightButNoted, IsBounded}
 use Rattle.shelf_records.proofs.Spelled.StandsKept.{witnesses}
 use Rattle.shelf_store.proofs.settling.put_in_new.Goals as goal
@@ -60,15 +60,15 @@ followed c =
     record {
       order = subst (AreInOrder (after c).kept) (absent c)
           (others-order frame records notes by_height c.requires.kept c.requires.by_height c.args.shelf c.requires.known c.requires.noted
-          (one c) read refl c.requires.in_use c.requires.in_place c.list.ensures.entries (is_read c));
+          (one c) read refl c.requires.in_use c.requires.as_listed c.list.ensures.entries (is_read c));
       within = own-within frame records notes by_height c.requires.kept c.requires.by_height c.args.shelf c.requires.known c.requires.noted
-          (one c) read refl c.requires.in_use c.requires.in_place c.list.ensures.entries (is_read c);
+          (one c) read refl c.requires.in_use c.requires.as_listed c.list.ensures.entries (is_read c);
       holds = subst (λ (xs : List BoundedShelf). AreByHeightButNoted frame records (after c) (put_in (after c).kept (one c) xs)) (absent c)
           (put-holds frame records notes by_height c.requires.kept c.requires.by_height c.args.shelf c.requires.known c.requires.noted
-          (one c) read refl c.requires.in_use c.requires.in_place c.list.ensures.entries (is_read c));
+          (one c) read refl c.requires.in_use c.requires.as_listed c.list.ensures.entries (is_read c));
       bounded = subst (λ (xs : List BoundedShelf). IsBounded frame records c.args.shelf (put_in (after c).kept (one c) xs)) (absent c)
           (put-bounded frame records notes by_height c.requires.kept c.requires.by_height c.args.shelf c.requires.known c.requires.noted
-          (one c) read refl c.requires.in_use c.requires.in_place c.list.ensures.entries (is_read c) (omega arith));
+          (one c) read refl c.requires.in_use c.requires.as_listed c.list.ensures.entries (is_read c) (omega arith));
     }
 
 pub put_in-requires-clause-order : goal.put_in-requires-clause-order
@@ -88,7 +88,7 @@ put_in-requires-clause-room c =
     rw c.position_of_named-behind.ensures
     (omega (
       arith,
-      put-room c.args.frame.now c.args.records.now c.args.pending.now.notes c.args.by_height.now.items c.requires.kept c.requires.by_height c.args.shelf c.requires.known c.requires.noted c.requires.in_use c.requires.unlisted c.requires.in_place,
+      put-room c.args.frame.now c.args.records.now c.args.pending.now.notes c.args.by_height.now.items c.requires.kept c.requires.by_height c.args.shelf c.requires.known c.requires.noted c.requires.in_use c.requires.unlisted c.requires.as_listed,
       c.requires.room,
     ))
 
@@ -100,16 +100,16 @@ pub returns-clause-bounded : goal.returns-clause-bounded
 returns-clause-bounded c =
     rw (c.put_in.ensures.by_height, c.newly_bounded.ensures, c.kept.ensures, c.list.ensures.notes, c.position_of_named-behind.ensures) ((followed (goal.at.returns-clause-bounded c).After-kept).bounded)
 
-pub returns-clause-in_place : goal.returns-clause-in_place
-returns-clause-in_place c =
-    let at = (goal.at.returns-clause-in_place c).After-kept in
+pub returns-clause-as_listed : goal.returns-clause-as_listed
+returns-clause-as_listed c =
+    let at = (goal.at.returns-clause-as_listed c).After-kept in
     rw c.list.ensures.notes
-    (put-in_place c.args.frame.now c.args.records.now c.args.pending.now.notes c.args.by_height.now.items c.requires.kept c.requires.by_height c.args.shelf c.requires.known c.requires.noted
-    (one at) c.index-shelves-shelf.result refl c.requires.in_use c.requires.in_place c.list.ensures.entries (is_read at))
+    (put-as_listed c.args.frame.now c.args.records.now c.args.pending.now.notes c.args.by_height.now.items c.requires.kept c.requires.by_height c.args.shelf c.requires.known c.requires.noted
+    (one at) c.index-shelves-shelf.result refl c.requires.in_use c.requires.as_listed c.list.ensures.entries (is_read at))
 
 pub returns-clause-settled : goal.returns-clause-settled
 returns-clause-settled c =
     let at = (goal.at.returns-clause-settled c).After-kept in
     rw c.list.ensures.notes
     (put-settled c.args.frame.now c.args.records.now c.args.pending.now.notes c.args.by_height.now.items c.requires.kept c.requires.by_height c.args.shelf c.requires.known c.requires.noted
-    (one at) c.index-shelves-shelf.result refl c.requires.in_use c.requires.in_place c.list.ensures.entries (is_read at))
+    (one at) c.index-shelves-shelf.result refl c.requires.in_use c.requires.as_listed c.list.ensures.entries (is_read at))

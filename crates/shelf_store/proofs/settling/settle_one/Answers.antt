@@ -11,9 +11,9 @@ unused so e = grind arith
 pub returns-then-not-standing-clause-settled : goal.returns-then-not-standing-clause-settled
 returns-then-not-standing-clause-settled c =
     unused-settled c.args.frame.now c.args.records.now c.args.pending.now.notes c.args.by_height.now.items c.requires.kept c.requires.by_height c.args.shelf
-    (sym (ap (λ (s : Standing). s.in_use) c.standing-standing.ensures) ∙ unused c.standing-standing.result.in_use c.if-not-standing.true) c.requires.in_place
+    (sym (ap (λ (s : Standing). s.in_use) c.standing-standing.ensures) ∙ unused c.standing-standing.result.in_use c.if-not-standing.true) c.requires.as_listed
 
 pub returns-then-not-standing-clause-bounded : goal.returns-then-not-standing-clause-bounded
 returns-then-not-standing-clause-bounded c =
     unused-bounded c.args.frame.now c.args.records.now c.args.pending.now.notes c.args.by_height.now.items c.requires.kept c.requires.by_height c.args.shelf
-    (sym (ap (λ (s : Standing). s.in_use) c.standing-standing.ensures) ∙ unused c.standing-standing.result.in_use c.if-not-standing.true) c.requires.in_place
+    (sym (ap (λ (s : Standing). s.in_use) c.standing-standing.ensures) ∙ unused c.standing-standing.result.in_use c.if-not-standing.true) c.requires.as_listed

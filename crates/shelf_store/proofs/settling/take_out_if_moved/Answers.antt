@@ -8,13 +8,13 @@ use Rattle.shelf_store.proofs.settling.take_out_if_moved.Goals as goal
 listed : (so : Bool) → not so ≡ false → so ≡ true
 listed so e = grind arith
 
-pub is_in_place-requires-clause-there : goal.is_in_place-requires-clause-there
-is_in_place-requires-clause-there c =
+pub begins_as_listed-requires-clause-there : goal.begins_as_listed-requires-clause-there
+begins_as_listed-requires-clause-there c =
     in_use-there c.args.frame.now c.args.records.now c.args.pending.now.notes c.args.by_height.now.items c.requires.kept c.requires.by_height c.args.shelf
     (sym (ap (λ (s : Standing). s.in_use) c.standing-standing.ensures) ∙ c.if-standing.true)
 
-pub is_in_place-requires-clause-kept : goal.is_in_place-requires-clause-kept
-is_in_place-requires-clause-kept c =
+pub begins_as_listed-requires-clause-kept : goal.begins_as_listed-requires-clause-kept
+begins_as_listed-requires-clause-kept c =
     listed-within c.args.frame.now c.args.records.now c.args.pending.now.notes c.args.by_height.now.items c.requires.kept c.requires.by_height c.args.shelf
     (sym (ap (λ (s : Standing). s.listed) c.standing-standing.ensures) ∙ listed c.standing-standing.result.listed c.if-not-standing.false)
 

@@ -2,7 +2,7 @@ use Rattle.std.proofs.Common.{◌+◌, ◌<◌, ℕ, List, ap, arith, length, su
 use Rattle.std.proofs.lemmas.List.{take_all}
 use Rattle.etagere_base.specs.Lists.{times}
 use Rattle.shelf_notes.specs.Private.Pending.{Notes, once_where}
-use Rattle.shelf_store.proofs.ByHeight.SettledShelves.{AreInPlaceOf, all-in_place, one-more-in_place}
+use Rattle.shelf_store.proofs.ByHeight.SettledShelves.{BeginAsListedAmong, all-as_listed, one-more-as_listed}
 use Rattle.shelf_store.proofs.settling.take_out_moved.Goals as goal
 
 pub loop-index-preserved : goal.loop-index-preserved
@@ -13,18 +13,18 @@ loop-index-preserved c =
     omega (arith, c.loop-index-test.true, c.len-index-end.ensures.len, ap (λ (ns : List ℕ). length ns) c.loop-index.invariant.noted) in
     record {
       holds = c.take_out_if_moved.ensures.by_height;
-      places = subst (λ (ns : List ℕ). AreInPlaceOf c.args.records.now.shelves new (take (c.loop-index.index + 1) ns)) (sym c.take_out_if_moved.ensures.noted)
-          (one-more-in_place c.args.records.now.shelves old new c.loop-index.index c.noted_at-shelf.result below c.noted_at-shelf.ensures.value c.take_out_if_moved.ensures.others c.take_out_if_moved.ensures.in_place c.loop-index.invariant.places);
+      as_listed = subst (λ (ns : List ℕ). BeginAsListedAmong c.args.records.now.shelves new (take (c.loop-index.index + 1) ns)) (sym c.take_out_if_moved.ensures.noted)
+          (one-more-as_listed c.args.records.now.shelves old new c.loop-index.index c.noted_at-shelf.result below c.noted_at-shelf.ensures.value c.take_out_if_moved.ensures.others c.take_out_if_moved.ensures.as_listed c.loop-index.invariant.as_listed);
       noted = c.take_out_if_moved.ensures.noted ∙ c.loop-index.invariant.noted;
       same = λ k. c.take_out_if_moved.ensures.same k ∙ c.loop-index.invariant.same k;
       capacity = omega (arith, c.loop-index.invariant.capacity, c.take_out_if_moved.ensures.capacity);
       room = c.take_out_if_moved.ensures.room ∙ c.loop-index.invariant.room;
     }
 
-pub returns-clause-in_place : goal.returns-clause-in_place
-returns-clause-in_place c =
+pub returns-clause-as_listed : goal.returns-clause-as_listed
+returns-clause-as_listed c =
     let notes : Notes = c.loop-index.pending.notes in
     let all = take_all c.loop-index.index notes.noted (omega (arith, c.loop-index-test.false, c.len-index-end.ensures.len, ap (λ (ns : List ℕ). length ns) c.loop-index.invariant.noted)) in
-    all-in_place c.args.frame.now c.args.records.now notes c.loop-index.by_height.items c.requires.kept c.loop-index.invariant.holds
+    all-as_listed c.args.frame.now c.args.records.now notes c.loop-index.by_height.items c.requires.kept c.loop-index.invariant.holds
     (λ k. ap (times k) c.loop-index.invariant.noted ∙ c.len-index-end.ensures.tied k ∙ sym (ap once_where (c.loop-index.invariant.same k)))
-    (subst (AreInPlaceOf c.args.records.now.shelves notes) all c.loop-index.invariant.places)
+    (subst (BeginAsListedAmong c.args.records.now.shelves notes) all c.loop-index.invariant.as_listed)
