@@ -123,15 +123,15 @@ fn breach_of_shelves(snapshot: &BucketedSnapshot) -> Option<Breach> {
     };
     for (number, shelf) in snapshot.shelves.iter().enumerate() {
         let here = Record::Shelf(number);
-        let place = u32::from(shelf.x) / width;
-        if u32::from(shelf.x) % width != 0 || place >= u32::from(snapshot.num_columns) {
+        let its_column = u32::from(shelf.x) / width;
+        if u32::from(shelf.x) % width != 0 || its_column >= u32::from(snapshot.num_columns) {
             return breach_at(here, "no column begins at its x");
         }
-        if place != column.number {
-            if place != column.number.saturating_add(1) || shelf.height == 0 {
+        if its_column != column.number {
+            if its_column != column.number.saturating_add(1) || shelf.height == 0 {
                 return breach_at(here, "it opens a column out of turn, or without height");
             }
-            column.number = place;
+            column.number = its_column;
             column.height = 0;
         }
         if u32::from(shelf.y) != column.height {
@@ -269,21 +269,21 @@ fn breach_of_sharing(
     snapshot: &BucketedSnapshot,
     lists: &[Buckets],
 ) -> Result<Option<Breach>, AllocError> {
-    let mut stand = vec![in alloc; false; snapshot.buckets.len()]?;
+    let mut listed = vec![in alloc; false; snapshot.buckets.len()]?;
     for list in lists {
         for number in &list.met {
-            if let Some(place) = stand.get_mut(*number) {
-                if *place {
+            if let Some(is_listed) = listed.get_mut(*number) {
+                if *is_listed {
                     return Ok(breach_at(Record::Bucket(*number), "two lists have it"));
                 }
-                *place = true;
+                *is_listed = true;
             }
         }
         if list.end != End::AtNone {
             return Ok(breach_at(list.last(), "the list doesn't end behind it"));
         }
     }
-    let lost = stand.iter().position(|stands| !*stands);
+    let lost = listed.iter().position(|is_listed| !*is_listed);
     Ok(lost.and_then(|number| breach_at(Record::Bucket(number), "no list has it")))
 }
 

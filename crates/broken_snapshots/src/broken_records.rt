@@ -127,12 +127,12 @@ fn breach_of_shelves(snapshot: &AtlasSnapshot, used: &Used) -> Option<Breach> {
     for number in &used.shelves.met {
         let here = Record::Shelf(*number);
         let shelf = snapshot.shelves.get(*number)?;
-        let place = u32::from(shelf.x) / u32::from(snapshot.shelf_width).max(1);
-        if place > column.number {
-            if column.height != sides.across || place != column.number.saturating_add(1) {
+        let its_column = u32::from(shelf.x) / u32::from(snapshot.shelf_width).max(1);
+        if its_column > column.number {
+            if column.height != sides.across || its_column != column.number.saturating_add(1) {
                 return breach_at(column.last, "behind it a column isn't filled");
             }
-            column.number = place;
+            column.number = its_column;
             column.height = 0;
         }
         let found = breach_of_shelf(snapshot, *number, column);
@@ -302,50 +302,50 @@ fn breach_of_sharing(
     used: &Used,
 ) -> Result<Option<Breach>, AllocError> {
     let unused_shelves = walk_along(alloc, snapshot, Chain::UnusedShelves)?;
-    let mut shelves = Places::new(alloc, snapshot.shelves.len())?;
-    let of_shelves = shelves
+    let mut listed_shelves = Listed::new(alloc, snapshot.shelves.len())?;
+    let of_shelves = listed_shelves
         .add(&used.shelves)
-        .or(shelves.add(&unused_shelves))
-        .or(shelves.lost(Chain::Shelves));
+        .or(listed_shelves.add(&unused_shelves))
+        .or(listed_shelves.lost(Chain::Shelves));
     if of_shelves.is_some() {
         return Ok(of_shelves);
     }
     let unused_items = walk_along(alloc, snapshot, Chain::UnusedItems)?;
-    let mut places = Places::new(alloc, snapshot.items.len())?;
+    let mut listed_items = Listed::new(alloc, snapshot.items.len())?;
     for items in &used.items {
-        let found = places.add(items);
+        let found = listed_items.add(items);
         if found.is_some() {
             return Ok(found);
         }
     }
     Ok(
-        places
+        listed_items
             .add(&unused_items)
-            .or(places.lost(Chain::UnusedItems)),
+            .or(listed_items.lost(Chain::UnusedItems)),
     )
 }
 
 /// Which records stand in a list.
 #[derive(Drop)]
-struct Places {
-    stand: Vec<bool>,
+struct Listed {
+    listed: Vec<bool>,
 }
 
-impl Places {
-    fn new(alloc: Global, count: usize) -> Result<Places, AllocError> {
-        Ok(Places {
-            stand: vec![in alloc; false; count]?,
+impl Listed {
+    fn new(alloc: Global, count: usize) -> Result<Listed, AllocError> {
+        Ok(Listed {
+            listed: vec![in alloc; false; count]?,
         })
     }
 
     /// Adds the records of a walk, up to one that stands in a list already, or to where it doesn't end.
     fn add(&mut self, walk: &Walk) -> Option<Breach> {
         for number in &walk.met {
-            let place = self.stand.get_mut(*number)?;
-            if *place {
+            let is_listed = self.listed.get_mut(*number)?;
+            if *is_listed {
                 return breach_at(walk.chain.record(*number), "two lists have it");
             }
-            *place = true;
+            *is_listed = true;
         }
         match walk.end {
             End::AtNone => None,
@@ -356,7 +356,7 @@ impl Places {
 
     /// The first record that stands in none.
     fn lost(&self, chain: Chain) -> Option<Breach> {
-        let number = self.stand.iter().position(|stands| !*stands)?;
+        let number = self.listed.iter().position(|is_listed| !*is_listed)?;
         breach_at(chain.record(number), "no list has it")
     }
 }
