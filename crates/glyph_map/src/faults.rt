@@ -57,7 +57,7 @@ pub enum MapRestoreFault {
     /// There aren't as many keys with values as keys in the snapshot.
     #[error("WrongCount")]
     WrongCount,
-    /// The key at this place, counted from 0, stands again behind it.
+    /// The key at this position, counted from 0, stands again behind it.
     #[error("SameKey")]
     SameKey(usize),
 }

@@ -1,5 +1,5 @@
-//! Whether the fields of a record hold what they should. A field is told by how many the record has, its place among
-//! them, and its name.
+//! Whether the fields of a record hold what they should. A field is told by how many the record has, its position
+//! among them, and its name.
 //!
 //! Definitions: `JsonFields`.
 

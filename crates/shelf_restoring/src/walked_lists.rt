@@ -49,7 +49,7 @@ pub fn walked_shelves<'a>(
     Ok(shelves)
 }
 
-/// So many of a list from a place on.
+/// So many of a list from a position on.
 fn part(list: &[u16], start: usize, count: usize) -> &[u16]
     requires { start + count ≤ length list.now }
     ensures { result.now ≡ take count (drop start list.now) }

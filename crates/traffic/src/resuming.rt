@@ -20,7 +20,7 @@ use std::alloc::{AllocError, Global};
 /// What a saved atlas had live, and its replies to more commands.
 #[derive(Drop)]
 pub struct Resumed {
-    /// What was live in the snapshot, by rising index: the position of each is its place here, from 0.
+    /// What was live in the snapshot, by rising index: the position of each is where it stands here, counted from 0.
     pub live: Vec<Allocation>,
     /// The replies to the commands, whose positions begin behind those.
     pub replies: Vec<Reply>,
