@@ -33,8 +33,8 @@ pub fn a_return_restores_the_layout()
     ensures { ReturnRestores }
 {}
 
-/// A growth keeps the allocated space, and puts just the items to use for which it needs records.
-pub fn a_growth_keeps_the_allocated_space()
+/// A grow keeps the allocated space, and puts just the items to use for which it needs records.
+pub fn a_grow_keeps_the_allocated_space()
     ensures space { GrowKeepsSpace }
     ensures uses { GrowUses }
 {}
