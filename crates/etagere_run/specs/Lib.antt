@@ -1,8 +1,8 @@
 pub mod Answers
 pub mod Checking
 pub mod Drawing
-pub mod Laws
 pub mod Private
+pub mod ReplayLaws
 pub mod Replaying
 pub mod Saved
 pub mod Streaming

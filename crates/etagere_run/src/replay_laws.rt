@@ -1,8 +1,8 @@
 //! A law of replays and drawings, the contract of a function that does nothing. Public, but not meant for users.
 //!
-//! Definitions: `Laws`, over `Replaying` and `Drawing`.
+//! Definitions: `ReplayLaws`, over `Replaying` and `Drawing`.
 
-ghost use Rattle.etagere_run.specs.Laws.{DrawingsAreTheSame, ReplaysDifferInIds};
+ghost use Rattle.etagere_run.specs.ReplayLaws.{DrawingsAreTheSame, ReplaysDifferInIds};
 
 /// An input decides what its replay answers where no memory is refused, but for the numbers of ids, and all that its
 /// drawing shows.
