@@ -19,7 +19,7 @@ use Rattle.moves.proofs.MovedAtlases.Laws.{arranges-frame, arranges-once, arrang
 use Rattle.moves.specs.Atlases.Arranging.{Arranges, HasRoom, IsRearranged, moved_from, moved_to}
 use Rattle.moves.specs.Atlases.Options.{options_of}
 use Rattle.moves.specs.Atlases.Order.{AreTallestFirst}
-use Rattle.moves.specs.declared.atlases.moves.Move.{Move}
+use Rattle.moves.specs.declared.atlases.rearrangement.Move.{Move}
 
 -- the clauses
 pub record IsDone (old : AtlasState) (size : Size) (moves : List Move) (unplaced : List Allocation) (new : AtlasState)

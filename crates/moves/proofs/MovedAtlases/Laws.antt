@@ -23,7 +23,7 @@ use Rattle.shelf_model.specs.State.{AtlasState}
 use Rattle.shelf_model.specs.Valid.{IsValid}
 use Rattle.moves.specs.Atlases.Arranging.{Arranges, nothing, moved, refused, HasRoom, IsAsLarge, moved_from, moved_to}
 use Rattle.moves.specs.Atlases.Order.{size_of}
-use Rattle.moves.specs.declared.atlases.moves.Move.{Move}
+use Rattle.moves.specs.declared.atlases.rearrangement.Move.{Move}
 
 -- the ids of allocations
 abbrev ids_of : List Allocation → List ℕ

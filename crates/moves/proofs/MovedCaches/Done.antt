@@ -18,11 +18,11 @@ use Rattle.glyph_shelf.specs.Cache.{CacheState}
 use Rattle.glyph_shelf.specs.Promises.{KeepsCachePromises}
 use Rattle.glyph_shelf.specs.Saved.{without_frame}
 use Rattle.moves.specs.Atlases.Arranging.{HasRoom, moved_from}
-use Rattle.moves.specs.declared.atlases.moves.Move.{Move}
+use Rattle.moves.specs.declared.atlases.rearrangement.Move.{Move}
 use Rattle.moves.specs.Caches.Arranging.{HasMoved, IsLeftOut, key_at, key_left, key_move, keys_told, moved_cache, new_place}
 use Rattle.moves.specs.Caches.Private.Following.{Follows, IsMovedInto}
-use Rattle.moves.specs.declared.caches.moves.KeyMove.{KeyMove}
-use Rattle.moves.specs.declared.caches.moves.UnplacedKey.{UnplacedKey}
+use Rattle.moves.specs.declared.caches.rearrangement.KeyMove.{KeyMove}
+use Rattle.moves.specs.declared.caches.rearrangement.UnplacedKey.{UnplacedKey}
 use Rattle.moves.proofs.MovedCaches.Entries.{Entries, ids_of, left-found, moved, moved-found, moved-keys, moved-length, moved-tied, name-found, names, names-ids, places, places-ids}
 use Rattle.moves.proofs.MovedCaches.Found.{each-filter_map, each-map, found-total, mapped-some, present, under, under-absent, under-own, weigh}
 

@@ -10,7 +10,7 @@ use Rattle.etagere_base.specs.Lists.{times, total}
 use Rattle.etagere_base.specs.declared.ids.Allocation.{Allocation}
 use Rattle.shelf_model.specs.Callers.{AreTied, IsFound}
 use Rattle.moves.specs.Atlases.Arranging.{moved_from, moved_to}
-use Rattle.moves.specs.declared.atlases.moves.Move.{Move}
+use Rattle.moves.specs.declared.atlases.rearrangement.Move.{Move}
 use Rattle.moves.specs.Caches.Arranging.{moved_entry, new_place}
 use Rattle.moves.proofs.MovedCaches.Found.{found-total, under, under-absent, under-each, weigh}
 

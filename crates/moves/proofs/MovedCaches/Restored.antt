@@ -16,7 +16,7 @@ use Rattle.glyph_shelf.specs.Saved.{CacheStandsFor, saved_key, without_frame}
 use Rattle.glyph_shelf.specs.declared.saving.CacheSnapshot.{CacheSnapshot}
 use Rattle.glyph_shelf.specs.declared.saving.SavedKey.{SavedKey}
 use Rattle.moves.specs.Atlases.Arranging.{moved_from}
-use Rattle.moves.specs.declared.atlases.moves.Move.{Move}
+use Rattle.moves.specs.declared.atlases.rearrangement.Move.{Move}
 use Rattle.moves.specs.Caches.Arranging.{key_at, key_left, key_move, moved_cache, new_place}
 use Rattle.moves.specs.Caches.Private.ById.{ids_moved, keyed_left, keyed_move, keys_saved, saved_anew}
 use Rattle.moves.proofs.MovedCaches.Entries.{Entries, ids_of, moved, names, names-ids}

@@ -23,7 +23,7 @@ use Rattle.atlas_pages.specs.Promises.{IsPage, KeepsPagesPromises}
 use Rattle.moves.proofs.MovedPages.TiedLists.{tied-added, times_on-append}
 use Rattle.moves.specs.Pages.Arranging.{Arranges, nothing, moved, refused, HasRoom, moved_from, moved_to}
 use Rattle.moves.specs.Pages.Tied.{AreTiedOn, IsFoundOn, times_on}
-use Rattle.moves.specs.declared.pages.moves.PageMove.{PageMove}
+use Rattle.moves.specs.declared.pages.rearrangement.PageMove.{PageMove}
 
 -- the new pages keep their promises
 pub arranges-kept : {start end : PagesState} {asked unplaced : List PagedAllocation} {moves : List PageMove}

@@ -12,7 +12,7 @@ use Rattle.moves.proofs.MovedPages.TiedLists.{tied-listed, tied-permuted}
 use Rattle.moves.specs.Pages.Arranging.{Arranges, HasRoom, IsRearranged, moved_from, moved_to}
 use Rattle.moves.specs.Pages.Order.{AreTallestFirst}
 use Rattle.moves.specs.Pages.Tied.{AreTiedOn}
-use Rattle.moves.specs.declared.pages.moves.PageMove.{PageMove}
+use Rattle.moves.specs.declared.pages.rearrangement.PageMove.{PageMove}
 
 -- the clauses
 pub record IsDone (old : PagesState) (moves : List PageMove) (unplaced : List PagedAllocation) (new : PagesState) : Type 0 where

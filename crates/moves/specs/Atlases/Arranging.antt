@@ -13,7 +13,7 @@ use Rattle.shelf_model.specs.State.{AtlasState}
 use Rattle.shelf_model.specs.Valid.{IsValid}
 use Rattle.moves.specs.Atlases.Options.{options_of}
 use Rattle.moves.specs.Atlases.Order.{AreTallestFirst, size_of}
-use Rattle.moves.specs.declared.atlases.moves.Move.{Move}
+use Rattle.moves.specs.declared.atlases.rearrangement.Move.{Move}
 
 -- rectangles of an old atlas asked a new one for places, each by its own sides and one after another: those that moved,
 -- those that were refused, and the state of the new atlas then

@@ -7,9 +7,9 @@ use Rattle.etagere_base.specs.declared.ids.Allocation.{Allocation}
 use Rattle.shelf_model.specs.State.{AtlasState}
 use Rattle.glyph_shelf.specs.Cache.{CacheState, rectangle_at}
 use Rattle.moves.specs.Atlases.Arranging.{IsAsLarge, IsRearranged}
-use Rattle.moves.specs.declared.atlases.moves.Move.{Move}
-use Rattle.moves.specs.declared.caches.moves.KeyMove.{KeyMove}
-use Rattle.moves.specs.declared.caches.moves.UnplacedKey.{UnplacedKey}
+use Rattle.moves.specs.declared.atlases.rearrangement.Move.{Move}
+use Rattle.moves.specs.declared.caches.rearrangement.KeyMove.{KeyMove}
+use Rattle.moves.specs.declared.caches.rearrangement.UnplacedKey.{UnplacedKey}
 
 -- the key of a cache for which something is allocated under an id
 abbrev pub key_at : CacheState → ℕ → Option ℕ

@@ -10,7 +10,7 @@ use Rattle.atlas_pages.specs.Places.{Places}
 use Rattle.atlas_pages.specs.Promises.{KeepsPagesPromises}
 use Rattle.moves.specs.Pages.Order.{AreTallestFirst}
 use Rattle.moves.specs.Pages.Tied.{AreTiedOn}
-use Rattle.moves.specs.declared.pages.moves.PageMove.{PageMove}
+use Rattle.moves.specs.declared.pages.rearrangement.PageMove.{PageMove}
 
 -- rectangles of old pages asked new ones for places, each by its own sides and one after another: those that moved, those
 -- that were refused, and the new pages then

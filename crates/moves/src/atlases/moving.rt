@@ -20,8 +20,8 @@ ghost use Rattle.moves.specs.Atlases.Order.{AreTallestFirst};
 ghost use Rattle.moves.specs.Atlases.Private.Sides.{HasSides};
 
 use crate::atlases::kept_options::options_of;
-use crate::atlases::moves::{Rearranged, place_next};
 use crate::atlases::order::sort_tallest_first;
+use crate::atlases::rearrangement::{Rearranged, place_next};
 use etagere_shelves::{Allocation, AtlasAllocator, Iter, OptionsFault, Size};
 use pictures::Pictured;
 use std::alloc::{AllocError, Global};

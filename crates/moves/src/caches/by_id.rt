@@ -8,7 +8,7 @@ ghost use Rattle.std.specs.List.{filter_map};
 ghost use Rattle.moves.specs.Caches.Private.ById.{ids_moved, keyed_left, keyed_move, keys_saved, saved_anew};
 
 use crate::atlases::Move;
-use crate::caches::moves::{KeyMove, UnplacedKey};
+use crate::caches::rearrangement::{KeyMove, UnplacedKey};
 use etagere_shelves::{AllocId, Allocation};
 use glyph_shelf::SavedKey;
 use std::alloc::{AllocError, Global};

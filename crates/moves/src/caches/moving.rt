@@ -19,7 +19,7 @@ ghost use Rattle.moves.specs.Caches.Private.Following.{Follows, IsMovedInto};
 
 use crate::atlases::{Move, rearranged};
 use crate::caches::by_id::{key_moves, keys_by_id, keys_moved, new_ids, unplaced_keys};
-use crate::caches::moves::RearrangedCache;
+use crate::caches::rearrangement::RearrangedCache;
 use etagere_shelves::{Allocation, AtlasAllocator, OptionsFault, Size};
 use glyph_shelf::laws::snapshots_stand_for_one_cache;
 use glyph_shelf::{CacheRestoreFault, CacheSnapshot, GlyphCache};

@@ -12,8 +12,8 @@ ghost use Rattle.moves.specs.Pages.Arranging.{Arranges, HasRoom, IsRearranged, m
 ghost use Rattle.moves.specs.Pages.Order.{AreTallestFirst};
 ghost use Rattle.moves.specs.Pages.Tied.{AreTiedOn};
 
-use crate::pages::moves::{RearrangedPages, place_next};
 use crate::pages::order::sort_tallest_first;
+use crate::pages::rearrangement::{RearrangedPages, place_next};
 use atlas_pages::{AtlasPages, Iter, PagedAllocation};
 use std::alloc::{AllocError, Global};
 

@@ -2,9 +2,9 @@
 use Rattle.std.specs.Prelude.{ℕ, Option, option_map, List, map}
 use Rattle.etagere_base.specs.declared.ids.Allocation.{Allocation}
 use Rattle.glyph_shelf.specs.declared.saving.SavedKey.{SavedKey}
-use Rattle.moves.specs.declared.atlases.moves.Move.{Move}
-use Rattle.moves.specs.declared.caches.moves.KeyMove.{KeyMove}
-use Rattle.moves.specs.declared.caches.moves.UnplacedKey.{UnplacedKey}
+use Rattle.moves.specs.declared.atlases.rearrangement.Move.{Move}
+use Rattle.moves.specs.declared.caches.rearrangement.KeyMove.{KeyMove}
+use Rattle.moves.specs.declared.caches.rearrangement.UnplacedKey.{UnplacedKey}
 
 -- the keys that are saved, each with its id before it
 abbrev pub keys_saved : List SavedKey → List (ℕ × ℕ)

@@ -10,10 +10,10 @@ use Rattle.glyph_shelf.specs.Cache.{CacheState}
 use Rattle.glyph_shelf.specs.Promises.{KeepsCachePromises}
 use Rattle.glyph_shelf.specs.Saved.{without_frame}
 use Rattle.moves.specs.Atlases.Arranging.{moved_from, moved_to}
-use Rattle.moves.specs.declared.atlases.moves.Move.{Move}
+use Rattle.moves.specs.declared.atlases.rearrangement.Move.{Move}
 use Rattle.moves.specs.Caches.Arranging.{key_left, key_move, moved_cache}
-use Rattle.moves.specs.declared.caches.moves.KeyMove.{KeyMove}
-use Rattle.moves.specs.declared.caches.moves.UnplacedKey.{UnplacedKey}
+use Rattle.moves.specs.declared.caches.rearrangement.KeyMove.{KeyMove}
+use Rattle.moves.specs.declared.caches.rearrangement.UnplacedKey.{UnplacedKey}
 
 -- what was allocated has moved or was left, and another atlas has allocated what moved
 pub record IsMovedInto (old : AtlasState) (moves : List Move) (unplaced : List Allocation) (new : AtlasState)

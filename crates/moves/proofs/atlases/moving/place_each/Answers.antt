@@ -5,7 +5,7 @@ use Rattle.etagere_base.proofs.EachLemmas.{Each-get}
 use Rattle.etagere_base.specs.declared.ids.Allocation.{Allocation}
 use Rattle.moves.specs.Atlases.Arranging.{Arranges, nothing}
 use Rattle.moves.specs.Atlases.Private.Sides.{HasSides}
-use Rattle.moves.specs.declared.atlases.moves.Move.{Move}
+use Rattle.moves.specs.declared.atlases.rearrangement.Move.{Move}
 use Rattle.moves.proofs.atlases.moving.place_each.Goals as goal
 
 pub loop-before-init : goal.loop-before-init

@@ -4,7 +4,7 @@ use Rattle.shelf_model.specs.Callers.{AreTied}
 use Rattle.shelf_model.specs.Places.{allocations}
 use Rattle.shelf_model.specs.State.{AtlasState}
 use Rattle.moves.specs.Atlases.Arranging.{moved_from}
-use Rattle.moves.specs.declared.atlases.moves.Move.{Move}
+use Rattle.moves.specs.declared.atlases.rearrangement.Move.{Move}
 use Rattle.moves.specs.Caches.Private.Following.{Follows, IsMovedInto}
 use Rattle.moves.proofs.MovedCaches.Done.{done-each, done-left, done-moved}
 use Rattle.moves.proofs.caches.moving.rearranged_cache.Goals as goal

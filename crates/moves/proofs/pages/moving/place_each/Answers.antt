@@ -5,7 +5,7 @@ use Rattle.etagere_base.proofs.EachLemmas.{Each-get}
 use Rattle.atlas_pages.specs.declared.places.PagedAllocation.{PagedAllocation}
 use Rattle.moves.specs.Pages.Arranging.{Arranges, nothing}
 use Rattle.moves.specs.Atlases.Private.Sides.{HasSides}
-use Rattle.moves.specs.declared.pages.moves.PageMove.{PageMove}
+use Rattle.moves.specs.declared.pages.rearrangement.PageMove.{PageMove}
 use Rattle.moves.proofs.pages.moving.place_each.Goals as goal
 
 pub loop-before-init : goal.loop-before-init

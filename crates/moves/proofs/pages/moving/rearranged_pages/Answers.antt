@@ -12,7 +12,7 @@ use Rattle.moves.proofs.MovedPages.TiedLists.{tied-listed, tied-permuted}
 use Rattle.moves.specs.Pages.Arranging.{Arranges, HasRoom, IsRearranged, moved_from, moved_to}
 use Rattle.moves.specs.Pages.Order.{AreTallestFirst}
 use Rattle.moves.specs.Pages.Tied.{AreTiedOn}
-use Rattle.moves.specs.declared.pages.moves.RearrangedPages.{RearrangedPages}
+use Rattle.moves.specs.declared.pages.rearrangement.RearrangedPages.{RearrangedPages}
 use Rattle.moves.proofs.pages.moving.rearranged_pages.Goals as goal
 
 pub place_each-requires : goal.place_each-requires
