@@ -1,3 +1,3 @@
 pub mod Packing
-pub mod Runs
+pub mod Running
 pub mod Told

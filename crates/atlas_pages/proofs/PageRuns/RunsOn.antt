@@ -8,7 +8,7 @@ use Rattle.atlas_pages.specs.Places.{rectangle_on}
 use Rattle.atlas_pages.specs.Promises.{KeepsPagesPromises}
 use Rattle.atlas_pages.specs.declared.runs.commands.PageCommand.{PageCommand}
 use Rattle.atlas_pages.specs.declared.runs.commands.PageReply.{PageReply}
-use Rattle.atlas_pages.specs.Runs.Runs.{PageRunKeepsPromises, PageRunKeepsPromisesThroughout, PageRuns, PageStep}
+use Rattle.atlas_pages.specs.Runs.Running.{PageRunKeepsPromises, PageRunKeepsPromisesThroughout, PageRuns, PageStep}
 use Rattle.atlas_pages.specs.Runs.Told.{Told, nothing, told_after, told_from}
 use Rattle.atlas_pages.proofs.PageRuns.StepsTold.{same-step, told-step}
 

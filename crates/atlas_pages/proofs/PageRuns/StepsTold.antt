@@ -28,7 +28,7 @@ use Rattle.atlas_pages.specs.declared.runs.commands.PageCommand.{PageCommand}
 use Rattle.atlas_pages.specs.declared.runs.commands.PageCommand.TheVariants.{Allocate, Deallocate, Clear, Grow, Shrink}
 use Rattle.atlas_pages.specs.declared.runs.commands.PageReply.{PageReply}
 use Rattle.atlas_pages.specs.declared.runs.commands.PageReply.TheVariants.{Placed, Refused, NoMemory, Returned, Unknown, Cleared, Grown, Fewer, Closed}
-use Rattle.atlas_pages.specs.Runs.Runs.{PageStep}
+use Rattle.atlas_pages.specs.Runs.Running.{PageStep}
 use Rattle.atlas_pages.specs.Runs.Told.{Told, are, told_after, with_place}
 
 -- the rectangle on one of some pages under an id

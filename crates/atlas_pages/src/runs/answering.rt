@@ -1,9 +1,9 @@
 //! One command, one call of the pages, one reply.
 //!
-//! Definition: `Runs`. A new command needs its pairs in `PageStep`.
+//! Definition: `Running`. A new command needs its pairs in `PageStep`.
 
 ghost use Rattle.atlas_pages.specs.Promises.{KeepsPagesPromises};
-ghost use Rattle.atlas_pages.specs.Runs.Runs.{PageStep};
+ghost use Rattle.atlas_pages.specs.Runs.Running.{PageStep};
 
 use crate::AtlasPages;
 use crate::runs::commands::{PageCommand, PageReply};

@@ -1,6 +1,6 @@
 //! The commands of a run on pages, and the replies to them.
 //!
-//! The definition of runs (`Runs`) matches on them.
+//! The definition of runs (`Running`) matches on them.
 
 use crate::PagedAllocation;
 use etagere_shelves::{AllocId, Size};

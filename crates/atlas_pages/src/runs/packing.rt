@@ -1,14 +1,14 @@
 //! A list of sizes that is packed at once: each gets the place that a run on new pages gives it.
 //!
-//! Definition: `Packing`, over `Runs`.
+//! Definition: `Packing`, over `Running`.
 
 ghost use Rattle.std.specs.Prelude.{◌≡◌, IfErr, IfOk, OnOk};
 ghost use Rattle.atlas_pages.specs.Pages.{ArePageOptions};
 ghost use Rattle.atlas_pages.specs.Runs.Packing.{asked_for};
-ghost use Rattle.atlas_pages.specs.Runs.Runs.{PageRunKeepsPromisesThroughout, RefusesPageRun, RunsToOnPages};
+ghost use Rattle.atlas_pages.specs.Runs.Running.{PageRunKeepsPromisesThroughout, RefusesPageRun, RunsToOnPages};
 
 use crate::runs::commands::{PageCommand, PageReply};
-use crate::runs::faults::PageRunFault;
+use crate::runs::run_faults::PageRunFault;
 use crate::runs::running::run_pages;
 use crate::{AtlasPages, PageOptions};
 use etagere_shelves::Size;

@@ -1,17 +1,17 @@
 //! Runs of commands on new pages.
 //!
-//! Definition: `Runs`, over those of `atlas_pages`.
+//! Definition: `Running`, over those of `atlas_pages`.
 
 ghost use Rattle.std.specs.Prelude.{◌≡◌, ◌≤◌, [], length, vec_capacity, Err, IfErr, IfOk, OnOk, IfSome};
 ghost use Rattle.atlas_pages.specs.Pages as model;
 ghost use Rattle.atlas_pages.specs.Pages.{ArePageOptions, no_pages};
 ghost use Rattle.atlas_pages.specs.Promises.{KeepsPagesPromises};
-ghost use Rattle.atlas_pages.specs.declared.runs.faults.PageRunFault.{PageRunFault};
-ghost use Rattle.atlas_pages.specs.Runs.Runs.{PageRunKeepsPromisesThroughout, RefusesPageRun, RunsToOnPages};
+ghost use Rattle.atlas_pages.specs.declared.runs.run_faults.PageRunFault.{PageRunFault};
+ghost use Rattle.atlas_pages.specs.Runs.Running.{PageRunKeepsPromisesThroughout, RefusesPageRun, RunsToOnPages};
 
 use crate::runs::answering::answer_on_pages;
 use crate::runs::commands::{PageCommand, PageReply};
-use crate::runs::faults::PageRunFault;
+use crate::runs::run_faults::PageRunFault;
 use crate::{AtlasPages, PageOptions};
 use std::alloc::Global;
 

@@ -9,7 +9,7 @@ use Rattle.atlas_pages.specs.declared.runs.commands.PageCommand.{PageCommand}
 use Rattle.atlas_pages.specs.declared.runs.commands.PageCommand.TheVariants.{Allocate}
 use Rattle.atlas_pages.specs.declared.runs.commands.PageReply.{PageReply}
 use Rattle.atlas_pages.specs.declared.runs.commands.PageReply.TheVariants.{Placed, Refused, NoMemory}
-use Rattle.atlas_pages.specs.Runs.Runs.{PageStep}
+use Rattle.atlas_pages.specs.Runs.Running.{PageStep}
 use Rattle.atlas_pages.specs.Runs.Told.{told_from}
 
 -- Pages may give this reply to a command and become the new ones. A size gets a place for itself with its padding, in a

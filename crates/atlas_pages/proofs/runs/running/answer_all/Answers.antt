@@ -1,6 +1,6 @@
 use Rattle.std.proofs.Common.{◌≡◌, ◌<◌, ◌≤◌, [], ◌∷◌, ◌++◌, length, subst, arith, rules}
 use Rattle.atlas_pages.specs.declared.runs.commands.PageCommand.{PageCommand}
-use Rattle.atlas_pages.specs.Runs.Runs.{PageStep}
+use Rattle.atlas_pages.specs.Runs.Running.{PageStep}
 use Rattle.atlas_pages.proofs.PageRuns.RunsOn.{ends, goes_on, starts}
 use Rattle.atlas_pages.proofs.runs.running.answer_all.Goals as goal
 

@@ -1,6 +1,6 @@
 use Rattle.std.proofs.Common.{◌≡◌, ◌∙◌, rules, subst}
 use Rattle.atlas_pages.specs.Pages.{ArePageOptions, PagesState, no_pages}
-use Rattle.atlas_pages.specs.Runs.Runs.{PageRunKeepsPromisesThroughout}
+use Rattle.atlas_pages.specs.Runs.Running.{PageRunKeepsPromisesThroughout}
 use Rattle.atlas_pages.proofs.runs.running.run_pages.Goals as goal
 
 pub returns-clause-promises : goal.returns-clause-promises

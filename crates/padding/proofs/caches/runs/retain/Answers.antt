@@ -1,7 +1,7 @@
 use Rattle.std.proofs.Common.{◌≡◌, refl, rules, ◌∙◌}
 use Rattle.std.specs.Prelude.{nat_eq, not}
 use Rattle.glyph_shelf.specs.Dropping.{is_one_of}
-use Rattle.padding.proofs.PaddedCaches.Refused.{drops-keys}
+use Rattle.padding.proofs.PaddedCaches.DroppedKeys.{drops-keys}
 use Rattle.padding.proofs.caches.runs.retain.Goals as goal
 
 pub returns : goal.returns

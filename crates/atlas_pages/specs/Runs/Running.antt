@@ -10,8 +10,8 @@ use Rattle.atlas_pages.specs.declared.runs.commands.PageCommand.{PageCommand}
 use Rattle.atlas_pages.specs.declared.runs.commands.PageCommand.TheVariants.{Allocate, Deallocate, Clear, Grow, Shrink}
 use Rattle.atlas_pages.specs.declared.runs.commands.PageReply.{PageReply}
 use Rattle.atlas_pages.specs.declared.runs.commands.PageReply.TheVariants.{Placed, Refused, NoMemory, Returned, Unknown, Cleared, Grown, Fewer, Closed}
-use Rattle.atlas_pages.specs.declared.runs.faults.PageRunFault.{PageRunFault}
-use Rattle.atlas_pages.specs.declared.runs.faults.PageRunFault.TheVariants.{Options, Memory}
+use Rattle.atlas_pages.specs.declared.runs.run_faults.PageRunFault.{PageRunFault}
+use Rattle.atlas_pages.specs.declared.runs.run_faults.PageRunFault.TheVariants.{Options, Memory}
 use Rattle.atlas_pages.specs.Runs.Told.{nothing, told_from}
 
 -- pages may give this reply to a command and become the new ones
