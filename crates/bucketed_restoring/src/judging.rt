@@ -11,8 +11,9 @@ ghost use Rattle.bucketed_restoring.specs.Private.Judging as spec;
 mod buckets;
 
 use bucketed_records::records::{KeptShelf, LinkedBucket, LinkedBucketShelf};
-use buckets::{is_multiple, judged_buckets};
+use buckets::judged_buckets;
 use etagere_base::{Frame, RestoreFault};
+use etagere_links::is_multiple;
 
 /// What is kept of a shelf, and the area that its buckets have used, in square pixels.
 #[derive(Clone, Copy)]

@@ -21,7 +21,7 @@ ghost use Rattle.bucketed_restoring.specs.RestoringSteps.{IsRead};
 use crate::judging::{Judged, are_unused, judged_row};
 use bucketed_records::records::{KeptShelf, LinkedBucket, LinkedBucketShelf};
 use etagere_base::{Frame, RestoreFault};
-use etagere_links::{Link, WalkRoom, all_marked, mark_onto, restore_fault, unmarked};
+use etagere_links::{Link, WalkRoom, all_marked, mark_onto, restore_fault, room_and_marks};
 use std::alloc::{AllocError, Global};
 
 /// The links of bucket records, in order of their numbers.
@@ -302,10 +302,7 @@ pub(crate) fn judged_lists(
     let Ok(links) = links_of(alloc, buckets) else {
         return Err(RestoreFault::Memory);
     };
-    let Ok(mut room) = WalkRoom::new(alloc, buckets.len()) else {
-        return Err(RestoreFault::Memory);
-    };
-    let Ok(mut marks) = unmarked(alloc, buckets.len()) else {
+    let Ok((mut room, mut marks)) = room_and_marks(alloc, buckets.len()) else {
         return Err(RestoreFault::Memory);
     };
     judged_marking(

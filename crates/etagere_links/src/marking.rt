@@ -169,12 +169,15 @@ fn mark_along(
     Ok(at)
 }
 
-/// No marks, for so many records. Takes a byte of memory for each.
-pub fn unmarked(alloc: Global, count: usize) -> Result<Vec<bool>, AllocError>
-    ensures none { IfOk result (λ marks. IsMarkedBy marks.items []) }
-    ensures count { IfOk result (λ marks. length marks.items ≡ count) }
+/// Room for walks through so many records, at most 65535, and marks of which none is set. Takes three bytes of memory for
+/// each record.
+pub fn room_and_marks(alloc: Global, count: usize) -> Result<(WalkRoom, Vec<bool>), AllocError>
+    ensures room { IfOk result (λ made. made.0 ≡ count) }
+    ensures none { IfOk result (λ made. IsMarkedBy made.1.items []) }
+    ensures count { IfOk result (λ made. length made.1.items ≡ count) }
 {
-    vec![in alloc; false; count]
+    let room = WalkRoom::new(alloc, count)?;
+    Ok((room, vec![in alloc; false; count]?))
 }
 
 /// Whether all records are marked. The time is linear in their number. No mark ends the loop, so many are read at once.

@@ -18,7 +18,7 @@ use crate::loaded_atlas::LoadedAtlas;
 use crate::walked_lists::WalkedLists;
 use etagere_base::RestoreFault;
 use etagere_links::{
-    Chain, WalkRoom, all_marked, mark_onto, next_bits, restore_fault, unmarked, walk_marking,
+    Chain, WalkRoom, all_marked, mark_onto, next_bits, restore_fault, room_and_marks, walk_marking,
 };
 use shelf_records::LinkedItem;
 use shelf_records::fields::first_item_link;
@@ -58,10 +58,7 @@ pub fn walk_items(
     let Ok(links) = next_bits::<Chain, LinkedItem>(alloc, atlas.records.items()) else {
         return Err(RestoreFault::Memory);
     };
-    let Ok(mut room) = WalkRoom::new(alloc, links.len()) else {
-        return Err(RestoreFault::Memory);
-    };
-    let Ok(mut marks) = unmarked(alloc, links.len()) else {
+    let Ok((mut room, mut marks)) = room_and_marks(alloc, links.len()) else {
         return Err(RestoreFault::Memory);
     };
     follow_items(alloc, atlas, &mut room, &mut marks, &links, numbers, steps)

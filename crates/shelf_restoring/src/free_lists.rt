@@ -20,7 +20,7 @@ ghost use Rattle.shelf_records.specs.Snapshots.{IsBroken};
 use crate::loaded_atlas::LoadedAtlas;
 use crate::walked_lists::WalkedLists;
 use etagere_base::RestoreFault;
-use etagere_links::{FreeList, WalkFault, WalkRoom, mark_onto, next_bits, unmarked};
+use etagere_links::{FreeList, WalkFault, WalkRoom, mark_onto, next_bits, room_and_marks};
 use shelf_records::LinkedItem;
 use shelf_records::fields::first_free_link;
 use std::alloc::Global;
@@ -54,10 +54,7 @@ pub fn walk_free_lists(
     let Ok(links) = next_bits::<FreeList, LinkedItem>(alloc, atlas.records.items()) else {
         return Err(RestoreFault::Memory);
     };
-    let Ok(mut room) = WalkRoom::new(alloc, links.len()) else {
-        return Err(RestoreFault::Memory);
-    };
-    let Ok(mut marks) = unmarked(alloc, links.len()) else {
+    let Ok((mut room, mut marks)) = room_and_marks(alloc, links.len()) else {
         return Err(RestoreFault::Memory);
     };
     follow_free_lists(alloc, atlas, &mut room, &mut marks, &links, numbers, steps)

@@ -15,7 +15,7 @@ ghost use Rattle.shelf_records.specs.Snapshots.{IsBroken};
 use crate::loaded_atlas::LoadedAtlas;
 use etagere_base::RestoreFault;
 use etagere_links::{
-    Chain, WalkRoom, all_marked, next_bits, restore_fault, unmarked, walk_marking,
+    Chain, WalkRoom, all_marked, next_bits, restore_fault, room_and_marks, walk_marking,
 };
 use shelf_records::LinkedShelf;
 use std::alloc::Global;
@@ -39,10 +39,7 @@ pub fn walk_shelves(
     let Ok(links) = next_bits::<Chain, LinkedShelf>(alloc, atlas.records.shelves()) else {
         return Err(RestoreFault::Memory);
     };
-    let Ok(mut room) = WalkRoom::new(alloc, links.len()) else {
-        return Err(RestoreFault::Memory);
-    };
-    let Ok(mut marks) = unmarked(alloc, links.len()) else {
+    let Ok((mut room, mut marks)) = room_and_marks(alloc, links.len()) else {
         return Err(RestoreFault::Memory);
     };
     follow_shelves(alloc, atlas, &mut room, &mut marks, &links, steps)

@@ -10,6 +10,7 @@ ghost use Rattle.bucketed_restoring.specs.Private.Judging as spec;
 
 use bucketed_records::records::{LinkedBucket, LinkedBucketShelf, MOST_GIVEN, record_room, wider};
 use etagere_base::Frame;
+use etagere_links::is_multiple;
 
 /// What is found of the buckets of a shelf.
 #[derive(Clone, Copy)]
@@ -145,12 +146,4 @@ fn is_kept(alignment: u32, shelf: &LinkedBucketShelf, bucket: &LinkedBucket) -> 
     let _generation = bucket.generation;
     let _live_items = bucket.refcount;
     is_filled(alignment, shelf.bucket_width, shelf.height, bucket)
-}
-
-/// Whether a length is a multiple of this, which is at least 1. Mostly it is 1, and a division is dear.
-pub(crate) fn is_multiple(length: u32, alignment: u32) -> bool
-    requires { 1 ≤ alignment }
-    ensures { result ≡ (length % alignment == 0) }
-{
-    alignment == 1 || length % alignment == 0
 }

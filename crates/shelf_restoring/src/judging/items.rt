@@ -2,7 +2,7 @@
 //!
 //! Definitions: `LinkBack` and `LieFrom` of `StandsFor`, and `Rules` for what is left of a list.
 
-ghost use Rattle.std.specs.Prelude.{◌≡◌, ◌≤◌, ◌*◌, ◌%◌, None, false, Decides, length, map};
+ghost use Rattle.std.specs.Prelude.{◌≡◌, ◌≤◌, ◌*◌, None, false, Decides, length, map};
 ghost use Rattle.etagere_base.specs.Frames.{IsFrame, alignment_along, longest_side};
 ghost use Rattle.etagere_base.specs.declared.frames.Frame.{Frame};
 ghost use Rattle.etagere_links.specs.Edits.{link_at};
@@ -18,7 +18,7 @@ ghost use Rattle.shelf_restoring.specs.Private.Rules.{ApartFrom, LinkedFrom, Row
 
 use crate::judging::linking::is_link_to;
 use etagere_base::Frame;
-use etagere_links::{Chain, previous_of};
+use etagere_links::{Chain, is_multiple, previous_of};
 use shelf_records::{LinkedItem, fields};
 
 /// What is found of the items of a shelf.
@@ -116,12 +116,4 @@ fn lies_at(items: &[LinkedItem], item: usize, here: u32, alignment: u32) -> bool
         return false;
     }
     is_multiple(width, alignment)
-}
-
-/// Whether a width is a multiple of this, which is at least 1. Mostly it is 1, and a division is dear.
-fn is_multiple(width: u32, alignment: u32) -> bool
-    requires { 1 ≤ alignment }
-    ensures { Decides result (width % alignment ≡ 0) }
-{
-    alignment == 1 || width % alignment == 0
 }
