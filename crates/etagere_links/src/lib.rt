@@ -16,7 +16,7 @@ mod walking;
 pub use chained::{Chain, FreeList, Linked};
 pub use links::Link;
 pub use lists::{insert_after, insert_front, next_bits, next_of, previous_of, take};
-pub use marking::{WalkFault, all_marked, mark_onto, restore_fault, room_and_marks, walk_marking};
+pub use marking::{WalkFault, all_marked, mark_onto, restore_fault, room_and_marks};
 pub use multiples::is_multiple;
 pub use walking::walks::Walk;
 pub use walking::{WalkRoom, walk};

@@ -40,45 +40,6 @@ pub fn restore_fault(fault: WalkFault) -> RestoreFault
     }
 }
 
-/// Follows links from `start` on and marks what it meets, as `mark_onto` does, and returns the records that were met.
-///
-/// Takes two bytes of memory for each record met.
-pub fn walk_marking(
-    alloc: Global,
-    room: &mut WalkRoom,
-    marks: &mut [bool],
-    links: &[u16],
-    start: u16,
-    steps: &mut u64,
-) -> Result<Vec<u16>, WalkFault>
-    requires few { length links.now ≤ no_link }
-    requires room { length links.now ≤ room.old }
-    requires marks { length marks.old ≡ length links.now }
-    requires steps { steps.old < 2 ^ 32 }
-    ensures room { room.new ≡ room.old }
-    ensures met { IfOk result (λ met. met.items ≡ (spec.walk links.now start).met) }
-    ensures end { OnOk result ((spec.walk links.now start).end ≡ no_link) }
-    ensures marked { OnOk result ((numbers : List ℕ) → IsMarkedBy marks.old numbers →
-        IsMarkedBy marks.new (numbers ++ (spec.walk links.now start).met)) }
-    ensures none { OnOk result
-        (first_fault marks.old (length links.now) (spec.walk links.now start) ≡ None) }
-    ensures first { IfErr result
-        (IsFirst marks.old (length links.now) (spec.walk links.now start)) }
-    ensures fault { IfErr result
-        (BreaksOff marks.old (length links.now) (spec.walk links.now start)) }
-    ensures steps { OnOk result
-        (steps.new ≡ steps.old + length (spec.walk links.now start).met) }
-    ensures read { IfErr result
-        (λ fault. steps.new ≡ steps.old + links_by (spec.walk links.now start) fault) }
-    ensures bound { steps.new ≤ steps.old + length links.now }
-{
-    let mut met = Vec::new(alloc);
-    match mark_onto(room, marks, &mut met, links, start, steps) {
-        Ok(()) => Ok(met),
-        Err(fault) => Err(fault),
-    }
-}
-
 /// Follows links from `start` on and marks what it meets, which is a list of records that ends at none and
 /// of which none was marked before. Puts them behind those in `met`, and adds the links that were read to `steps`, also
 /// where the walk is refused.

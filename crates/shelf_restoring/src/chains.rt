@@ -18,7 +18,7 @@ use crate::loaded_atlas::LoadedAtlas;
 use crate::walked_lists::WalkedLists;
 use etagere_base::RestoreFault;
 use etagere_links::{
-    Chain, WalkRoom, all_marked, mark_onto, next_bits, restore_fault, room_and_marks, walk_marking,
+    Chain, WalkRoom, all_marked, mark_onto, next_bits, restore_fault, room_and_marks,
 };
 use shelf_records::LinkedItem;
 use shelf_records::fields::first_item_link;
@@ -98,10 +98,10 @@ fn follow_items(
     ensures each { IfOk result (λ walked. steps.old + length walked.lists.met.items ≤ steps.new) }
 {
     let first = atlas.records.unused_items().bits();
-    let unused = match walk_marking(alloc, room, marks, links, first, steps) {
-        Ok(unused) => unused,
-        Err(fault) => return Err(restore_fault(fault)),
-    };
+    let mut unused = Vec::new(alloc);
+    if let Err(fault) = mark_onto(room, marks, &mut unused, links, first, steps) {
+        return Err(restore_fault(fault));
+    }
     let lists = walk_chains(alloc, atlas, room, marks, links, numbers, steps)?;
     if !all_marked(marks) {
         return Err(RestoreFault::Sharing);

@@ -1,7 +1,7 @@
 //! Restoring an atlas from a snapshot: its links are followed, and then its rules are judged over what was met.
 //!
 //! Definitions: `Snapshots` for the rules by their faults, `Restoring` for what walks have met. Links are
-//! followed by `walk_marking` and `mark_onto` alone, so all walks together are linear.
+//! followed by `mark_onto` alone, so all walks together are linear.
 
 ghost use Rattle.shelf_records.specs.AtlasRecords.{AtlasRecords};
 

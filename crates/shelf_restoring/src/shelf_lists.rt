@@ -15,7 +15,7 @@ ghost use Rattle.shelf_records.specs.Snapshots.{IsBroken};
 use crate::loaded_atlas::LoadedAtlas;
 use etagere_base::RestoreFault;
 use etagere_links::{
-    Chain, WalkRoom, all_marked, next_bits, restore_fault, room_and_marks, walk_marking,
+    Chain, WalkRoom, all_marked, mark_onto, next_bits, restore_fault, room_and_marks,
 };
 use shelf_records::LinkedShelf;
 use std::alloc::Global;
@@ -71,12 +71,13 @@ fn follow_shelves(
     ensures each { IfOk result (λ numbers. length numbers.items ≤ steps.new) }
 {
     let first = atlas.records.first_shelf().bits();
-    let numbers = match walk_marking(alloc, room, marks, links, first, steps) {
-        Ok(numbers) => numbers,
-        Err(fault) => return Err(restore_fault(fault)),
-    };
-    let unused = atlas.records.unused_shelves().bits();
-    if let Err(fault) = walk_marking(alloc, room, marks, links, unused, steps) {
+    let mut numbers = Vec::new(alloc);
+    if let Err(fault) = mark_onto(room, marks, &mut numbers, links, first, steps) {
+        return Err(restore_fault(fault));
+    }
+    let first_unused = atlas.records.unused_shelves().bits();
+    let mut unused = Vec::new(alloc);
+    if let Err(fault) = mark_onto(room, marks, &mut unused, links, first_unused, steps) {
         return Err(restore_fault(fault));
     }
     if !all_marked(marks) {

@@ -38,7 +38,7 @@ walk_chains-requires-clause-marked c =
     let start : c.bits-first.result ≡ bits_of atlas.records.unused_items =
     c.bits-first.ensures.value ∙ ap bits_of (c.unused_items.ensures ∙ ap (λ (a : AtlasRecords). a.records.unused_items) c.atlas.view_is) in
     let walks = walks-by item_chain.next atlas.records.items atlas.records.unused_items c.args.links.now c.bits-first.result c.requires.links start in
-    subst (λ (w : Walked). IsMarkedBy c.walk_marking.new.marks w.met) walks (c.in-Ok.ensures.marked [] c.requires.marked)
+    subst (λ (w : Walked). IsMarkedBy c.mark_onto.new.marks w.met) walks (c.in_default.ensures.marked [] c.requires.marked)
 
 pub returns-then-not-all_marked-clause-fault : goal.returns-then-not-all_marked-clause-fault
 returns-then-not-all_marked-clause-fault c =
@@ -51,7 +51,7 @@ returns-then-not-all_marked-clause-fault c =
     let marked : IsMarkedBy c.walk_chains.new.marks (unused ++ item_numbers (map (chain_entry atlas.records) numbers)) =
     subst (λ (ns : List ℕ). IsMarkedBy c.walk_chains.new.marks (unused ++ item_numbers (map (chain_entry atlas.records) ns))) c.requires.numbers c.in_ok-lists.ensures.marked in
     let count : length c.walk_chains.new.marks ≡ length atlas.records.items =
-    c.walk_chains.auto.marks ∙ c.walk_marking.auto.marks ∙ c.requires.marks ∙ links-length item_chain.next atlas.records.items c.args.links.now c.requires.links in
+    c.walk_chains.auto.marks ∙ c.mark_onto.auto.marks ∙ c.requires.marks ∙ links-length item_chain.next atlas.records.items c.args.links.now c.requires.links in
     λ (shared : IsShared atlas).
     c.if-not-all_marked.ensures.missing refl (unused ++ item_numbers (map (chain_entry atlas.records) numbers)) marked
     (subst (λ (n : ℕ). HasEachOnce n (unused ++ item_numbers (map (chain_entry atlas.records) numbers))) (sym count)
@@ -68,13 +68,13 @@ returns-clause-ok c =
     let marked : IsMarkedBy c.walk_chains.new.marks (unused ++ item_numbers (map (chain_entry atlas.records) numbers)) =
     subst (λ (ns : List ℕ). IsMarkedBy c.walk_chains.new.marks (unused ++ item_numbers (map (chain_entry atlas.records) ns))) c.requires.numbers c.in_ok-lists.ensures.marked in
     let count : length c.walk_chains.new.marks ≡ length atlas.records.items =
-    c.walk_chains.auto.marks ∙ c.walk_marking.auto.marks ∙ c.requires.marks ∙ links-length item_chain.next atlas.records.items c.args.links.now c.requires.links in
+    c.walk_chains.auto.marks ∙ c.mark_onto.auto.marks ∙ c.requires.marks ∙ links-length item_chain.next atlas.records.items c.args.links.now c.requires.links in
     let once : HasEachOnce (length atlas.records.items) (unused ++ item_numbers (map (chain_entry atlas.records) numbers)) =
     subst (λ (n : ℕ). HasEachOnce n (unused ++ item_numbers (map (chain_entry atlas.records) numbers))) count
     (c.if-not-all_marked.ensures.all refl (unused ++ item_numbers (map (chain_entry atlas.records) numbers)) marked) in
     record {
       chains = subst (AllByRecursion (HasChain atlas.records)) c.requires.numbers c.in_ok-lists.ensures.chains;
-      unused_end = sym (ap (λ (w : Walked). w.end) walks) ∙ c.in-Ok.ensures.end;
+      unused_end = sym (ap (λ (w : Walked). w.end) walks) ∙ c.in_default.ensures.end;
       once = once-back unused (item_numbers (map (chain_entry atlas.records) numbers)) (length atlas.records.items) once;
       next_fits = c.requires.fit;
       unused_fits = ap link_of (sym start) ∙ c.bits-first.ensures.link ∙ c.unused_items.ensures ∙ ap (λ (a : AtlasRecords). a.records.unused_items) c.atlas.view_is;
@@ -86,7 +86,7 @@ returns-in-Err-clause-until c =
     let start : c.bits-first.result ≡ bits_of atlas.records.unused_items =
     c.bits-first.ensures.value ∙ ap bits_of (c.unused_items.ensures ∙ ap (λ (a : AtlasRecords). a.records.unused_items) c.atlas.view_is) in
     let walks = walks-by item_chain.next atlas.records.items atlas.records.unused_items c.args.links.now c.bits-first.result c.requires.links start in
-    let steps = c.walk_marking.new.steps in
+    let steps = c.mark_onto.new.steps in
     λ more. subst (StopsAfter (c.args.steps.now + links_until (length atlas.records.items) more [] (item_walks atlas.records)) steps) (sym c.restore_fault.ensures)
     (first-refused atlas.records (length atlas.records.items) more c.args.steps.now steps (unused_item_walk atlas.records) (map (item_walk atlas.records) (shelf_walk atlas.records).met) c.args.marks.now c.in-Err.fault c.requires.marked
     (breaks-by item_chain.next atlas.records.items atlas.records.unused_items c.args.links.now c.bits-first.result c.args.marks.now c.in-Err.fault c.requires.links start c.in-Err.ensures.fault)
@@ -99,15 +99,15 @@ returns-in_err-lists-clause-until c =
     let start : c.bits-first.result ≡ bits_of atlas.records.unused_items =
     c.bits-first.ensures.value ∙ ap bits_of (c.unused_items.ensures ∙ ap (λ (a : AtlasRecords). a.records.unused_items) c.atlas.view_is) in
     let walks = walks-by item_chain.next atlas.records.items atlas.records.unused_items c.args.links.now c.bits-first.result c.requires.links start in
-    let marked : IsMarkedBy c.walk_marking.new.marks (unused_item_walk atlas.records).met =
-    subst (λ (w : Walked). IsMarkedBy c.walk_marking.new.marks w.met) walks (c.in-Ok.ensures.marked [] c.requires.marked) in
+    let marked : IsMarkedBy c.mark_onto.new.marks (unused_item_walk atlas.records).met =
+    subst (λ (w : Walked). IsMarkedBy c.mark_onto.new.marks w.met) walks (c.in_default.ensures.marked [] c.requires.marked) in
     let fault = c.in_err-lists.field-0.0 in
     let steps = c.walk_chains.new.steps in
     let passed = err_from_is_err_and c.from_residual.result c.from_residual.ensures.1 in
     rw (passed.1, passed.2) (λ more. subst (λ (n : ℕ). StopsAfter n steps fault)
-    (ap (λ (ns : List ℕ). c.walk_marking.new.steps + links_until (length atlas.records.items) more (unused_item_walk atlas.records).met (map (item_walk atlas.records) ns)) c.requires.numbers
-    ∙ items-on atlas.records more c.args.steps.now c.walk_marking.new.steps c.walk_marking.new.marks (sym (ap (λ (w : Walked). w.end) walks) ∙ c.in-Ok.ensures.end) marked
-    (subst (λ (w : Walked). c.walk_marking.new.steps ≡ c.args.steps.now + length w.met) walks c.in-Ok.ensures.steps))
+    (ap (λ (ns : List ℕ). c.mark_onto.new.steps + links_until (length atlas.records.items) more (unused_item_walk atlas.records).met (map (item_walk atlas.records) ns)) c.requires.numbers
+    ∙ items-on atlas.records more c.args.steps.now c.mark_onto.new.steps c.mark_onto.new.marks (sym (ap (λ (w : Walked). w.end) walks) ∙ c.in_default.ensures.end) marked
+    (subst (λ (w : Walked). c.mark_onto.new.steps ≡ c.args.steps.now + length w.met) walks c.in_default.ensures.steps))
     (c.in_err-lists.ensures.until more))
 
 pub returns-then-not-all_marked-clause-until : goal.returns-then-not-all_marked-clause-until
@@ -122,15 +122,15 @@ returns-then-not-all_marked-clause-until c =
     subst (λ (ns : List ℕ). IsMarkedBy c.walk_chains.new.marks (unused ++ ns))
     (ap (λ (ns : List ℕ). item_numbers (map (chain_entry atlas.records) ns)) c.requires.numbers ∙ sym (items-met atlas.records numbers)) c.in_ok-lists.ensures.marked in
     let count : length c.walk_chains.new.marks ≡ length atlas.records.items =
-    c.walk_chains.auto.marks ∙ c.walk_marking.auto.marks ∙ c.requires.marks ∙ links-length item_chain.next atlas.records.items c.args.links.now c.requires.links in
+    c.walk_chains.auto.marks ∙ c.mark_onto.auto.marks ∙ c.requires.marks ∙ links-length item_chain.next atlas.records.items c.args.links.now c.requires.links in
     let all : c.walk_chains.new.steps ≡ c.args.steps.now + links_in (item_walks atlas.records) =
-    items-counted atlas.records c.args.steps.now c.walk_marking.new.steps c.walk_chains.new.steps
-    (subst (λ (w : Walked). c.walk_marking.new.steps ≡ c.args.steps.now + length w.met) walks c.in-Ok.ensures.steps)
-    (c.in_ok-lists.ensures.steps ∙ ap (λ (ns : List ℕ). c.walk_marking.new.steps + length (item_numbers (map (chain_entry atlas.records) ns))) c.requires.numbers) in
+    items-counted atlas.records c.args.steps.now c.mark_onto.new.steps c.walk_chains.new.steps
+    (subst (λ (w : Walked). c.mark_onto.new.steps ≡ c.args.steps.now + length w.met) walks c.in_default.ensures.steps)
+    (c.in_ok-lists.ensures.steps ∙ ap (λ (ns : List ℕ). c.mark_onto.new.steps + length (item_numbers (map (chain_entry atlas.records) ns))) c.requires.numbers) in
     λ more. all
     ∙ ap (λ (n : ℕ). c.args.steps.now + n)
     (none-further atlas.records more (item_walks atlas.records) c.walk_chains.new.marks (length atlas.records.items)
-    (sym (ap (λ (w : Walked). w.end) walks) ∙ c.in-Ok.ensures.end, chains-end atlas.records numbers (subst (AllByRecursion (HasChain atlas.records)) c.requires.numbers c.in_ok-lists.ensures.chains))
+    (sym (ap (λ (w : Walked). w.end) walks) ∙ c.in_default.ensures.end, chains-end atlas.records numbers (subst (AllByRecursion (HasChain atlas.records)) c.requires.numbers c.in_ok-lists.ensures.chains))
     count marked (c.if-not-all_marked.ensures.missing refl (met_by (item_walks atlas.records)) marked))
 
 pub returns-clause-all : goal.returns-clause-all
@@ -139,6 +139,6 @@ returns-clause-all c =
     let start : c.bits-first.result ≡ bits_of atlas.records.unused_items =
     c.bits-first.ensures.value ∙ ap bits_of (c.unused_items.ensures ∙ ap (λ (a : AtlasRecords). a.records.unused_items) c.atlas.view_is) in
     let walks = walks-by item_chain.next atlas.records.items atlas.records.unused_items c.args.links.now c.bits-first.result c.requires.links start in
-    items-counted atlas.records c.args.steps.now c.walk_marking.new.steps c.walk_chains.new.steps
-    (subst (λ (w : Walked). c.walk_marking.new.steps ≡ c.args.steps.now + length w.met) walks c.in-Ok.ensures.steps)
-    (c.in_ok-lists.ensures.steps ∙ ap (λ (ns : List ℕ). c.walk_marking.new.steps + length (item_numbers (map (chain_entry atlas.records) ns))) c.requires.numbers)
+    items-counted atlas.records c.args.steps.now c.mark_onto.new.steps c.walk_chains.new.steps
+    (subst (λ (w : Walked). c.mark_onto.new.steps ≡ c.args.steps.now + length w.met) walks c.in_default.ensures.steps)
+    (c.in_ok-lists.ensures.steps ∙ ap (λ (ns : List ℕ). c.mark_onto.new.steps + length (item_numbers (map (chain_entry atlas.records) ns))) c.requires.numbers)
