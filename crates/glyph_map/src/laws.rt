@@ -36,6 +36,7 @@ pub fn saved_and_restored<K: Eq + Hash + Drop, V: Drop>(
         → IfErr result (λ refused. refused.fault ≡ faults.Memory) }
 {
     snapshots_stand_for_one_cache();
+    // A clause of this call says what every map keeps, which no clause of `snapshot` does.
     map.len();
     let Ok(snapshot) = map.snapshot() else {
         return Err(NotRestored {
