@@ -1,7 +1,10 @@
-use Rattle.std.proofs.Common.{◌≡◌, ◌<◌, None, length, nat_eq, sym, subst, arith}
+use Rattle.std.proofs.Common.{◌≡◌, ◌<◌, None, length, nat_eq, ap, sym, subst, arith}
 use Rattle.std.specs.Map.{lookup}
+use Rattle.shelf_model.specs.Atlas.{Allocates}
 use Rattle.glyph_shelf.specs.Cache.{CacheState}
+use Rattle.glyph_shelf.specs.Placing.{SameLayout}
 use Rattle.glyph_shelf.specs.Private.Kept.{kept_state}
+use Rattle.glyph_shelf.specs.UsedKeys.Keys.{KeysState}
 use Rattle.glyph_shelf.proofs.Keeping.{keeps-entered, keeps-refused}
 use Rattle.glyph_shelf.proofs.kept.Kept.enter.Goals as goal
 
@@ -30,3 +33,16 @@ invariant_of-self-in-Err c =
 
 pub returns-in-Err-clause-promises : goal.returns-in-Err-clause-promises
 returns-in-Err-clause-promises c = invariant_of-self-in-Err c
+
+pub returns-in-Err-clause-err : goal.returns-in-Err-clause-err
+returns-in-Err-clause-err c =
+    let placed : Allocates c.self.inside.atlas c.args.size c.in-Some.allocation c.allocate.new.self =
+    rw c.in-Some.is at c.in_ok-allocation.ensures.placed in
+    subst (λ (s : CacheState). SameLayout s (kept_state (record { entries = c.enter.new.self; atlas = c.give_back.new.atlas }))) c.self.view_is
+    (record {
+      entries = ap (λ (s : KeysState). s.entries) c.in-Err.ensures.err;
+      capacity = ap (λ (s : KeysState). s.cap) c.in-Err.ensures.err;
+      uses = ap (λ (s : KeysState). s.uses) c.in-Err.ensures.err;
+      layout = c.give_back.ensures.restores c.self.inside.atlas c.args.size placed.placement c.self.invariant.atlas.valid placed.placed
+          placed.fresh_id placed.after;
+    })
