@@ -220,9 +220,10 @@ fn behind_narrow_small(blocks: &[Block], shelf: usize, width: u32) -> usize
     ensures narrow { (block : spec.ℕ) → spec.block_of 8 shelf ≤ block → block * 8 < result
         → spec.may_give width blocks.now block ≡ false }
 {
-    let end = shelf / SHELVES_OF_MIDDLE * PARTS_OF_BLOCK + PARTS_OF_BLOCK;
+    let behind = shelf / SHELVES_OF_MIDDLE * PARTS_OF_BLOCK + PARTS_OF_BLOCK;
+    let end = behind.min(blocks.len());
     for number in shelf / SHELVES_OF_BLOCK + 1..end {
-        if may_give(blocks, number, width) {
+        if width <= u32::from(blocks[number].widest_room) {
             return number * SHELVES_OF_BLOCK;
         }
     }

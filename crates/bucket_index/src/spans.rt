@@ -449,14 +449,15 @@ impl Spans {
             }
     }
 
-    /// Whether a span begins with the record that a link names.
+    /// Whether a small span begins with the record that a link names, and none of its records has room for this width.
     #[inline(always)]
-    fn begin_with(&self, link: Link) -> bool
+    fn begins_narrow(&self, link: Link, width: u32) -> bool
         ensures { IsTrue result → self.now.are_learned ≡ true }
     {
         match link.number() {
             Some(number) => {
-                self.are_learned && begins_with(&self.small[block_of(SMALL, number)], number)
+                let span = &self.small[block_of(SMALL, number)];
+                u32::from(span.widest_room) < width && self.are_learned && begins_with(span, number)
             }
             None => false,
         }
@@ -469,7 +470,7 @@ impl Spans {
         ensures { (buckets : List LinkedBucket) → spec.AreSpans self.now buckets
             → spec.IsPassed width buckets at left result }
     {
-        if !self.begin_with(at) {
+        if !self.begins_narrow(at, width) {
             return Ahead { at, left };
         }
         let large = behind_narrow(&self.large, LARGE, at, left, width);

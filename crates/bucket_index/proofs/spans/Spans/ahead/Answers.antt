@@ -4,7 +4,7 @@ use Rattle.bucket_index.proofs.spans.Spans.ahead.Goals as goal
 
 pub returns : goal.returns
 returns c buckets are =
-    let known = (are (c.if-not-begin_with.ensures refl)).known in
+    let known = (are (c.if-not-begins_narrow.ensures refl)).known in
     let width = c.args.width in
     let large = c.behind_narrow-large.result in
     let middle = c.behind_narrow-middle.result in
