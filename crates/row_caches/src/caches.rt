@@ -9,7 +9,7 @@ use row_calls::lines::{
     key_and_size_of, key_of, numbers, parted, say, say_bracketed, say_evicted, say_fault, say_if,
     say_number, say_rectangle,
 };
-use row_calls::places::{Called, NotMade};
+use row_calls::slots::{Called, NotMade};
 use saved_collections::caches::{read_saved_cache, write_saved_cache};
 use std::alloc::Global;
 use std::io;

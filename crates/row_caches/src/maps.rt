@@ -15,7 +15,7 @@ use row_calls::lines::{
     capacity_of, numbers, parted, say, say_bracketed, say_fault, say_if, say_number, say_rectangle,
     size_of,
 };
-use row_calls::places::{Called, NotMade};
+use row_calls::slots::{Called, NotMade};
 use std::alloc::{AllocError, Global};
 use std::io;
 use std::num::NonZeroUsize;

@@ -2,7 +2,7 @@
 
 use crate::kinds::{Atlas, NotGrown};
 use crate::lines::{asked, id_of, rectangle_of, say, say_fault, say_if, say_placed, size_of};
-use crate::places::NotMade;
+use crate::slots::NotMade;
 use etagere::{OptionsFault, RestoreFault, Size};
 use std::alloc::Global;
 use std::io;

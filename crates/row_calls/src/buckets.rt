@@ -3,7 +3,7 @@
 use crate::atlases;
 use crate::kinds::Atlas;
 use crate::lines::{say, say_each, say_size, size_of};
-use crate::places::{Called, NotMade};
+use crate::slots::{Called, NotMade};
 use etagere::{
     BucketedAtlasAllocator, BucketedRefusal, BucketedSnapshot, BucketedUsage, RestoreFault, Size,
     laws,

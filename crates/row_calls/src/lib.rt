@@ -1,4 +1,4 @@
-//! What the rows of tests call, and how answers are written: the trait of what can be called by lines, the two places for
+//! What the rows of tests call, and how answers are written: the trait of what can be called by lines, the two slots for
 //! such, words of lines as values, and the calls of both atlases, by one trait.
 //!
 //! It promises nothing, so that what calls it is proved once and fast.
@@ -8,5 +8,5 @@ pub mod atlases;
 pub mod buckets;
 mod kinds;
 pub mod lines;
-pub mod places;
 pub mod shelves;
+pub mod slots;

@@ -5,7 +5,7 @@ use crate::kinds::Atlas;
 use crate::lines::{
     id_of, say, say_each, say_fault, say_given, say_number, say_rectangle, say_size, size_of,
 };
-use crate::places::{Called, NotMade};
+use crate::slots::{Called, NotMade};
 use etagere::laws::Walk;
 use etagere::{
     AllocId, AtlasAllocator, AtlasSnapshot, OptionsFault, Rectangle, Refusal, RestoreFault, Size,

@@ -5,7 +5,7 @@ use glyph_shelf::{GlyphFault, Placed};
 use paged_cache::{KeyedPlaces, PlacedKey, PlacingFault};
 use row_caches::caches::say_placed;
 use row_calls::lines::{capacity_of, key_and_size_of, numbers, say};
-use row_calls::places::{Called, NotMade};
+use row_calls::slots::{Called, NotMade};
 use std::alloc::Global;
 use std::io;
 use std::num::NonZeroUsize;

@@ -2,7 +2,7 @@
 //! its rows here, and compares the answers.
 //!
 //! The argument is the kind of what is called: `atlas`, `bucketed`, `cache`, `pages`, `padded`, `padded_cache`,
-//! `paged_cache`, `keyed` or `map`. There are two places for such a one, and a line is the number of a place, 0 or 1, the
+//! `paged_cache`, `keyed` or `map`. There are two slots for such a one, and a line is the number of a slot, 0 or 1, the
 //! call, and its words. With `run` or `stream` standard input is a script.
 //!
 //! `tests/refused_memory/run` refuses memory to the calls of rows.
@@ -23,7 +23,7 @@ use etagere::{AtlasAllocator, BucketedAtlasAllocator};
 use row_caches::caches::CalledCache;
 use row_caches::maps::CalledMap;
 use row_caches::padded_caches::CalledPaddedCache;
-use row_calls::places::{Called, Places, answer};
+use row_calls::slots::{Called, Slots, answer};
 use std::env;
 use std::io::{BufRead, BufReader};
 
@@ -51,15 +51,15 @@ fn answer_kind(rt: &HostRuntime, kind: &str) -> Result<()> {
 
 /// Answers each line.
 fn answer_all<C: Called + Drop, R: Input + Print + AllocGlobal>(rt: &R) -> Result<()> {
-    answer_lines(rt, &mut Places::<C>::new())
+    answer_lines(rt, &mut Slots::<C>::new())
 }
 
 fn answer_lines<C: Called + Drop, R: Input + Print + AllocGlobal>(
     rt: &R,
-    places: &mut Places<C>,
+    slots: &mut Slots<C>,
 ) -> Result<()> {
     for line in BufReader::new(rt.alloc(), rt.reader())?.lines(rt.alloc()) {
-        answer(rt, places, line?.as_str())?;
+        answer(rt, slots, line?.as_str())?;
     }
     Ok(())
 }

@@ -10,7 +10,7 @@ use padding::Padding;
 use padding::pages::PaddedPages;
 use padding::pages::runs::answer_on_padded_pages;
 use row_calls::lines::{numbers, say, say_rectangle, say_size, size_of};
-use row_calls::places::{Called, NotMade};
+use row_calls::slots::{Called, NotMade};
 use std::alloc::Global;
 use std::io;
 

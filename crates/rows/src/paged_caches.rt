@@ -9,7 +9,7 @@ use row_calls::lines::{
     capacity_of, key_and_size_of, key_of, numbers, say, say_bracketed, say_evicted, say_fault,
     say_number,
 };
-use row_calls::places::{Called, NotMade};
+use row_calls::slots::{Called, NotMade};
 use std::alloc::Global;
 use std::io;
 use std::num::NonZeroUsize;

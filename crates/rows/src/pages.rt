@@ -11,7 +11,7 @@ use moves::pages::{PageMove, RearrangedPages, rearranged_pages};
 use row_calls::lines::{
     id_of, numbers, parted, say, say_given, say_if, say_number, say_rectangle, size_of,
 };
-use row_calls::places::{Called, NotMade};
+use row_calls::slots::{Called, NotMade};
 use saved_collections::pages::{read_saved_pages, write_saved_pages};
 use std::alloc::{AllocError, Global};
 use std::io;

@@ -1,4 +1,4 @@
-//! The two places for what is called, and the calls that fill them.
+//! The two slots for what is called, and the calls that fill them.
 
 use crate::lines::{parted, say, say_fault, say_number, say_text};
 use std::alloc::Global;
@@ -52,21 +52,21 @@ pub trait Called: Sized {
 }
 
 #[derive(Drop)]
-pub struct Places<C> {
+pub struct Slots<C> {
     first: Option<C>,
     other: Option<C>,
 }
 
-impl<C: Called + Drop> Places<C> {
-    pub fn new() -> Places<C> {
-        Places {
+impl<C: Called + Drop> Slots<C> {
+    pub fn new() -> Slots<C> {
+        Slots {
             first: None,
             other: None,
         }
     }
 
-    fn at(&mut self, place: &str) -> &mut Option<C> {
-        if place == "0" {
+    fn at(&mut self, slot: &str) -> &mut Option<C> {
+        if slot == "0" {
             &mut self.first
         } else {
             &mut self.other
@@ -77,30 +77,30 @@ impl<C: Called + Drop> Places<C> {
 /// Makes the call of a line, and writes its answer.
 pub fn answer<C: Called + Drop>(
     rt: &(impl Print + AllocGlobal),
-    places: &mut Places<C>,
+    slots: &mut Slots<C>,
     line: &str,
 ) -> io::Result<()> {
-    let (place, call) = parted(line);
+    let (slot, call) = parted(line);
     let (call, words) = parted(call);
     match call {
-        "make" => fill(rt, places.at(place), C::made(rt.alloc(), words)),
-        "restore" => fill(rt, places.at(place), C::restored(rt.alloc(), words)),
-        "clone" => fill(rt, &mut places.other, copy_of(rt.alloc(), &places.first)),
+        "make" => fill(rt, slots.at(slot), C::made(rt.alloc(), words)),
+        "restore" => fill(rt, slots.at(slot), C::restored(rt.alloc(), words)),
+        "clone" => fill(rt, &mut slots.other, copy_of(rt.alloc(), &slots.first)),
         "steps" => say_steps(rt, C::steps(rt.alloc(), words)),
-        "save" => say_text(rt, &text_of(rt.alloc(), places.at(place))),
-        _ => answer_of(rt, places.at(place), call, words),
+        "save" => say_text(rt, &text_of(rt.alloc(), slots.at(slot))),
+        _ => answer_of(rt, slots.at(slot), call, words),
     }
 }
 
-/// Keeps what was made in its place. Where it can't be made, what was there stays.
+/// Keeps what was made in its slot. Where it can't be made, what was there stays.
 fn fill<C: Called + Drop>(
     rt: &impl Print,
-    place: &mut Option<C>,
+    slot: &mut Option<C>,
     made: Result<C, NotMade>,
 ) -> io::Result<()> {
     match made {
         Ok(made) => {
-            *place = Some(made);
+            *slot = Some(made);
             say(rt, "made")
         }
         Err(why) => say_not_made(rt, why),
@@ -123,15 +123,15 @@ fn say_steps(rt: &impl Print, steps: Result<u64, NotMade>) -> io::Result<()> {
     }
 }
 
-fn copy_of<C: Called>(alloc: Global, place: &Option<C>) -> Result<C, NotMade> {
-    match place {
+fn copy_of<C: Called>(alloc: Global, slot: &Option<C>) -> Result<C, NotMade> {
+    match slot {
         Some(called) => called.copied(alloc),
         None => Err(NotMade::Unread),
     }
 }
 
-fn text_of<C: Called>(alloc: Global, place: &Option<C>) -> Option<String> {
-    match place {
+fn text_of<C: Called>(alloc: Global, slot: &Option<C>) -> Option<String> {
+    match slot {
         Some(called) => called.saved(alloc),
         None => None,
     }
@@ -140,11 +140,11 @@ fn text_of<C: Called>(alloc: Global, place: &Option<C>) -> Option<String> {
 /// What a call answers of something that was made.
 fn answer_of<C: Called>(
     rt: &(impl Print + AllocGlobal),
-    place: &mut Option<C>,
+    slot: &mut Option<C>,
     call: &str,
     words: &str,
 ) -> io::Result<()> {
-    match place {
+    match slot {
         Some(called) => called.answer(rt, call, words),
         None => say(rt, "nothing was made"),
     }
