@@ -11,8 +11,8 @@ use tool_answers::bad_lines::script_in;
 use tool_answers::ending::{Answer, Failure};
 use tool_answers::pieces::Piece::{Count, Words};
 use tool_answers::pieces::push_pieces;
-use tool_answers::places::{line_numbers, line_of_command};
 use tool_answers::reasons::{Why, bucket_why, grow_why, push_largest, push_why, shelf_why};
+use tool_answers::script_lines::{line_numbers, line_of_command};
 use traffic::going_on::{Finding, Reason, Refused};
 use traffic::refusals::{explain_atlas, explain_buckets};
 

@@ -1,7 +1,7 @@
 //! Scripts and commands, or what was expected on their first line that isn't good.
 
 use crate::ending::Failure;
-use crate::places::{header_line, line_at};
+use crate::script_lines::{header_line, line_at};
 use run_scripts::commands::AtlasCommand;
 use run_scripts::faults::ReplayFault;
 use run_scripts::lines::split_word;
