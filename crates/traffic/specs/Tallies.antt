@@ -73,10 +73,10 @@ pub record IsTallyOf {C : Type 0} (sorted : CommandKind → C → Bool) (asked :
   pub allocations : tally.allocations ≡ count_by (sorted asking.Allocation) asked
   pub returns : tally.returns ≡ count_by (sorted asking.Return) asked
   pub looks : tally.looks ≡ count_by (sorted asking.Look) asked
-  pub growths : tally.growths ≡ count_by (sorted asking.Grow) asked
+  pub grows : tally.grows ≡ count_by (sorted asking.Grow) asked
   pub clears : tally.clears ≡ count_by (sorted asking.Clear) asked
   pub refused : tally.refused ≡ count_by (is_reply kinds.Refused) answers
-  pub growths_refused : tally.growths_refused ≡ count_by (is_reply kinds.GrowRefused) answers
+  pub grows_refused : tally.grows_refused ≡ count_by (is_reply kinds.GrowRefused) answers
   pub not_live : tally.not_live ≡ count_by (is_reply kinds.NotLive) answers
   pub no_memory : tally.no_memory ≡ count_by (is_reply kinds.NoMemory) answers
   pub live : tally.live ≡ live_counts answers

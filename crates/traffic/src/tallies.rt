@@ -50,12 +50,12 @@ pub struct Tally {
     pub allocations: usize,
     pub returns: usize,
     pub looks: usize,
-    pub growths: usize,
+    pub grows: usize,
     pub clears: usize,
     /// Allocations that have no place.
     pub refused: usize,
-    /// Growths that aren't possible.
-    pub growths_refused: usize,
+    /// Grows that aren't possible.
+    pub grows_refused: usize,
     /// Returns and looks whose position names nothing that is live.
     pub not_live: usize,
     /// Commands for which there was no memory.
@@ -144,10 +144,10 @@ pub fn tally_of<C: Sorted>(commands: &[C], replies: &[Reply]) -> Tally
         allocations: count_commands(commands, CommandKind::Allocation),
         returns: count_commands(commands, CommandKind::Return),
         looks: count_commands(commands, CommandKind::Look),
-        growths: count_commands(commands, CommandKind::Grow),
+        grows: count_commands(commands, CommandKind::Grow),
         clears: count_commands(commands, CommandKind::Clear),
         refused: count_replies(replies, ReplyKind::Refused),
-        growths_refused: count_replies(replies, ReplyKind::GrowRefused),
+        grows_refused: count_replies(replies, ReplyKind::GrowRefused),
         not_live: count_replies(replies, ReplyKind::NotLive),
         no_memory: count_replies(replies, ReplyKind::NoMemory),
         live: live_counts(replies),
