@@ -1,3 +1,4 @@
+pub mod FilledRows
 pub mod FoundShelves
 pub mod KnownBlocks
 pub mod KnownSpans

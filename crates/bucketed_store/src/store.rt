@@ -13,6 +13,7 @@ ghost use Rattle.bucketed_records.specs.StandsFor.{free_of, place_of, shelf_of};
 ghost use Rattle.bucketed_records.specs.Private.Store.{record_room, shelf_record};
 ghost use Rattle.bucketed_records.specs.Restoring as restoring;
 ghost use Rattle.bucket_index.specs.Private.Blocks.{AreKnown};
+ghost use Rattle.bucket_index.specs.Private.Filling.{IsFilled};
 ghost use Rattle.bucket_index.specs.Private.Searching as searching;
 ghost use Rattle.bucket_index.specs.Private.Spans.{AreSpans};
 ghost use Rattle.bucketed_store.specs.Private.Grows as growths;
@@ -27,6 +28,7 @@ use crate::merging::{Group, merge};
 use crate::placing::Placement;
 use crate::returning::{is_known, return_item, returned_area, shelf_number};
 use bucket_index::blocks::Blocks;
+use bucket_index::filling::Filled;
 use bucket_index::searching::{Found, has_room, widest_room};
 use bucket_index::spans::Spans;
 use bucketed_model::adding::{NewShelf, NewShelves, width_of_share};
@@ -54,6 +56,7 @@ pub struct Store {
     pub(crate) unused: Link,
     pub(crate) blocks: Blocks,
     pub(crate) spans: Spans,
+    pub(crate) filled: Filled,
     /// Whether a shelf may have so many buckets that a search along them goes far.
     pub(crate) may_be_long: bool,
 }
@@ -61,6 +64,7 @@ pub struct Store {
 impl Model for Store {
     ghost use Rattle.bucketed_records.specs.Private.Store.{Stored};
     ghost use Rattle.bucket_index.specs.Private.Blocks.{AreKnown};
+    ghost use Rattle.bucket_index.specs.Private.Filling.{IsFilled};
     ghost use Rattle.bucket_index.specs.Private.Spans.{AreSpans};
 
     ghost Value = { Stored };
@@ -72,7 +76,8 @@ impl Model for Store {
     } };
 
     ghost invariant = { λ store. AreKnown store.blocks store.shelves.items
-        × AreSpans store.spans store.buckets.items };
+        × AreSpans store.spans store.buckets.items
+        × IsFilled store.filled store.buckets.items };
 }
 
 /// What a return gives back.
@@ -108,6 +113,7 @@ impl Store {
             unused: Link::none(),
             blocks: Blocks::new(),
             spans: Spans::new(),
+            filled: Filled::none(),
             may_be_long: false,
         }
     }
@@ -124,6 +130,7 @@ impl Store {
             unused,
             blocks,
             spans: Spans::new(),
+            filled: Filled::none(),
             may_be_long: true,
         }
     }
@@ -137,6 +144,7 @@ impl Store {
         self.unused = Link::none();
         self.blocks = Blocks::new();
         self.spans.forget_all();
+        self.filled.forget();
         self.may_be_long = false;
     }
 
@@ -179,6 +187,7 @@ impl Store {
             &mut self.blocks,
             &news.asked,
         );
+        self.filled.forget();
         Ok(())
     }
 
@@ -296,7 +305,14 @@ impl Store {
             found,
             goes_far,
         );
-        give_from(&mut self.shelves, &self.buckets, &self.spans, found, keeps);
+        give_from(
+            &mut self.shelves,
+            &self.buckets,
+            &self.spans,
+            &mut self.filled,
+            found,
+            keeps,
+        );
         self.blocks.follow(&self.shelves, found.shelf, &before);
     }
 
@@ -338,6 +354,7 @@ impl Store {
         self.spans.track(&self.buckets, number, room);
         if !ends_idle(&self.shelves) {
             self.blocks.follow(&self.shelves, shelf, &before);
+            self.filled.widen(number);
             return Returned {
                 area,
                 drops: false,
@@ -351,6 +368,7 @@ impl Store {
             &mut self.unused,
         );
         self.blocks.follow_dropped(&self.shelves, shelf, &before);
+        self.filled.forget();
         Returned {
             area,
             drops: true,
@@ -381,6 +399,7 @@ impl Store {
             (growths.shelves_widened
             (length self.old.shelves) 0 place added left self.old).buckets) }
     {
+        self.filled.forget();
         let rest = left_after(&self.shelves, added, left);
         reserve_records(&mut self.buckets, MOST_BUCKETS - rest)?;
         widen_shelves(
@@ -721,11 +740,12 @@ fn keeps_widest(
 
 /// The greatest width that a bucket of a shelf can give, after the one that was found gave an item. Buckets from
 /// the first one on are looked at only where it isn't known that the shelf keeps a bucket as wide as its widest
-/// was, and then up to one that is.
+/// was, and then up to one that is; none where the others have been full since the one that was found gave one before.
 fn widest_after(
     shelves: &[KeptShelf],
     buckets: &[LinkedBucket],
     spans: &Spans,
+    filled: &mut Filled,
     found: &Found,
     keeps: bool,
 ) -> u16
@@ -735,15 +755,23 @@ fn widest_after(
         ≤ spec.widest_of shelves.now found.now.shelf }
     requires keeps { spec.KeepsWidest found.now.shelf keeps shelves.now buckets.now }
     requires spans { AreSpans spans.now buckets.now }
-    ensures { result
+    requires filled { IsFilled filled.old buckets.now }
+    ensures value { result
         ≡ searching.widest_from most_buckets buckets.now
         (spec.first_bucket_of shelves.now found.now.shelf) }
+    ensures filled { IsFilled filled.new buckets.now }
 {
     let widest = widest_of(shelves, found.shelf);
     if keeps {
         return widest;
     }
-    widest_room(buckets, spans, first_bucket(shelves, found.shelf), widest)
+    let first = first_bucket(shelves, found.shelf);
+    if filled.is_full(buckets, first, found.bucket) {
+        return 0;
+    }
+    let room = widest_room(buckets, spans, first, widest);
+    filled.learn(first, found.bucket, room);
+    room
 }
 
 /// Counts one more live item in the shelf of a bucket that was found, and keeps what the buckets of the shelf can
@@ -752,6 +780,7 @@ fn give_from(
     shelves: &mut [KeptShelf],
     buckets: &[LinkedBucket],
     spans: &Spans,
+    filled: &mut Filled,
     found: &Found,
     keeps: bool,
 )
@@ -762,9 +791,11 @@ fn give_from(
         ≤ spec.widest_of shelves.old found.now.shelf }
     requires keeps { spec.KeepsWidest found.now.shelf keeps shelves.old buckets.now }
     requires spans { AreSpans spans.now buckets.now }
-    ensures { shelves.new ≡ spec.shelves_given found.now.shelf shelves.old buckets.now }
+    requires filled { IsFilled filled.old buckets.now }
+    ensures shelves { shelves.new ≡ spec.shelves_given found.now.shelf shelves.old buckets.now }
+    ensures filled { IsFilled filled.new buckets.now }
 {
-    let widest = widest_after(shelves, buckets, spans, found, keeps);
+    let widest = widest_after(shelves, buckets, spans, filled, found, keeps);
     count_given(shelves, found.shelf, widest);
 }
 
@@ -789,6 +820,7 @@ impl Clone for Store {
             unused: self.unused,
             blocks: self.blocks,
             spans: self.spans,
+            filled: self.filled,
             may_be_long: self.may_be_long,
         })
     }

@@ -20,7 +20,7 @@ pub record IsLowered (room new old : ℕ) : Type 0 where
   pub rest : old ≤ max new room
 
 -- a bucket that gives an item has less room
-room-lowered : (width : ℕ) (b : LinkedBucket) → record_room (taken_record width b) ≤ record_room b
+pub room-lowered : (width : ℕ) (b : LinkedBucket) → record_room (taken_record width b) ≤ record_room b
 room-lowered width b = by_tests (nat_lt b.item_count 4095) (nat_lt (b.item_count + 1) 4095) refl refl
   where
     by_tests : (old new : Bool) → nat_lt b.item_count 4095 ≡ old → nat_lt (b.item_count + 1) 4095 ≡ new → cond new (b.free_space - width) 0 ≤ cond old b.free_space 0

@@ -8,6 +8,7 @@ use Rattle.bucketed_records.specs.declared.records.LinkedBucket.{LinkedBucket}
 use Rattle.bucketed_records.specs.declared.records.KeptShelf.{KeptShelf}
 use Rattle.bucketed_records.specs.Private.Store.{Stored}
 use Rattle.bucket_index.specs.Private.Blocks.{AreKnown, AreOthersKnown}
+use Rattle.bucket_index.specs.Private.Filling.{IsFilled}
 use Rattle.bucket_index.specs.Private.Searching.{widest_from}
 use Rattle.bucket_index.specs.Private.Spans.{AreSpans}
 use Rattle.bucket_index.proofs.KnownBlocks.{known-at, known-others}
@@ -37,6 +38,9 @@ learn_row-requires-clause-spans c = subst (AreSpans c.self.inside.spans) (sym c.
 pub give_from-requires-clause-spans : goal.give_from-requires-clause-spans
 give_from-requires-clause-spans c = subst (AreSpans c.learn_row.new.spans) (c.deref-4.ensures.value ∙ sym c.deref-5.ensures.value) c.learn_row.ensures
 
+pub give_from-requires-clause-filled : goal.give_from-requires-clause-filled
+give_from-requires-clause-filled c = subst (IsFilled c.self.inside.filled) (sym c.deref-5.ensures.value) c.self.invariant.2
+
 pub returns : goal.returns
 returns c =
     let shelves = c.self.inside.shelves in
@@ -44,7 +48,7 @@ returns c =
     with_items_is shelves c.give_from.new.shelves (omega (arith, c.give_from.auto.shelves, c.deref_mut.ensures.len)) in
     let given : (with_items shelves c.give_from.new.shelves).items ≡ shelves_given c.args.found.now.shelf shelves.items c.self.inside.buckets.items =
     items
-    ∙ c.give_from.ensures
+    ∙ c.give_from.ensures.shelves
     ∙ ap (λ (xs : List KeptShelf). shelves_given c.args.found.now.shelf xs c.deref-5.result.now) c.deref_mut.ensures.value
     ∙ ap (λ (bs : List LinkedBucket). shelves_given c.args.found.now.shelf shelves.items bs) c.deref-5.ensures.value in
     ap (λ (xs : List KeptShelf). let stored : Stored = record { shelves = xs; buckets = c.self.inside.buckets.items; unused = c.self.inside.unused } in stored) given
@@ -66,12 +70,15 @@ follow-requires-clause-others c =
     let items : (with_items inside.shelves c.give_from.new.shelves).items ≡ c.give_from.new.shelves =
     with_items_is inside.shelves c.give_from.new.shelves (omega (arith, c.give_from.auto.shelves, c.deref_mut.ensures.len)) in
     let given : c.give_from.new.shelves ≡ shelves_given shelf inside.shelves.items inside.buckets.items =
-    c.give_from.ensures
+    c.give_from.ensures.shelves
     ∙ ap (λ (xs : List KeptShelf). shelves_given shelf xs c.deref-5.result.now) c.deref_mut.ensures.value
     ∙ ap (λ (bs : List LinkedBucket). shelves_given shelf inside.shelves.items bs) c.deref-5.ensures.value in
     subst (AreOthersKnown shelf inside.blocks) (sym (c.deref-6.ensures.value ∙ items ∙ given))
     (known-others shelf (given_from (widest_from most_buckets inside.buckets.items (first_bucket_of inside.shelves.items shelf))) inside.blocks inside.shelves.items (λ x. refl) c.self.invariant.0)
 
 pub invariant_of-self : goal.invariant_of-self
-invariant_of-self c =
-    (subst (AreKnown c.follow.new.self) c.deref-6.ensures.value c.follow.ensures, subst (AreSpans c.learn_row.new.spans) c.deref-4.ensures.value c.learn_row.ensures)
+invariant_of-self c = (
+  subst (AreKnown c.follow.new.self) c.deref-6.ensures.value c.follow.ensures,
+  subst (AreSpans c.learn_row.new.spans) c.deref-4.ensures.value c.learn_row.ensures,
+  subst (IsFilled c.give_from.new.filled) c.deref-5.ensures.value c.give_from.ensures.filled,
+)

@@ -14,4 +14,5 @@ invariant_of-self c =
     let merged = items ∙ c.merge.ensures ∙ ap (kept_merged c.args.group.now) c.deref_mut.ensures.value in (
       subst (AreKnown c.self.inside.blocks) (sym merged) (known-merged c.args.group.now c.self.inside.blocks shelves.items c.self.invariant.0),
       c.self.invariant.1,
+      c.self.invariant.2,
     )

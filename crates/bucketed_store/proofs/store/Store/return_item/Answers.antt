@@ -1,4 +1,4 @@
-use Rattle.std.proofs.Common.{◌≡◌, ℕ, ◌<◌, List, Bool, true, false, Some, length, ap, cond, refl, subst, sym, ◌∙◌, arith}
+use Rattle.std.proofs.Common.{◌≡◌, ℕ, ◌<◌, List, Bool, true, false, Some, length, ap, cond, refl, subst, sym, ◌∙◌, arith, ◌==◌}
 use Rattle.std.proofs.lemmas.List.{with_items_is}
 use Rattle.std.proofs.lemmas.Option.{slice_get-get_or}
 use Rattle.std.specs.Prelude.{nat_le, slice_get, vec_len}
@@ -9,7 +9,9 @@ use Rattle.bucketed_records.specs.declared.records.KeptShelf.{KeptShelf}
 use Rattle.bucketed_records.specs.StandsFor.{live_of, shelf_of}
 use Rattle.bucketed_records.specs.Private.Store.{Stored}
 use Rattle.bucket_index.specs.Private.Blocks.{AreKnown, AreOthersKnown}
+use Rattle.bucket_index.specs.Private.Filling.{IsFilled}
 use Rattle.bucket_index.specs.Private.Spans.{AreSpans, AreSpansBut}
+use Rattle.bucket_index.proofs.FilledRows.{filled-changed}
 use Rattle.bucket_index.proofs.KnownBlocks.{AreSome, known-at, known-others}
 use Rattle.bucket_index.proofs.KnownSpans.{spans-changed-room}
 use Rattle.bucketed_store.specs.Private.Returns.{Dropping, dropping_of, emptied_record, lessened_record, returned_kept, returned_record, width_of}
@@ -65,9 +67,25 @@ follow-requires-clause-others c =
     subst (AreOthersKnown c.shelf_number-shelf.result inside.blocks) (sym (c.deref-then-not-ends_idle.ensures.value ∙ items ∙ returned))
     (known-others c.shelf_number-shelf.result change inside.blocks inside.shelves.items (λ x. refl) c.self.invariant.0)
 
+-- one number is not another
+apart : (m n : ℕ) → m ≡ n → (m == n) ≡ false → ⊥
+apart m n same h = grind arith
+
 pub invariant_of-self : goal.invariant_of-self
 invariant_of-self c =
-    (subst (AreKnown c.follow.new.self) c.deref-then-not-ends_idle.ensures.value c.follow.ensures, subst (AreSpans c.track.new.self) c.deref-5.ensures.value c.track.ensures)
+    let inside = c.self.inside in
+    let number = c.args.number in
+    let width = width_of c.deref_mut.result.now (shelf_of c.deref_mut-2.result.now number) in
+    let items : (with_items inside.buckets c.return_item.new.buckets).items ≡ c.return_item.new.buckets =
+    with_items_is inside.buckets c.return_item.new.buckets (omega (arith, c.return_item.auto.buckets, c.deref_mut-2.ensures.len)) in
+    let returned : c.return_item.new.buckets ≡ changed_by (Some number) (returned_record width) inside.buckets.items =
+    c.return_item.ensures.buckets ∙ ap (λ (bs : List LinkedBucket). changed_by (Some number) (returned_record width) bs) c.deref_mut-2.ensures.value in (
+      subst (AreKnown c.follow.new.self) c.deref-then-not-ends_idle.ensures.value c.follow.ensures,
+      subst (AreSpans c.track.new.self) c.deref-5.ensures.value c.track.ensures,
+      c.widen.ensures (with_items inside.buckets c.return_item.new.buckets).items
+          (λ same. subst (IsFilled inside.filled) (sym (items ∙ returned))
+          (filled-changed number (returned_record width) inside.filled inside.buckets.items (links-same width) (λ differs b. absurd (apart number inside.filled.bucket same differs)) c.self.invariant.2)),
+    )
 
 pub follow_dropped-requires-clause-before : goal.follow_dropped-requires-clause-before
 follow_dropped-requires-clause-before c =
@@ -113,4 +131,5 @@ invariant_of-self-2 c =
     with_items_is (with_items inside.buckets c.return_item.new.buckets) c.drop_idle_end-dropped.new.buckets (omega (arith, c.drop_idle_end-dropped.auto.buckets, c.deref_mut-3.ensures.len)) in (
       subst (AreKnown c.follow_dropped.new.self) c.deref-7.ensures.value c.follow_dropped.ensures,
       subst (AreSpans c.drop_idle_end-dropped.new.spans) (sym buckets) c.drop_idle_end-dropped.ensures.spans,
+      c.forget.ensures _,
     )

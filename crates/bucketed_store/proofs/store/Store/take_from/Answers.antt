@@ -3,9 +3,12 @@ use Rattle.std.proofs.lemmas.List.{with_items_is}
 use Rattle.std.specs.Vec.{with_items}
 use Rattle.etagere_links.specs.Edits.{changed_by}
 use Rattle.bucketed_records.specs.declared.records.LinkedBucket.{LinkedBucket}
+use Rattle.bucket_index.specs.Private.Filling.{IsFilled}
 use Rattle.bucket_index.specs.Private.Spans.{AreSpans, AreSpansBut}
+use Rattle.bucket_index.proofs.FilledRows.{filled-changed}
 use Rattle.bucket_index.proofs.KnownSpans.{spans-changed-room}
 use Rattle.bucketed_store.specs.Private.StoreEdits.{taken_record}
+use Rattle.bucketed_store.proofs.Spelling.WidestRooms.{room-lowered}
 use Rattle.bucketed_store.proofs.store.Store.take_from.Goals as goal
 
 pub track-requires-clause-others : goal.track-requires-clause-others
@@ -21,4 +24,16 @@ track-requires-clause-others c =
     (spans-changed-room bucket change inside.spans inside.buckets.items (λ b. refl) c.self.invariant.1)
 
 pub invariant_of-self : goal.invariant_of-self
-invariant_of-self c = (c.self.invariant.0, subst (AreSpans c.track.new.self) c.deref-2.ensures.value c.track.ensures)
+invariant_of-self c =
+    let inside = c.self.inside in
+    let bucket = c.args.bucket in
+    let change = taken_record c.args.width in
+    let items : (with_items inside.buckets c.take_from.new.buckets).items ≡ c.take_from.new.buckets =
+    with_items_is inside.buckets c.take_from.new.buckets (omega (arith, c.take_from.auto.buckets, c.deref_mut.ensures.len)) in
+    let taken : c.take_from.new.buckets ≡ changed_by (Some bucket) change inside.buckets.items =
+    c.take_from.ensures ∙ ap (λ (bs : List LinkedBucket). changed_by (Some bucket) change bs) c.deref_mut.ensures.value in (
+      c.self.invariant.0,
+      subst (AreSpans c.track.new.self) c.deref-2.ensures.value c.track.ensures,
+      subst (IsFilled inside.filled) (sym (items ∙ taken))
+          (filled-changed bucket change inside.filled inside.buckets.items (λ b. refl) (λ _ b. room-lowered c.args.width b) c.self.invariant.2),
+    )
