@@ -253,7 +253,7 @@ fn keys_that_are_retained() {
 }
 
 #[test]
-fn growth_of_a_cache() {
+fn grow_of_a_cache() {
     let options = AllocatorOptions { num_columns: 65535, ..DEFAULT_OPTIONS };
     let mut cache = GlyphCache::new(size2(65535, 100), &options, NonZeroUsize::MIN).expect("good options");
     let placed = cache.place(1, size2(1, 92)).expect("room").rectangle;

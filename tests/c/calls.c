@@ -209,7 +209,7 @@ static void atlas_that_cannot_be_made(void) {
 }
 
 /* 65535 columns have as many items, so a growth that needs one more is refused. */
-static void growth_without_records(void) {
+static void grow_without_records(void) {
     EtagereAtlas atlas = ETAGERE_NULL;
     EtagereOptions options = ETAGERE_DEFAULT_OPTIONS;
     EtagereAllocation allocation;
@@ -720,7 +720,7 @@ int main(void) {
     refusal_without_buckets();
     refusal_without_items();
     atlas_that_cannot_be_made();
-    growth_without_records();
+    grow_without_records();
     upright_shelves();
     copies();
     null_atlas();

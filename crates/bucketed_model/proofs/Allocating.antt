@@ -47,7 +47,7 @@ allocates-valid old size allocation new valid h =
 
 -- what was given is what the bucket of the placement gives next
 pub allocates-is : (old : BucketedState) (size : Size) (allocation : Allocation) (new : BucketedState) (h : Allocates old size allocation new) (placed : IsPlaced old size h.placement h.tags)
-    → allocation_in old.frame placed.sides.along (prepared old.frame old.shelves h.tags h.placement.place) placed.ready.spot ≡ allocation
+    → allocation_in old.frame placed.sides.along (prepared old.frame old.shelves h.tags h.placement.destination) placed.ready.spot ≡ allocation
 allocates-is old size allocation new h placed = let is = given-is old size h.placement h.tags placed in let gave = h.gives in cc
 
 -- a ledger stays tied with one entry more
@@ -64,14 +64,14 @@ pub no-tags : (state : BucketedState) (needed : ℕ) → IsValid state → neede
 no-tags state needed valid none =
     record { count = sym none; each = tt; numbers = λ n. omega (arith, valid.shelves.numbers n) }
 
--- a place that needs no new buckets can be taken
+-- a destination that needs no new buckets can be taken
 pub placed-allocates : (state : BucketedState) (size : Size) (placement : BucketPlacement) → IsValid state
-    → placement_of state size ≡ Some placement → needed_buckets placement.place ≡ 0
+    → placement_of state size ≡ Some placement → needed_buckets placement.destination ≡ 0
     → (allocation : Allocation) × Allocates state size allocation (bucket_taken state placement [])
 placed-allocates state size placement valid placed_is none =
-    let new_tags = no-tags state (needed_buckets placement.place) valid none in
+    let new_tags = no-tags state (needed_buckets placement.destination) valid none in
     let placed = placement-placed state size placement [] valid placed_is new_tags in (
-      allocation_in state.frame placed.sides.along (prepared state.frame state.shelves [] placement.place) placed.ready.spot,
+      allocation_in state.frame placed.sides.along (prepared state.frame state.shelves [] placement.destination) placed.ready.spot,
       record {
         placement = placement;
         tags = [];
@@ -87,7 +87,7 @@ pub allocates-large : (old : BucketedState) (size : Size) (allocation : Allocati
 allocates-large old size allocation new valid h =
     let placed = allocates-placed old size allocation new valid h in
     let spot = placed.ready.spot in
-    let shelves = prepared old.frame old.shelves h.tags h.placement.place in
+    let shelves = prepared old.frame old.shelves h.tags h.placement.destination in
     let is = asked-is old.frame size placed.sides placed.asked_is in
     subst (λ (a : Allocation). IsLarge old.frame size a.rectangle) (allocates-is old size allocation new h placed)
     (large-at old.frame size (spot.bucket.place + spot.bucket.used) (column_height spot.shelf.column (take spot.number shelves)) placed.sides.along spot.shelf.height
@@ -112,7 +112,7 @@ allocates-inside old size allocation new valid h =
     let shelf = spot.shelf in
     let can = placed.ready.can in
     let at = can.at in
-    let shelves = prepared frame old.shelves h.tags h.placement.place in
+    let shelves = prepared frame old.shelves h.tags h.placement.destination in
     let is_shelf = (spot-valid frame shelves spot at placed.ready.valid).0 in
     let begin = column_place frame shelf.column in
     let end = begin + frame.column_width in
@@ -160,7 +160,7 @@ allocates-aligned old size allocation new valid h =
     let al = alignment_along frame in
     let spot = placed.ready.spot in
     let at = placed.ready.can.at in
-    let shelves = prepared frame old.shelves h.tags h.placement.place in
+    let shelves = prepared frame old.shelves h.tags h.placement.destination in
     let parts = spot-valid frame shelves spot at placed.ready.valid in
     let begin = column_place frame spot.shelf.column in
     let end = begin + frame.column_width in
@@ -174,7 +174,7 @@ pub allocates-space : (old : BucketedState) (size : Size) (allocation : Allocati
 allocates-space old size allocation new valid h =
     let placed = allocates-placed old size allocation new valid h in
     let spot = placed.ready.spot in
-    let shelves = prepared old.frame old.shelves h.tags h.placement.place in
+    let shelves = prepared old.frame old.shelves h.tags h.placement.destination in
     record {
       along = spot.bucket.place + spot.bucket.used;
       across = column_height spot.shelf.column (take spot.number shelves);
@@ -189,16 +189,16 @@ pub grows-space : (old : BucketedState) (size : Size) (new : BucketedState) → 
 grows-space old size new valid h = ap allocated_space h.after ∙ space-grown old size h.tags valid h.fits h.new_tags
 
 -- a bucket that is read stands at a spot
-read-spot : (shelves : List BucketShelf) (number : ℕ) (shelf : BucketShelf) (place : ℕ) (bucket : Bucket) → slice_get shelves number ≡ Some shelf → slice_get shelf.buckets place ≡ Some bucket
+read-spot : (shelves : List BucketShelf) (number : ℕ) (shelf : BucketShelf) (index : ℕ) (bucket : Bucket) → slice_get shelves number ≡ Some shelf → slice_get shelf.buckets index ≡ Some bucket
     → IsSpot shelves (record { number = number; shelf = shelf; bucket = bucket })
-read-spot shelves number shelf place bucket h k =
+read-spot shelves number shelf index bucket h k =
     let one = split-at shelves number shelf h in
-    let other = split-at shelf.buckets place bucket k in
+    let other = split-at shelf.buckets index bucket k in
     record { front = one.front; back = one.back; left = other.front; right = other.back; before = one.before; whole = one.whole; buckets = other.whole }
 
 -- a return gives back what its bucket has used where that is emptied
-pub returns-space : (state : BucketedState) (id number : ℕ) (shelf : BucketShelf) (place : ℕ) (bucket : Bucket) → IsValid state
-    → slice_get state.shelves number ≡ Some shelf → slice_get shelf.buckets place ≡ Some bucket → bucket.tag.number ≡ (tag_of id).number
+pub returns-space : (state : BucketedState) (id number : ℕ) (shelf : BucketShelf) (index : ℕ) (bucket : Bucket) → IsValid state
+    → slice_get state.shelves number ≡ Some shelf → slice_get shelf.buckets index ≡ Some bucket → bucket.tag.number ≡ (tag_of id).number
     → CountsReturn state (record { number = number; shelf = shelf; bucket = bucket }) (bucket_returned state id)
-returns-space state id number shelf place bucket valid h k same =
-    space-returned state id (record { number = number; shelf = shelf; bucket = bucket }) valid (read-spot state.shelves number shelf place bucket h k) (sym same)
+returns-space state id number shelf index bucket valid h k same =
+    space-returned state id (record { number = number; shelf = shelf; bucket = bucket }) valid (read-spot state.shelves number shelf index bucket h k) (sym same)

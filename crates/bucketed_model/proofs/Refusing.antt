@@ -1,4 +1,4 @@
--- A size is refused exactly where it has no place, and what each reason says.
+-- A size is refused exactly where it does not fit, and what each reason says.
 use Rattle.std.proofs.Common.{◌≡◌, ℕ, zero, suc, ◌-◌, ◌<◌, ◌≤◌, Bool, true, false, cond, Option, None, Some, List, [], ◌∷◌, ◌++◌, map, max, refl, ap, arith, sym, ◌∙◌, subst, ◌&&◌}
 use Rattle.std.proofs.lemmas.Bool.{and_parts, leb-true, ltb-true}
 use Rattle.std.proofs.lemmas.Bool.Decides.{nat_tests}
@@ -18,8 +18,8 @@ use Rattle.bucketed_model.specs.declared.refusals.BucketedRefusal.TheVariants.{N
 use Rattle.bucketed_model.specs.Adding.{Remaining, can_add, left_to, needs_filler, new_shelves}
 use Rattle.bucketed_model.specs.Merging.{mergeable_shelves}
 use Rattle.bucketed_model.specs.Picking.{Spot, exact_or, free_width, has_room, is_eligible, or_else, pick, roomy_bucket, spot_in, waste}
-use Rattle.bucketed_model.specs.Placing.{BucketPlace, BucketPlacement, InAdded, InBucket, InMerged, bucket_place, placement_of}
-use Rattle.bucketed_model.specs.Refusal.{greatest, has_space, has_width, is_wide, of_size, place_refusal, refusal, room, rooms_in, shelves_refusal, size_refusal, widest}
+use Rattle.bucketed_model.specs.Placing.{Destination, BucketPlacement, InAdded, InBucket, InMerged, destination_of, placement_of}
+use Rattle.bucketed_model.specs.Refusal.{greatest, has_space, has_width, is_wide, of_size, sides_refusal, refusal, room, rooms_in, shelves_refusal, size_refusal, widest}
 use Rattle.bucketed_model.specs.RefusalLaws.{IsUsedUp}
 use Rattle.bucketed_model.specs.State.{Bucket, BucketShelf, BucketedState, buckets_left, most_given}
 
@@ -92,50 +92,50 @@ asked-unrefused frame size sides h = by_reason (size_refusal frame size) (size-o
     by_reason None o = refl
     by_reason (Some r) o = let none = o.some refl in absurd (cc)
 
--- the place of these sides, and their reason
+-- where these sides go, and their reason
 abbrev placed_at : BucketedState → Sides → Option BucketPlacement
-placed_at state sides = option_map (λ (place : BucketPlace). record { width = sides.along; place = place }) (bucket_place state.frame state.shelves sides)
+placed_at state sides = option_map (λ (destination : Destination). record { width = sides.along; destination = destination }) (destination_of state.frame state.shelves sides)
 
--- there is no reason exactly where a size has a place
+-- there is no reason exactly where a size has a destination
 pub refuses-exactly : (state : BucketedState) (size : Size) → (refusal state size ≡ None) ↔ IsSome (placement_of state size)
 refuses-exactly state size = by_reason (size_refusal state.frame size) (asked state.frame size) (size-opposite state.frame size)
   where
-    by_place : (sides : Sides) (place : Option BucketPlace)
-        → (cond (is_some place) None (Some (shelves_refusal state.frame state.shelves sides)) ≡ None)
-        ↔ (is_some (option_map (λ (p : BucketPlace). let made : BucketPlacement = record { width = sides.along; place = p } in made) place) ≡ true)
+    by_place : (sides : Sides) (destination : Option Destination)
+        → (cond (is_some destination) None (Some (shelves_refusal state.frame state.shelves sides)) ≡ None)
+        ↔ (is_some (option_map (λ (p : Destination). let made : BucketPlacement = record { width = sides.along; destination = p } in made) destination) ≡ true)
     by_place sides None = (λ e. absurd (cc), λ e. absurd (cc))
-    by_place sides (Some place) = (λ e. refl, λ e. refl)
+    by_place sides (Some destination) = (λ e. refl, λ e. refl)
 
     by_reason : (reason : Option BucketedRefusal) (asks : Option Sides) → AreOpposite reason asks (rounded state.frame size)
-        → (or_else reason (option_and_then (place_refusal state.frame state.shelves) asks) ≡ None) ↔ (is_some (option_and_then (placed_at state) asks) ≡ true)
+        → (or_else reason (option_and_then (sides_refusal state.frame state.shelves) asks) ≡ None) ↔ (is_some (option_and_then (placed_at state) asks) ≡ true)
     by_reason None None o = let asks = o.none refl in absurd (cc)
-    by_reason None (Some sides) o = by_place sides (bucket_place state.frame state.shelves sides)
+    by_reason None (Some sides) o = by_place sides (destination_of state.frame state.shelves sides)
     by_reason (Some r) None o = (λ e. absurd (cc), λ e. absurd (cc))
     by_reason (Some r) (Some sides) o = let asks = o.some refl in absurd (cc)
 
--- what is refused by its shelves: it has no reason of its own, no place, and this reason
+-- what is refused by its shelves: it has no reason of its own, it goes nowhere, and this reason
 record IsRefused (state : BucketedState) (sides : Sides) (reason : BucketedRefusal) : Type 0 where
-  nowhere : bucket_place state.frame state.shelves sides ≡ None
+  nowhere : destination_of state.frame state.shelves sides ≡ None
   told : shelves_refusal state.frame state.shelves sides ≡ reason
 
 refused-by : (state : BucketedState) (size : Size) (sides : Sides) (reason : BucketedRefusal) → refusal state size ≡ Some reason → asked state.frame size ≡ Some sides
     → IsRefused state sides reason
 refused-by state size sides reason h asks =
-    by_place (bucket_place state.frame state.shelves sides) refl
-    (sym (ap (λ (o : Option BucketedRefusal). or_else o (option_and_then (place_refusal state.frame state.shelves) (asked state.frame size))) (asked-unrefused state.frame size sides asks)
-    ∙ ap (option_and_then (place_refusal state.frame state.shelves)) asks) ∙ h)
+    by_place (destination_of state.frame state.shelves sides) refl
+    (sym (ap (λ (o : Option BucketedRefusal). or_else o (option_and_then (sides_refusal state.frame state.shelves) (asked state.frame size))) (asked-unrefused state.frame size sides asks)
+    ∙ ap (option_and_then (sides_refusal state.frame state.shelves)) asks) ∙ h)
   where
-    by_place : (place : Option BucketPlace) → bucket_place state.frame state.shelves sides ≡ place
-        → cond (is_some place) None (Some (shelves_refusal state.frame state.shelves sides)) ≡ Some reason → IsRefused state sides reason
+    by_place : (destination : Option Destination) → destination_of state.frame state.shelves sides ≡ destination
+        → cond (is_some destination) None (Some (shelves_refusal state.frame state.shelves sides)) ≡ Some reason → IsRefused state sides reason
     by_place None e k = record { nowhere = e; told = cc }
-    by_place (Some place) e k = absurd (cc)
+    by_place (Some destination) e k = absurd (cc)
 
--- nothing is picked, added or merged for sides that have no place
+-- nothing is picked, added or merged for sides that go nowhere
 record HasNone (state : BucketedState) (sides : Sides) : Type 0 where
   picks : pick (can_add state.frame (left_to state.frame state.shelves) sides.across) sides state.shelves ≡ None
   adds : can_add state.frame (left_to state.frame state.shelves) sides.across ≡ false
 
-nowhere-none : (state : BucketedState) (sides : Sides) → bucket_place state.frame state.shelves sides ≡ None → HasNone state sides
+nowhere-none : (state : BucketedState) (sides : Sides) → destination_of state.frame state.shelves sides ≡ None → HasNone state sides
 nowhere-none state sides h =
     by_parts (pick (can_add state.frame (left_to state.frame state.shelves) sides.across) sides state.shelves) (can_add state.frame (left_to state.frame state.shelves) sides.across) refl refl h
   where
@@ -226,10 +226,10 @@ first-none (Some rank ∷ ranks) n r h at = cc
 record IsRoom (sides : Sides) (ss : List BucketShelf) : Type 0 where
   number : ℕ
   shelf : BucketShelf
-  place : ℕ
+  index : ℕ
   bucket : Bucket
   shelf_is : slice_get ss number ≡ Some shelf
-  bucket_is : slice_get shelf.buckets place ≡ Some bucket
+  bucket_is : slice_get shelf.buckets index ≡ Some bucket
   tall : sides.across ≤ shelf.height
   wide : sides.along ≤ free_width shelf bucket
   given : bucket.given < most_given
@@ -243,7 +243,7 @@ picked-room : (sides : Sides) (ss : List BucketShelf) → IsRoom sides ss → pi
 picked-room sides ss room h = by_least (first_least (map (waste false sides) ss)) refl h
   where
     roomy : is_some (roomy_bucket sides.along room.shelf) ≡ true
-    roomy = found-among (has_room sides.along room.shelf) room.shelf.buckets room.place room.bucket room.bucket_is (both (nat_le sides.along (free_width room.shelf room.bucket)) (nat_lt room.bucket.given most_given) (le-leb room.wide) (lt-ltb room.given))
+    roomy = found-among (has_room sides.along room.shelf) room.shelf.buckets room.index room.bucket room.bucket_is (both (nat_le sides.along (free_width room.shelf room.bucket)) (nat_lt room.bucket.given most_given) (le-leb room.wide) (lt-ltb room.given))
       where
         both : (s t : Bool) → s ≡ true → t ≡ true → (s && t) ≡ true
         both true true e f = refl
@@ -311,14 +311,14 @@ one-is-used_up state size sides h asks =
     record {
       number = among.number;
       shelf = shelf;
-      place = found.number;
+      index = found.number;
       bucket = found.element;
       shelf_is = among.here;
       bucket_is = found.here;
       tall = tall;
       wide = free;
       given = given found.element (λ few. picked-room sides state.shelves
-          (record { number = among.number; shelf = shelf; place = found.number; bucket = found.element; shelf_is = among.here; bucket_is = found.here; tall = tall; wide = free; given = few }) picks);
+          (record { number = among.number; shelf = shelf; index = found.number; bucket = found.element; shelf_is = among.here; bucket_is = found.here; tall = tall; wide = free; given = few }) picks);
     }
   where
     by_tests : (spacious wide : Bool) → cond (not (spacious || wide)) (NoRoom (widest sides.across state.shelves)) (cond spacious NoBuckets ItemsUsedUp) ≡ ItemsUsedUp → wide ≡ true
@@ -340,20 +340,20 @@ greatest-append (x ∷ xs) ys = ap (max x) (greatest-append xs ys) ∙ omega ari
 
 -- a bucket that has so much room
 record IsRoomy (width : ℕ) (s : BucketShelf) (bs : List Bucket) : Type 0 where
-  place : ℕ
+  index : ℕ
   bucket : Bucket
-  here : slice_get bs place ≡ Some bucket
+  here : slice_get bs index ≡ Some bucket
   wide : width ≤ free_width s bucket
   given : bucket.given < most_given
 
 widest-roomy : (width : ℕ) (s : BucketShelf) (bs : List Bucket) → 1 ≤ width → width ≤ greatest (map (room s) bs) → IsRoomy width s bs
 widest-roomy width s [] some h = absurd (omega (arith, some, h))
 widest-roomy width s (b ∷ bs) some h =
-    by_test (λ k. let later = widest-roomy width s bs some k in record { place = suc later.place; bucket = later.bucket; here = later.here; wide = later.wide; given = later.given })
+    by_test (λ k. let later = widest-roomy width s bs some k in record { index = suc later.index; bucket = later.bucket; here = later.here; wide = later.wide; given = later.given })
     (nat_le width (room s b)) refl
   where
     own : (t : Bool) → nat_lt b.given most_given ≡ t → width ≤ cond t (free_width s b) 0 → IsRoomy width s (b ∷ bs)
-    own true e k = record { place = 0; bucket = b; here = refl; wide = k; given = ltb-true b.given most_given e }
+    own true e k = record { index = 0; bucket = b; here = refl; wide = k; given = ltb-true b.given most_given e }
     own false e k = absurd (omega (arith, some, k))
 
     by_test : (width ≤ greatest (map (room s) bs) → IsRoomy width s (b ∷ bs)) → (t : Bool) → nat_le width (room s b) ≡ t → IsRoomy width s (b ∷ bs)
@@ -366,13 +366,13 @@ room-among sides [] some h = absurd (omega (arith, some, h))
 room-among sides (s ∷ ss) some h =
     let whole = greatest-append (rooms_in sides.across s) (flat_map (rooms_in sides.across) ss) in
     by_test (λ k. let later = room-among sides ss some k in
-    record { number = suc later.number; shelf = later.shelf; place = later.place; bucket = later.bucket; shelf_is = later.shelf_is; bucket_is = later.bucket_is; tall = later.tall; wide = later.wide; given = later.given })
+    record { number = suc later.number; shelf = later.shelf; index = later.index; bucket = later.bucket; shelf_is = later.shelf_is; bucket_is = later.bucket_is; tall = later.tall; wide = later.wide; given = later.given })
     (omega (arith, whole, h)) (nat_le sides.across s.height) refl (nat_le sides.along (greatest (rooms_in sides.across s))) refl
   where
     own : (t : Bool) → nat_le sides.across s.height ≡ t → sides.along ≤ greatest (cond t (map (room s) s.buckets) []) → IsRoom sides (s ∷ ss)
     own true e k =
         let roomy = widest-roomy sides.along s s.buckets some k in
-        record { number = 0; shelf = s; place = roomy.place; bucket = roomy.bucket; shelf_is = refl; bucket_is = roomy.here; tall = leb-true sides.across s.height e; wide = roomy.wide; given = roomy.given }
+        record { number = 0; shelf = s; index = roomy.index; bucket = roomy.bucket; shelf_is = refl; bucket_is = roomy.here; tall = leb-true sides.across s.height e; wide = roomy.wide; given = roomy.given }
     own false e k = absurd (omega (arith, some, k))
 
     by_test : (sides.along ≤ widest sides.across ss → IsRoom sides (s ∷ ss)) → sides.along ≤ max (greatest (rooms_in sides.across s)) (widest sides.across ss)
@@ -380,11 +380,11 @@ room-among sides (s ∷ ss) some h =
     by_test later k t e true f = own (nat_le sides.across s.height) refl (leb-true sides.along (greatest (rooms_in sides.across s)) f)
     by_test later k t e false f = later (grind (arith, nat_tests))
 
--- where a size finds no room, sides as tall and no wider than the widest room have a place, and the size is wider
-pub widest-has_a_place : (state : BucketedState) (size : Size) (sides : Sides) (told : ℕ) → refusal state size ≡ Some (NoRoom told) → asked state.frame size ≡ Some sides
+-- where a size finds no room, sides as tall and no wider than the widest room fit, and the size is wider
+pub widest-fits : (state : BucketedState) (size : Size) (sides : Sides) (told : ℕ) → refusal state size ≡ Some (NoRoom told) → asked state.frame size ≡ Some sides
     → (1 ≤ sides.along → told < sides.along)
-    × ((width : ℕ) → 1 ≤ width → width ≤ told → IsSome (bucket_place state.frame state.shelves (record { along = width; across = sides.across })))
-widest-has_a_place state size sides told h asks =
+    × ((width : ℕ) → 1 ≤ width → width ≤ told → IsSome (destination_of state.frame state.shelves (record { along = width; across = sides.across })))
+widest-fits state size sides told h asks =
     let refused = refused-by state size sides (NoRoom told) h asks in
     let none = nowhere-none state sides refused.nowhere in
     let picks : pick false sides state.shelves ≡ None = subst (λ (a : Bool). pick a sides state.shelves ≡ None) none.adds none.picks in

@@ -12,7 +12,7 @@ use Rattle.bucketed_model.specs.Adding.{NewShelf}
 use Rattle.bucketed_model.specs.declared.faults.GrowFault.TheVariants as faults
 use Rattle.bucketed_model.specs.Frames.{bucketed_frame}
 use Rattle.bucketed_model.specs.Growing.{grown, grow_counts, grow_fault}
-use Rattle.bucketed_model.specs.Placing.{BucketPlace, BucketPlacement, InBucket, InAdded, InMerged, placement_of}
+use Rattle.bucketed_model.specs.Placing.{Destination, BucketPlacement, InBucket, InAdded, InMerged, placement_of}
 use Rattle.bucketed_model.specs.Returning.{bucket_returned, is_known}
 use Rattle.bucketed_model.specs.State.{BucketShelf, BucketedState, Tag, buckets_in_use, fresh}
 use Rattle.bucketed_model.specs.Svg.{picture}
@@ -62,9 +62,9 @@ given_or state tags (Some placement) = given state placement tags
 -- how many buckets each shelf gets that a placement adds
 abbrev counts_of : Option BucketPlacement → List ℕ
 counts_of None = []
-counts_of (Some placement) = counts_for placement.place
+counts_of (Some placement) = counts_for placement.destination
   where
-    counts_for : BucketPlace → List ℕ
+    counts_for : Destination → List ℕ
     counts_for (InBucket spot) = []
     counts_for (InAdded news) = map (λ (new : NewShelf). new.count) news
     counts_for (InMerged group) = []
@@ -155,16 +155,16 @@ pub unknown_ids : map (is_known one_of_two) (8192 ∷ 0 ∷ 12288 ∷ 8193 ∷ 1
 unknown_ids = refl
 
 -- the first fault of a growth
-pub growth_faults : map (grow_fault (plain_atlas 32 32).frame) (size 70000 40 ∷ size 31 40 ∷ size 65534 65534 ∷ size 33 40 ∷ []) ≡ Some faults.Size ∷ Some faults.Smaller ∷ Some faults.Area ∷ None ∷ []
-growth_faults = refl
+pub grow_faults : map (grow_fault (plain_atlas 32 32).frame) (size 70000 40 ∷ size 31 40 ∷ size 65534 65534 ∷ size 33 40 ∷ []) ≡ Some faults.Size ∷ Some faults.Smaller ∷ Some faults.Area ∷ None ∷ []
+grow_faults = refl
 
 -- an atlas grows to take what was refused
-pub growth_to_fit : rectangles (plain_atlas 32 32) (Ask 32 32 ∷ Ask 256 256 ∷ Grow 256 288 ∷ Ask 32 32 ∷ Ask 256 256 ∷ []) ≡ at 0 0 32 32 ∷ None ∷ None ∷ at 224 0 256 32 ∷ at 0 32 256 288 ∷ []
-growth_to_fit = refl
+pub grow_to_fit : rectangles (plain_atlas 32 32) (Ask 32 32 ∷ Ask 256 256 ∷ Grow 256 288 ∷ Ask 32 32 ∷ Ask 256 256 ∷ []) ≡ at 0 0 32 32 ∷ None ∷ None ∷ at 224 0 256 32 ∷ at 0 32 256 288 ∷ []
+grow_to_fit = refl
 
 -- columns are those asked for until the atlas grows, be it to the same size
-pub columns_until_growth : rectangles (new_atlas (size 7 8) (options 1 1 false 4)) (times_of 5 (Ask 1 8) ++ Grow 7 8 ∷ times_of 4 (Ask 1 8)) ≡ at 0 0 1 8 ∷ at 1 0 2 8 ∷ at 2 0 3 8 ∷ at 3 0 4 8 ∷ None ∷ None ∷ at 4 0 5 8 ∷ at 5 0 6 8 ∷ at 6 0 7 8 ∷ None ∷ []
-columns_until_growth = refl
+pub columns_until_grow : rectangles (new_atlas (size 7 8) (options 1 1 false 4)) (times_of 5 (Ask 1 8) ++ Grow 7 8 ∷ times_of 4 (Ask 1 8)) ≡ at 0 0 1 8 ∷ at 1 0 2 8 ∷ at 2 0 3 8 ∷ at 3 0 4 8 ∷ None ∷ None ∷ at 4 0 5 8 ∷ at 5 0 6 8 ∷ at 6 0 7 8 ∷ None ∷ []
+columns_until_grow = refl
 
 -- shelves at the end are dropped one after another, and tags can be given again
 pub dropped_shelves : answers (plain_atlas 64 32) (Ask 64 8 ∷ Ask 64 8 ∷ Return 4096 ∷ AskWith 64 16 (record { number = 2; generation = 0 } ∷ []) ∷ Return 4097 ∷ Return 4098 ∷ AskWith 64 32 (record { number = 0; generation = 2 } ∷ []) ∷ []) ≡ placed 4096 0 0 64 8 ∷ placed 4097 0 8 64 16 ∷ None ∷ placed 4098 0 16 64 32 ∷ None ∷ None ∷ placed 33558528 0 0 64 32 ∷ []
@@ -197,11 +197,11 @@ neighbours_are_merged-first = refl
 pub neighbours_are_merged : rectangles emptied_shelves (Ask 70 70 ∷ Ask 64 64 ∷ []) ≡ None ∷ at 128 64 192 128 ∷ []
 neighbours_are_merged = refl
 
-pub growth_across : rectangles emptied_shelves (Grow 256 294 ∷ Ask 70 70 ∷ []) ≡ None ∷ at 0 224 70 294 ∷ []
-growth_across = refl
+pub grow_across : rectangles emptied_shelves (Grow 256 294 ∷ Ask 70 70 ∷ []) ≡ None ∷ at 0 224 70 294 ∷ []
+grow_across = refl
 
-pub growth_along : rectangles emptied_shelves (Ask 512 32 ∷ Grow 512 256 ∷ Ask 512 32 ∷ []) ≡ None ∷ None ∷ at 0 224 512 256 ∷ []
-growth_along = refl
+pub grow_along : rectangles emptied_shelves (Ask 512 32 ∷ Grow 512 256 ∷ Ask 512 32 ∷ []) ≡ None ∷ None ∷ at 0 224 512 256 ∷ []
+grow_along = refl
 
 -- 5000 rounds of one item and its return: each starts the bucket anew, under the next generation
 abbrev worn : ℕ → BucketedState → BucketedState

@@ -18,7 +18,7 @@ pub record Allocates (old : BucketedState) (size : Size) (allocation : Allocatio
   pub placement : BucketPlacement
   pub tags : List Tag
   pub placed : placement_of old size ≡ Some placement
-  pub new_tags : AreNewTags old.shelves (needed_buckets placement.place) tags
+  pub new_tags : AreNewTags old.shelves (needed_buckets placement.destination) tags
   pub gives : given old placement tags ≡ Some allocation
   pub after : new ≡ bucket_taken old placement tags
 
@@ -27,7 +27,7 @@ pub record NeedsShelf (state : BucketedState) (size : Size) : Type 0 where
   pub placement : BucketPlacement
   pub news : List NewShelf
   pub placed : placement_of state size ≡ Some placement
-  pub adds : placement.place ≡ InAdded news
+  pub adds : placement.destination ≡ InAdded news
 
 -- a growth to a size leads from one state to the next: it has no fault, and new buckets have new
 -- tags

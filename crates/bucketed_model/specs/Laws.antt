@@ -76,9 +76,9 @@ abbrev pub StepsCountSpace : Type 0
 StepsCountSpace =
     ((old : BucketedState) (size : Size) (allocation : Allocation) (new : BucketedState)
     → IsValid old → Allocates old size allocation new → CountsArea old allocation new)
-    × ((state : BucketedState) (id number : ℕ) (shelf : BucketShelf) (place : ℕ) (bucket : Bucket)
+    × ((state : BucketedState) (id number : ℕ) (shelf : BucketShelf) (index : ℕ) (bucket : Bucket)
     → IsValid state
-    → slice_get state.shelves number ≡ Some shelf → slice_get shelf.buckets place ≡ Some bucket
+    → slice_get state.shelves number ≡ Some shelf → slice_get shelf.buckets index ≡ Some bucket
     → bucket.tag.number ≡ (tag_of id).number
     → CountsReturn state (record { number = number; shelf = shelf; bucket = bucket })
     (bucket_returned state id))

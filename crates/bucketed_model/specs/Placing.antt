@@ -11,20 +11,20 @@ use Rattle.bucketed_model.specs.State.{BucketShelf, BucketedState}
 
 -- where an item goes: into a bucket that is there, or into the first bucket of a shelf that is
 -- added or merged
-pub data BucketPlace : Type 0 where
-  InBucket : (spot : Spot) → BucketPlace
-  InAdded : (news : List NewShelf) → BucketPlace
-  InMerged : (group : Group) → BucketPlace
+pub data Destination : Type 0 where
+  InBucket : (spot : Spot) → Destination
+  InAdded : (news : List NewShelf) → Destination
+  InMerged : (group : Group) → Destination
 
 -- where a size goes, and the width that it takes
 pub record BucketPlacement : Type 0 where
   pub width : ℕ
-  pub place : BucketPlace
+  pub destination : Destination
 
--- the place for these sides: the bucket that is picked, else a shelf to be added, else shelves to
+-- the destination of these sides: the bucket that is picked, else a shelf to be added, else shelves to
 -- be merged
-abbrev pub bucket_place : Frame → List BucketShelf → Sides → Option BucketPlace
-bucket_place frame shelves sides =
+abbrev pub destination_of : Frame → List BucketShelf → Sides → Option Destination
+destination_of frame shelves sides =
     let adds = can_add frame (left_to frame shelves) sides.across in
     or_else
     (option_map InBucket (pick adds sides shelves))
@@ -36,10 +36,10 @@ abbrev pub placement_of : BucketedState → Size → Option BucketPlacement
 placement_of state size =
     option_and_then
     (λ sides. option_map
-    (λ place. record { width = sides.along; place = place })
-    (bucket_place state.frame state.shelves sides))
+    (λ destination. record { width = sides.along; destination = destination })
+    (destination_of state.frame state.shelves sides))
     (asked state.frame size)
 
--- the size has no place
+-- the size goes nowhere
 abbrev pub IsBucketRefused : BucketedState → Size → Type 0
 IsBucketRefused state size = placement_of state size ≡ None

@@ -1,4 +1,4 @@
--- Why a size has no place in a bucketed atlas, and by which number that is told.
+-- Why a size does not fit into a bucketed atlas, and by which number that is told.
 use Rattle.std.specs.Prelude.{ℕ, Bool, ◌&&◌, ◌||◌, max, not, Option, None, Some, option_and_then, option_map, is_some, List, [], ◌∷◌, find, flat_map, map, nat_le, nat_lt, if◌then◌else◌}
 use Rattle.std.specs.List.{list_any}
 use Rattle.etagere_base.specs.declared.frames.Frame.{Frame}
@@ -12,7 +12,7 @@ use Rattle.bucketed_model.specs.declared.refusals.BucketedRefusal.{BucketedRefus
 use Rattle.bucketed_model.specs.declared.refusals.BucketedRefusal.TheVariants as reasons
 use Rattle.bucketed_model.specs.Adding.{Remaining, has_later_column, left_to}
 use Rattle.bucketed_model.specs.Picking.{free_width, or_else}
-use Rattle.bucketed_model.specs.Placing.{bucket_place}
+use Rattle.bucketed_model.specs.Placing.{destination_of}
 use Rattle.bucketed_model.specs.State.{Bucket, BucketShelf, BucketedState, most_given}
 
 -- the reason of a size itself, as one of a bucketed atlas
@@ -57,7 +57,7 @@ abbrev pub has_width : Sides → BucketShelf → Bool
 has_width sides shelf =
     nat_le sides.across shelf.height && is_some (find (is_wide sides.along shelf) shelf.buckets)
 
--- of shelves of which none has a place for these sides: there is neither space for a new shelf nor
+-- of shelves of which none can take these sides: there is neither space for a new shelf nor
 -- width left in a bucket; else there is that space, but too few buckets; else the bucket that has
 -- the width has given its items
 abbrev pub shelves_refusal : Frame → List BucketShelf → Sides → BucketedRefusal
@@ -67,18 +67,18 @@ shelves_refusal frame shelves sides =
     then reasons.NoRoom (widest sides.across shelves)
     else (if spacious then reasons.NoBuckets else reasons.ItemsUsedUp)
 
--- the reason why sides have no place, none where they have one
-abbrev pub place_refusal : Frame → List BucketShelf → Sides → Option BucketedRefusal
-place_refusal frame shelves sides =
-    if is_some (bucket_place frame shelves sides)
+-- the reason why sides do not fit, none where they do
+abbrev pub sides_refusal : Frame → List BucketShelf → Sides → Option BucketedRefusal
+sides_refusal frame shelves sides =
+    if is_some (destination_of frame shelves sides)
     then None
     else Some (shelves_refusal frame shelves sides)
 
--- the first reason why a size has no place, none where it has one
+-- the first reason why a size does not fit, none where it does
 abbrev pub refusal : BucketedState → Size → Option BucketedRefusal
 refusal state size =
     or_else (size_refusal state.frame size)
-    (option_and_then (place_refusal state.frame state.shelves) (asked state.frame size))
+    (option_and_then (sides_refusal state.frame state.shelves) (asked state.frame size))
 
 -- the number by which a reason is told
 abbrev pub refusal_number : BucketedRefusal → ℕ

@@ -213,9 +213,9 @@ pub fn new_shelves(frame: &Frame, left: &Remaining, sides: &Sides) -> NewShelves
             asked: asked_shelf(frame, &rest, sides),
         };
     }
-    let place = if left.height == 0 { next } else { *left };
+    let remaining = if left.height == 0 { next } else { *left };
     NewShelves {
         filler: None,
-        asked: asked_shelf(frame, &place, sides),
+        asked: asked_shelf(frame, &remaining, sides),
     }
 }

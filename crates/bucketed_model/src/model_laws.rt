@@ -3,7 +3,7 @@
 //! Definitions: `Laws`. A law that callers or readers want gets its function here.
 
 ghost use Rattle.bucketed_model.specs.Laws.{GivesEnough, PowersAreLeast, StepsCountSpace, StepsKeepTied, StepsKeepValid, TiedIsAlwaysSafe, ValidKeepsPromises};
-ghost use Rattle.bucketed_model.specs.RefusalLaws.{ABucketIsUsedUp, FewBucketsAreLeft, RefusesExactly, WidestHasAPlace};
+ghost use Rattle.bucketed_model.specs.RefusalLaws.{ABucketIsUsedUp, FewBucketsAreLeft, RefusesExactly, WidestFits};
 
 /// Each call leads from a valid state to a valid one, and what each valid state keeps follows.
 pub fn each_step_keeps_a_state_valid()
@@ -33,12 +33,12 @@ pub fn each_step_counts_the_space()
     ensures { StepsCountSpace }
 {}
 
-/// A size has a reason to be refused exactly where it has no place, and each of the last three reasons says what would
-/// give it one: an item no wider than the widest room has a place; at most one bucket is left, while there is space for
+/// A size has a reason to be refused exactly where it does not fit, and each of the last three reasons says what would
+/// make it fit: an item no wider than the widest room fits; at most one bucket is left, while there is space for
 /// a shelf; a bucket that has the width has given the most items.
 pub fn a_refusal_has_a_reason()
     ensures exact { RefusesExactly }
-    ensures widest { WidestHasAPlace }
+    ensures widest { WidestFits }
     ensures few { FewBucketsAreLeft }
     ensures used_up { ABucketIsUsedUp }
 {}

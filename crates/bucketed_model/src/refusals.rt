@@ -1,4 +1,4 @@
-//! Why a bucketed atlas has no place for a size, and by which number that is told.
+//! Why a bucketed atlas refuses a size, and by which number that is told.
 //!
 //! Definitions: `Refusal`. Numbers are public and don't change.
 
@@ -10,7 +10,7 @@ use crate::adding::{Remaining, has_later_column};
 use etagere_base::{Frame, Size, SizeRefusal};
 use thiserror::Error;
 
-/// Why a bucketed atlas has no place for a size. The first is returned, in this order. `along` and `across` are meant
+/// Why a bucketed atlas refuses a size. The first is returned, in this order. `along` and `across` are meant
 /// of the shelves, and of a size whose sides are rounded up to the alignment.
 #[derive(Clone, Copy, Debug, PartialEq, Eq, Error)]
 pub enum BucketedRefusal {
@@ -31,7 +31,7 @@ pub enum BucketedRefusal {
     #[error("NoRoom")]
     NoRoom {
         /// The greatest width, along, that a bucket of a shelf that is tall enough can give; 0 where none can give
-        /// any. An item as tall and no wider has a place.
+        /// any. An item as tall and no wider fits.
         widest: u32,
     },
     /// There is space for a new shelf, but of the 4095 buckets too few are left for it, and for one that has to fill

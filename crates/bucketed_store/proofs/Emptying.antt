@@ -6,6 +6,6 @@ pub mod ItemReturns
 pub mod KnownRecords
 pub mod Returned
 pub mod SpelledDrops
-pub mod SpelledPlaces
+pub mod SpelledSpots
 pub mod SpelledReturns
 pub mod Splices

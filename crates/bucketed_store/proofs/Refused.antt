@@ -14,8 +14,8 @@ use Rattle.bucketed_model.specs.declared.refusals.BucketedRefusal.{BucketedRefus
 use Rattle.bucketed_model.specs.declared.refusals.BucketedRefusal.TheVariants.{NoRoom, NoBuckets, ItemsUsedUp}
 use Rattle.bucketed_model.specs.declared.usage.BucketedUsage.{BucketedUsage}
 use Rattle.bucketed_model.specs.Adding.{left_to}
-use Rattle.bucketed_model.specs.Placing.{bucket_place}
-use Rattle.bucketed_model.specs.Refusal.{greatest, has_space, has_width, is_wide, place_refusal, room, rooms_in, shelves_refusal, widest}
+use Rattle.bucketed_model.specs.Placing.{destination_of}
+use Rattle.bucketed_model.specs.Refusal.{greatest, has_space, has_width, is_wide, sides_refusal, room, rooms_in, shelves_refusal, widest}
 use Rattle.bucketed_model.specs.State.{Bucket, BucketShelf, BucketedState, buckets_in_use, is_idle, is_idle_bucket, most_buckets}
 use Rattle.bucketed_model.specs.Usage.{height_with, idle_buckets, largest_sides, live_items, size_of, usage}
 use Rattle.bucketed_model.specs.Valid.{IsBucket, IsShelf, IsValid}
@@ -27,7 +27,7 @@ use Rattle.bucketed_records.proofs.Spelling.KeptShelves.{length-kept, live-idle}
 use Rattle.bucket_index.specs.declared.searching.Wanted.TheVariants.{Wide}
 use Rattle.bucketed_store.specs.Private.Refusals.{idle_from, idle_in, idle_one, kept_has_width, kept_height_with, kept_idle_count, kept_items, kept_largest, kept_refusal, kept_shelves_refusal, kept_tallest, kept_usage, kept_widest}
 use Rattle.bucketed_store.proofs.Spelling.FoundFirst.{first-found, number_of}
-use Rattle.bucketed_store.proofs.Spelling.PlacedRecords.{place-is, placement_by}
+use Rattle.bucketed_store.proofs.Spelling.PlacedRecords.{destination-is, placement_by}
 
 -- the greatest of two lists of numbers
 greatest-append : (xs ys : List ℕ) → greatest (xs ++ ys) ≡ max (greatest xs) (greatest ys)
@@ -73,11 +73,11 @@ any-kept sides records number frame before (s ∷ ss) few h =
 
 -- the reason among records is that of the shelves that they spell
 pub refusal-kept : (frame : Frame) (sides : Sides) (stored : Stored) (unused : List ℕ) (ss : List BucketShelf) → 1 ≤ frame.column_width → 1 ≤ sides.along → buckets_in_use ss ≤ most_buckets
-    → Spells frame stored unused ss → kept_refusal frame (left_to frame ss) sides stored.shelves stored.buckets ≡ place_refusal frame ss sides
+    → Spells frame stored unused ss → kept_refusal frame (left_to frame ss) sides stored.shelves stored.buckets ≡ sides_refusal frame ss sides
 refusal-kept frame sides stored unused ss wide some few spells =
     ap (λ (t : Bool). cond t None (Some (kept_shelves_refusal frame (left_to frame ss) sides stored.shelves stored.buckets)))
-    (ap is_some (place-is frame sides stored unused ss wide some few spells) ∙ is_some-map placement_by (bucket_place frame ss sides))
-    ∙ ap (λ (r : BucketedRefusal). cond (is_some (bucket_place frame ss sides)) None (Some r)) shelves
+    (ap is_some (destination-is frame sides stored unused ss wide some few spells) ∙ is_some-map placement_by (destination_of frame ss sides))
+    ∙ ap (λ (r : BucketedRefusal). cond (is_some (destination_of frame ss sides)) None (Some r)) shelves
   where
     spacious : Bool
     spacious = has_space frame (left_to frame ss) sides.across

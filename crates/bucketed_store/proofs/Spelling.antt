@@ -2,7 +2,7 @@
 pub mod AllocatedRecords
 pub mod Ends
 pub mod FoundFirst
-pub mod FoundPlace
+pub mod FoundBucket
 pub mod MadeBuckets
 pub mod MadeLengths
 pub mod MadeShelves

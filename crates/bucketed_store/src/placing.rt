@@ -53,7 +53,7 @@ impl Placement {
     }
 }
 
-/// The place for these sides: the bucket that is picked, else a shelf to be added, else shelves to be merged.
+/// The placement of these sides: the bucket that is picked, else a shelf to be added, else shelves to be merged.
 pub fn placement_of(
     frame: &Frame,
     left: &Remaining,
@@ -77,7 +77,7 @@ pub fn placement_of(
     )
 }
 
-/// The place for these sides among records, whose shelves are known to these blocks.
+/// The placement of these sides among records, whose shelves are known to these blocks.
 fn placement_in(
     frame: &Frame,
     left: &Remaining,

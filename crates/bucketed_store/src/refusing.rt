@@ -1,4 +1,4 @@
-//! Why a size has no place. Nothing here changes the records.
+//! Why a size does not fit. Nothing here changes the records.
 //!
 //! Definitions: `Refusals`, and `Refusal` for what they mean.
 
@@ -58,7 +58,7 @@ fn any_has_width(
     false
 }
 
-/// Why these sides have no place in shelves of which none has one.
+/// Why these sides do not fit into shelves of which none can take them.
 fn shelves_refusal(
     frame: &Frame,
     left: &Remaining,
@@ -83,9 +83,9 @@ fn shelves_refusal(
     }
 }
 
-/// Why these sides have no place, none where they have one. Goes through the shelves as a search for a place does, and
+/// Why these sides do not fit, none where they do. Goes through the shelves as the search of an allocation does, and
 /// once more where there is none, and then looks at the buckets of those that are tall enough.
-pub fn place_refusal(
+pub fn sides_refusal(
     frame: &Frame,
     left: &Remaining,
     sides: &Sides,

@@ -16,7 +16,7 @@ ghost use Rattle.bucket_index.specs.Private.Blocks.{AreKnown};
 ghost use Rattle.bucket_index.specs.Private.Filling.{IsFilled};
 ghost use Rattle.bucket_index.specs.Private.Searching as searching;
 ghost use Rattle.bucket_index.specs.Private.Spans.{AreSpans};
-ghost use Rattle.bucketed_store.specs.Private.Grows as growths;
+ghost use Rattle.bucketed_store.specs.Private.Grows as grows;
 ghost use Rattle.bucketed_store.specs.Private.Returns as returns;
 ghost use Rattle.bucketed_store.specs.Private.Placing as placing;
 ghost use Rattle.bucketed_store.specs.Private.StoreEdits as spec;
@@ -191,28 +191,28 @@ impl Store {
         Ok(())
     }
 
-    /// Makes the records ready for a place, where so many buckets are in use, and answers its bucket.
+    /// Makes the records ready for a placement, where so many buckets are in use, and answers its bucket.
     /// The error comes only where shelves are to be added and there was no memory, and then nothing has
     /// changed.
     pub fn prepare(
         &mut self,
         frame: &Frame,
-        place: &Placement,
+        placement: &Placement,
         in_use: u32,
     ) -> Result<Found, AllocError>
         requires frame { IsBucketedFrame frame.now }
-        requires place { spec.CanPrepare frame.now
-            (placing.placement_seen place.now) in_use self.old }
+        requires placement { spec.CanPrepare frame.now
+            (placing.placement_seen placement.now) in_use self.old }
         ensures ok { OnOk result
-            (self.new ≡ spec.stored_ready frame.now (placing.placement_seen place.now) self.old) }
+            (self.new ≡ spec.stored_ready frame.now (placing.placement_seen placement.now) self.old) }
         ensures found { IfOk result
-            (λ found. spec.found_of (placing.placement_seen place.now) self.new ≡ Some found) }
+            (λ found. spec.found_of (placing.placement_seen placement.now) self.new ≡ Some found) }
         ensures err { OnErr result (self.new ≡ self.old) }
-        ensures adds { OnErr result (spec.IsAdding (placing.placement_seen place.now)) }
+        ensures adds { OnErr result (spec.IsAdding (placing.placement_seen placement.now)) }
     {
-        match place {
+        match placement {
             Placement::InBucket(found) => Ok(*found),
-            // What calls are handed are copies, so that the place itself needs no memory.
+            // What calls are handed are copies, so that the placement itself needs no memory.
             Placement::InAdded(news) => {
                 let news = *news;
                 self.add(frame, &news, in_use)?;
@@ -384,19 +384,19 @@ impl Store {
         requires buckets { length self.old.buckets + left ≤ no_link }
         requires left { left ≤ most_buckets }
         requires used { most_buckets ≤ length self.old.buckets + left }
-        requires records { growths.UsesUnused place added left self.old }
+        requires records { grows.UsesUnused place added left self.old }
         requires narrow { place + added < 2 ^ 16 }
         ensures ok { OnOk result
             (self.new
-            ≡ growths.shelves_widened (length self.old.shelves) 0 place added left self.old) }
+            ≡ grows.shelves_widened (length self.old.shelves) 0 place added left self.old) }
         ensures made { IfOk result
-            (λ made. made ≡ left - growths.left_after added left self.old.shelves) }
+            (λ made. made ≡ left - grows.left_after added left self.old.shelves) }
         ensures err { OnErr result (self.new ≡ self.old) }
-        ensures some { OnErr result (0 < left - growths.left_after added left self.old.shelves) }
+        ensures some { OnErr result (0 < left - grows.left_after added left self.old.shelves) }
         ensures more { OnErr result
             (length self.old.buckets
             < length
-            (growths.shelves_widened
+            (grows.shelves_widened
             (length self.old.shelves) 0 place added left self.old).buckets) }
     {
         self.filled.forget();
@@ -416,32 +416,32 @@ impl Store {
         Ok(left - rest)
     }
 
-    /// Finds the current column and the height that it leaves, and counts the buckets in use, after an item got a place.
+    /// Finds the current column and the height that it leaves, and counts the buckets in use, after an item got its placement.
     /// Where that was there they are what they were.
-    pub fn follow_place(
+    pub fn follow_placement(
         &self,
         frame: &Frame,
-        place: &Placement,
+        placement: &Placement,
         column: &mut u32,
         height: &mut u32,
         in_use: &mut u32,
     )
         requires frame { IsBucketedFrame frame.now }
         requires short { spec.IsShort frame.now self.now.shelves }
-        requires kept { spec.IsThere (placing.placement_seen place.now)
+        requires kept { spec.IsThere (placing.placement_seen placement.now)
             → spec.end_of frame.now self.now.shelves
             ≡ record { along = column.old; across = height.old } }
-        requires few { in_use.old + spec.needed_for (placing.placement_seen place.now) < 2 ^ 32 }
+        requires few { in_use.old + spec.needed_for (placing.placement_seen placement.now) < 2 ^ 32 }
         ensures column { column.new ≡ (spec.end_of frame.now self.now.shelves).along }
         ensures height { height.new ≡ (spec.end_of frame.now self.now.shelves).across }
         ensures in_use { in_use.new
-            ≡ in_use.old + spec.needed_for (placing.placement_seen place.now) }
+            ≡ in_use.old + spec.needed_for (placing.placement_seen placement.now) }
     {
-        if !place.is_there() {
+        if !placement.is_there() {
             let end = self.end(frame);
             *column = end.along;
             *height = end.across;
-            *in_use += place.needed_buckets();
+            *in_use += placement.needed_buckets();
         }
     }
 

@@ -34,12 +34,12 @@ pub record AfterGrow (inside : Inside) (size : Size) (frame : Frame) (new : Stor
   pub in_use : inside.buckets_in_use + made ≡ buckets_in_use state.shelves
   pub space : inside.allocated_space ≡ allocated_space state
 
-pub after-growth : (inside : Inside) (size : Size) (frame : Frame) (new : Stored) (made : ℕ) → IsConsistent inside → grow_fault inside.frame size ≡ None
+pub after-grow : (inside : Inside) (size : Size) (frame : Frame) (new : Stored) (made : ℕ) → IsConsistent inside → grow_fault inside.frame size ≡ None
     → frame ≡ grown_frame inside.frame size
     → new ≡ shelves_widened (length inside.store.shelves) 0 inside.frame.column_width (frame.column_width - inside.frame.column_width) (4095 - inside.buckets_in_use) inside.store
     → made ≡ 4095 - inside.buckets_in_use - left_after (frame.column_width - inside.frame.column_width) (4095 - inside.buckets_in_use) inside.store.shelves
     → AfterGrow inside size frame new made
-after-growth inside size frame new made consistent fits resized widened count =
+after-grow inside size frame new made consistent fits resized widened count =
     let g = atlas-grown inside size consistent fits in
     let place = inside.frame.column_width in
     let left = left-is inside consistent in
@@ -65,9 +65,9 @@ after-growth inside size frame new made consistent fits resized widened count =
     }
 
 -- a growth uses records that were unused before it makes new ones
-pub growth-uses : (inside : Inside) (size : Size) (frame : Frame) → IsConsistent inside → grow_fault inside.frame size ≡ None → frame ≡ grown_frame inside.frame size
+pub grow-uses : (inside : Inside) (size : Size) (frame : Frame) → IsConsistent inside → grow_fault inside.frame size ≡ None → frame ≡ grown_frame inside.frame size
     → UsesUnused inside.frame.column_width (frame.column_width - inside.frame.column_width) (4095 - inside.buckets_in_use) inside.store
-growth-uses inside size frame consistent fits resized =
+grow-uses inside size frame consistent fits resized =
     let g = atlas-grown inside size consistent fits in
     let place = inside.frame.column_width in
     let left = left-is inside consistent in
@@ -83,11 +83,11 @@ growth-uses inside size frame consistent fits resized =
     ∙ ap (λ (n : ℕ). max (length inside.store.buckets) n) (omega (arith, rest, left, g.made, consistent.totals.in_use, consistent.witnessed.valid.shelves.few))
 
 -- where buckets are made, a growth needs some
-pub growth-needs : (inside : Inside) (size : Size) (frame : Frame) → IsConsistent inside → grow_fault inside.frame size ≡ None
+pub grow-needs : (inside : Inside) (size : Size) (frame : Frame) → IsConsistent inside → grow_fault inside.frame size ≡ None
     → frame ≡ grown_frame inside.frame size
     → 0 < 4095 - inside.buckets_in_use - left_after (frame.column_width - inside.frame.column_width) (4095 - inside.buckets_in_use) inside.store.shelves
     → NeedsBuckets (state_in inside) size
-growth-needs inside size frame consistent fits resized some =
+grow-needs inside size frame consistent fits resized some =
     let g = atlas-grown inside size consistent fits in
     let place = inside.frame.column_width in
     let left = left-is inside consistent in

@@ -42,7 +42,7 @@ use bucketed_records::snapshots::{Totals, snapshot_of};
 use bucketed_restoring::restoring::JudgedSnapshot;
 use bucketed_store::drawing::push_store;
 use bucketed_store::placing::placement_of;
-use bucketed_store::refusing::place_refusal;
+use bucketed_store::refusing::sides_refusal;
 use bucketed_store::returning::bucket_number;
 use bucketed_store::store::Store;
 use bucketed_store::usage;
@@ -248,17 +248,17 @@ impl BucketedAtlasAllocator {
             height: self.available_height,
             buckets: MOST_BUCKETS - self.buckets_in_use,
         };
-        let Some(place) = placement_of(&self.frame, &left, &sides, &self.store) else {
+        let Some(placement) = placement_of(&self.frame, &left, &sides, &self.store) else {
             return Ok(None);
         };
         let found = self
             .store
-            .prepare(&self.frame, &place, self.buckets_in_use)?;
+            .prepare(&self.frame, &placement, self.buckets_in_use)?;
         let allocation = self.store.allocation(&self.frame, &found, sides.along);
         let area = self.store.take(&found, sides.along);
-        self.store.follow_place(
+        self.store.follow_placement(
             &self.frame,
-            &place,
+            &placement,
             &mut self.current_column,
             &mut self.available_height,
             &mut self.buckets_in_use,
@@ -373,9 +373,9 @@ impl BucketedAtlasAllocator {
         (self.frame.width * self.frame.height - self.allocated_space) as i32
     }
 
-    /// Why `allocate` has no place for a size in pixels, none where it has one: the first reason that holds.
+    /// Why `allocate` refuses a size in pixels, none where it fits: the first reason that holds.
     ///
-    /// Takes no memory and changes nothing. Where there is a place, the cost is that of the search of `allocate`; else
+    /// Takes no memory and changes nothing. Where it fits, the cost is that of the search of `allocate`; else
     /// it goes through the shelves once more, and through the buckets of those that are tall enough.
     pub fn refusal(&self, size: Size) -> Option<BucketedRefusal>
         ensures { result ≡ refusals.refusal self.now size }
@@ -389,7 +389,7 @@ impl BucketedAtlasAllocator {
             height: self.available_height,
             buckets: MOST_BUCKETS - self.buckets_in_use,
         };
-        place_refusal(&self.frame, &left, &sides, &self.store)
+        sides_refusal(&self.frame, &left, &sides, &self.store)
     }
 
     /// The widest item that a shelf can give, with the height of that shelf, in pixels: the widest room of a bucket,

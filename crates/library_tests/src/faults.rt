@@ -118,7 +118,7 @@ fn faults_of_atlases_are_numbered_in_the_order_of_their_tests(rt: HostRuntime) {
 }
 
 #[test]
-fn faults_of_growths_are_numbered_in_the_order_of_their_tests(rt: HostRuntime) {
+fn faults_of_grow_are_numbered_in_the_order_of_their_tests(rt: HostRuntime) {
     let of_shelves = [
         (AtlasGrowFault::Size, 1, "Size"),
         (AtlasGrowFault::Smaller, 2, "Smaller"),

@@ -58,11 +58,11 @@ bucketed_commands : script_of (text (codes "bucketed 16 8 1 1 2 v" ∷ codes "a 
     ≡ Ok (request_to 16 8 2 true (OfBuckets (bucketed.Allocate (size 8 8) ∷ bucketed.Return 0 ∷ bucketed.Grow (size 16 16) ∷ bucketed.Clear ∷ [])))
 bucketed_commands = refl
 
-a_growth_of_an_atlas_of_shelves : script_of (text (codes "atlas 8 8 1 1 1 h" ∷ codes "g 16 16" ∷ [])) ≡ Ok (request 8 8 1 false (Grow (size 16 16) ∷ []))
-a_growth_of_an_atlas_of_shelves = refl
+a_grow_of_an_atlas_of_shelves : script_of (text (codes "atlas 8 8 1 1 1 h" ∷ codes "g 16 16" ∷ [])) ≡ Ok (request 8 8 1 false (Grow (size 16 16) ∷ []))
+a_grow_of_an_atlas_of_shelves = refl
 
-a_growth_to_one_side : script_of (text (codes "atlas 8 8 1 1 1 h" ∷ codes "g 16" ∷ [])) ≡ Err 2
-a_growth_to_one_side = refl
+a_grow_to_one_side : script_of (text (codes "atlas 8 8 1 1 1 h" ∷ codes "g 16" ∷ [])) ≡ Err 2
+a_grow_to_one_side = refl
 
 header_alone : script_of (text (codes "atlas 8 8 1 1 1 h" ∷ [])) ≡ Ok (request 8 8 1 false [])
 header_alone = refl

@@ -103,7 +103,7 @@ pub allocates-known : (old : BucketedState) (size : Size) (allocation : Allocati
     → (is_known new allocation.id ≡ true) × ((id : ℕ) → is_known old id ≡ true → is_known new id ≡ true)
 allocates-known old size allocation new valid h =
     let placed = allocates-placed old size allocation new valid h in
-    let shelves = prepared old.frame old.shelves h.tags h.placement.place in
+    let shelves = prepared old.frame old.shelves h.tags h.placement.destination in
     let spot = placed.ready.spot in
     let bucket = spot.bucket in
     let item = placed.sides.along in

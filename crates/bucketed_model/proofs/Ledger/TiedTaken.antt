@@ -21,9 +21,9 @@ tied-fresh frame is_frame = record { valid = fresh-valid frame is_frame; in_buck
 
 -- a size that is placed
 pub tied-taken : (entries : List Allocation) (state : BucketedState) (size : Size) (placement : BucketPlacement) (tags : List Tag) (placed : IsPlaced state size placement tags) → AreTied entries state
-    → AreTied (entries ++ allocation_in state.frame placed.sides.along (prepared state.frame state.shelves tags placement.place) placed.ready.spot ∷ []) (bucket_taken state placement tags)
+    → AreTied (entries ++ allocation_in state.frame placed.sides.along (prepared state.frame state.shelves tags placement.destination) placed.ready.spot ∷ []) (bucket_taken state placement tags)
 tied-taken entries state size placement tags placed tied =
-    let shelves = prepared state.frame state.shelves tags placement.place in
+    let shelves = prepared state.frame state.shelves tags placement.destination in
     let ready = placed.ready in
     let spot = ready.spot in
     let item = placed.sides.along in

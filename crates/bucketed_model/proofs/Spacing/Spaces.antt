@@ -88,7 +88,7 @@ space-changed al width shelves changed spot new view is_old is_new =
 pub space-taken : (state : BucketedState) (size : Size) (placement : BucketPlacement) (tags : List Tag) (placed : IsPlaced state size placement tags) → IsValid state
     → allocated_space (bucket_taken state placement tags) ≡ allocated_space state + placed.sides.along * placed.ready.spot.shelf.height
 space-taken state size placement tags placed valid =
-    let shelves = prepared state.frame state.shelves tags placement.place in
+    let shelves = prepared state.frame state.shelves tags placement.destination in
     let ready = placed.ready in
     let spot = ready.spot in
     let item = placed.sides.along in

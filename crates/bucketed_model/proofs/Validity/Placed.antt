@@ -14,7 +14,7 @@ use Rattle.bucketed_model.specs.Adding.{AreNewTags, NewShelf, can_add, made_shel
 use Rattle.bucketed_model.specs.Frames.{IsBucketedFrame}
 use Rattle.bucketed_model.specs.Merging.{Group, merged_shelves, mergeable_shelves, total_height}
 use Rattle.bucketed_model.specs.Picking.{Spot, pick}
-use Rattle.bucketed_model.specs.Placing.{BucketPlace, BucketPlacement, InAdded, InBucket, InMerged, bucket_place, placement_of}
+use Rattle.bucketed_model.specs.Placing.{Destination, BucketPlacement, InAdded, InBucket, InMerged, destination_of, placement_of}
 use Rattle.bucketed_model.specs.State.{Bucket, BucketShelf, BucketedState, Tag, changed_bucket, column_place, is_idle, is_idle_bucket, with_height}
 use Rattle.bucketed_model.specs.Taking.{first_bucket, needed_buckets, prepared, spot_of, taken_bucket}
 use Rattle.bucketed_model.specs.Tied.{busy_buckets}
@@ -27,11 +27,11 @@ use Rattle.bucketed_model.proofs.Validity.Picked.{IsRoomy, and_then-parts, map-p
 use Rattle.bucketed_model.proofs.Validity.Spots.{IsSpot}
 use Rattle.bucketed_model.proofs.Validity.Taken.{CanTake, IsWidth, ends-given, ends-taken, spot-valid}
 
--- shelves that were made ready for a place: they are as shelves must be, hold what was in_buckets, and the place's bucket takes
+-- shelves that were made ready for a destination: they are as shelves must be, hold what was in_buckets, and the destination's bucket takes
 -- the item
-pub record IsReady (frame : Frame) (old : List BucketShelf) (sides : Sides) (place : BucketPlace) (shelves : List BucketShelf) : Type 0 where
+pub record IsReady (frame : Frame) (old : List BucketShelf) (sides : Sides) (destination : Destination) (shelves : List BucketShelf) : Type 0 where
   pub spot : Spot
-  pub found : spot_of shelves place ≡ Some spot
+  pub found : spot_of shelves destination ≡ Some spot
   pub valid : AreShelves frame shelves
   pub can : CanTake frame shelves sides.along spot
   pub tall : sides.across ≤ spot.shelf.height
@@ -182,32 +182,32 @@ ready-merged frame shelves sides group asks some valid ends m =
     (ends-merged (m.shelf.height + total_height m.next) m.front m.shelf m.next m.back ∙ ap ends_idle (sym m.whole) ∙ ends)
     (busy-merged m.front m.shelf m.next m.back m.idle m.others ∙ ap busy_buckets (sym m.whole)))
 
--- the place for what is asked, where there is one, is ready
-pub place-ready : (frame : Frame) (shelves : List BucketShelf) (sides : Sides) (tags : List Tag) (place : BucketPlace) → IsBucketedFrame frame → IsAsked frame sides → AreShelves frame shelves → ends_idle shelves ≡ false
-    → bucket_place frame shelves sides ≡ Some place → AreNewTags shelves (needed_buckets place) tags
-    → IsReady frame shelves sides place (prepared frame shelves tags place)
-place-ready frame shelves sides tags place is_frame asks valid ends h =
+-- the destination for what is asked, where there is one, is ready
+pub destination-ready : (frame : Frame) (shelves : List BucketShelf) (sides : Sides) (tags : List Tag) (destination : Destination) → IsBucketedFrame frame → IsAsked frame sides → AreShelves frame shelves → ends_idle shelves ≡ false
+    → destination_of frame shelves sides ≡ Some destination → AreNewTags shelves (needed_buckets destination) tags
+    → IsReady frame shelves sides destination (prepared frame shelves tags destination)
+destination-ready frame shelves sides tags destination is_frame asks valid ends h =
     ⊎_elim
-    (λ (picked : option_map InBucket (pick (can_add frame (left_to frame shelves) sides.across) sides shelves) ≡ Some place).
-    let spot = map-parts InBucket (pick (can_add frame (left_to frame shelves) sides.across) sides shelves) place picked in
-    subst (λ (p : BucketPlace). AreNewTags shelves (needed_buckets p) tags → IsReady frame shelves sides p (prepared frame shelves tags p)) spot.2
+    (λ (picked : option_map InBucket (pick (can_add frame (left_to frame shelves) sides.across) sides shelves) ≡ Some destination).
+    let spot = map-parts InBucket (pick (can_add frame (left_to frame shelves) sides.across) sides shelves) destination picked in
+    subst (λ (p : Destination). AreNewTags shelves (needed_buckets p) tags → IsReady frame shelves sides p (prepared frame shelves tags p)) spot.2
     (λ _. ready-picked frame shelves sides spot.0 asks valid ends (pick-roomy (can_add frame (left_to frame shelves) sides.across) sides shelves spot.0 spot.1)))
     (λ (other : (option_map InBucket (pick (can_add frame (left_to frame shelves) sides.across) sides shelves) ≡ None)
-    × (cond (can_add frame (left_to frame shelves) sides.across) (Some (InAdded (new_shelves frame (left_to frame shelves) sides))) (option_map InMerged (mergeable_shelves sides 0 shelves)) ≡ Some place)).
+    × (cond (can_add frame (left_to frame shelves) sides.across) (Some (InAdded (new_shelves frame (left_to frame shelves) sides))) (option_map InMerged (mergeable_shelves sides 0 shelves)) ≡ Some destination)).
     by_test (can_add frame (left_to frame shelves) sides.across) refl other.1)
-    (or_else-parts _ _ place h)
+    (or_else-parts _ _ destination h)
   where
     by_test : (b : Bool) → can_add frame (left_to frame shelves) sides.across ≡ b
-        → cond b (Some (InAdded (new_shelves frame (left_to frame shelves) sides))) (option_map InMerged (mergeable_shelves sides 0 shelves)) ≡ Some place
-        → AreNewTags shelves (needed_buckets place) tags → IsReady frame shelves sides place (prepared frame shelves tags place)
+        → cond b (Some (InAdded (new_shelves frame (left_to frame shelves) sides))) (option_map InMerged (mergeable_shelves sides 0 shelves)) ≡ Some destination
+        → AreNewTags shelves (needed_buckets destination) tags → IsReady frame shelves sides destination (prepared frame shelves tags destination)
     by_test true e k =
-        let same : InAdded (new_shelves frame (left_to frame shelves) sides) ≡ place = cc in
-        subst (λ (p : BucketPlace). AreNewTags shelves (needed_buckets p) tags → IsReady frame shelves sides p (prepared frame shelves tags p)) same
+        let same : InAdded (new_shelves frame (left_to frame shelves) sides) ≡ destination = cc in
+        subst (λ (p : Destination). AreNewTags shelves (needed_buckets p) tags → IsReady frame shelves sides p (prepared frame shelves tags p)) same
         (λ (are_new : AreNewTags shelves (total_count (new_shelves frame (left_to frame shelves) sides)) tags).
         ready-added frame shelves sides (new_shelves frame (left_to frame shelves) sides) tags asks (added-adds frame shelves sides tags is_frame asks valid e are_new))
     by_test false e k =
-        let group = map-parts InMerged (mergeable_shelves sides 0 shelves) place k in
-        subst (λ (p : BucketPlace). AreNewTags shelves (needed_buckets p) tags → IsReady frame shelves sides p (prepared frame shelves tags p)) group.2
+        let group = map-parts InMerged (mergeable_shelves sides 0 shelves) destination k in
+        subst (λ (p : Destination). AreNewTags shelves (needed_buckets p) tags → IsReady frame shelves sides p (prepared frame shelves tags p)) group.2
         (λ _. ready-merged frame shelves sides group.0 asks is_frame.column_width valid ends (mergeable-merges sides 0 shelves group.0 group.1))
 
 -- a size that has a placement: what it asks, and that its place is ready
@@ -216,24 +216,24 @@ pub record IsPlaced (state : BucketedState) (size : Size) (placement : BucketPla
   pub asked_is : asked state.frame size ≡ Some sides
   pub asks : IsAsked state.frame sides
   pub width : placement.width ≡ sides.along
-  pub ready : IsReady state.frame state.shelves sides placement.place (prepared state.frame state.shelves tags placement.place)
+  pub ready : IsReady state.frame state.shelves sides placement.destination (prepared state.frame state.shelves tags placement.destination)
 
 -- a placement's place is ready
 pub placement-placed : (state : BucketedState) (size : Size) (placement : BucketPlacement) (tags : List Tag) → IsValid state
-    → placement_of state size ≡ Some placement → AreNewTags state.shelves (needed_buckets placement.place) tags → IsPlaced state size placement tags
+    → placement_of state size ≡ Some placement → AreNewTags state.shelves (needed_buckets placement.destination) tags → IsPlaced state size placement tags
 placement-placed state size placement tags valid h are_new =
-    let made = λ (sides : Sides) (place : BucketPlace). let made : BucketPlacement = record { width = sides.along; place = place } in made in
-    let outer = and_then-parts (λ (sides : Sides). option_map (made sides) (bucket_place state.frame state.shelves sides)) (asked state.frame size) placement h in
+    let made = λ (sides : Sides) (destination : Destination). let made : BucketPlacement = record { width = sides.along; destination = destination } in made in
+    let outer = and_then-parts (λ (sides : Sides). option_map (made sides) (destination_of state.frame state.shelves sides)) (asked state.frame size) placement h in
     let sides = outer.0 in
-    let inner = map-parts (made sides) (bucket_place state.frame state.shelves sides) placement outer.2 in
+    let inner = map-parts (made sides) (destination_of state.frame state.shelves sides) placement outer.2 in
     let asks = asked-sides 65534 state.frame size sides valid.frame outer.1 in
     let same : made sides inner.0 ≡ placement = inner.2 in
-    subst (λ (p : BucketPlacement). AreNewTags state.shelves (needed_buckets p.place) tags → IsPlaced state size p tags) same
+    subst (λ (p : BucketPlacement). AreNewTags state.shelves (needed_buckets p.destination) tags → IsPlaced state size p tags) same
     (λ (are_new : AreNewTags state.shelves (needed_buckets inner.0) tags).
     let placed : IsPlaced state size (made sides inner.0) tags = record {
       sides = sides;
       asked_is = outer.1;
       asks = asks;
       width = refl;
-      ready = place-ready state.frame state.shelves sides tags inner.0 valid.frame asks valid.shelves valid.ends inner.1 are_new;
+      ready = destination-ready state.frame state.shelves sides tags inner.0 valid.frame asks valid.shelves valid.ends inner.1 are_new;
     } in placed) are_new

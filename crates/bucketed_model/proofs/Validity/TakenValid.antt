@@ -24,17 +24,17 @@ fresh-valid frame is_frame = record {
 -- the shelves after a placement was taken are those that were made ready, with the item taken
 pub taken-shelves : (state : BucketedState) (size : Size) (placement : BucketPlacement) (tags : List Tag) (placed : IsPlaced state size placement tags)
     → (bucket_taken state placement tags).shelves
-    ≡ changed_bucket placed.ready.spot.bucket.tag.number (taken_bucket placed.sides.along) (prepared state.frame state.shelves tags placement.place)
+    ≡ changed_bucket placed.ready.spot.bucket.tag.number (taken_bucket placed.sides.along) (prepared state.frame state.shelves tags placement.destination)
 taken-shelves state size placement tags placed =
-    let shelves = prepared state.frame state.shelves tags placement.place in
+    let shelves = prepared state.frame state.shelves tags placement.destination in
     ap (λ (o : Option Spot). option_map_or (λ (spot : Spot). changed_bucket spot.bucket.tag.number (taken_bucket placement.width) shelves) o shelves) placed.ready.found
     ∙ ap (λ (width : ℕ). changed_bucket placed.ready.spot.bucket.tag.number (taken_bucket width) shelves) placed.width
 
 -- a placement gives what its bucket gives next
 pub given-is : (state : BucketedState) (size : Size) (placement : BucketPlacement) (tags : List Tag) (placed : IsPlaced state size placement tags)
-    → given state placement tags ≡ Some (allocation_in state.frame placed.sides.along (prepared state.frame state.shelves tags placement.place) placed.ready.spot)
+    → given state placement tags ≡ Some (allocation_in state.frame placed.sides.along (prepared state.frame state.shelves tags placement.destination) placed.ready.spot)
 given-is state size placement tags placed =
-    let shelves = prepared state.frame state.shelves tags placement.place in
+    let shelves = prepared state.frame state.shelves tags placement.destination in
     ap (option_map (allocation_in state.frame placement.width shelves)) placed.ready.found
     ∙ ap (λ (width : ℕ). Some (allocation_in state.frame width shelves placed.ready.spot)) placed.width
 
@@ -46,6 +46,6 @@ taken-valid state size placement tags valid placed =
     record {
       frame = valid.frame;
       shelves = subst (AreShelves state.frame) same
-          (shelves-taken state.frame (prepared state.frame state.shelves tags placement.place) placed.sides.along placed.ready.spot placed.ready.valid placed.ready.can);
+          (shelves-taken state.frame (prepared state.frame state.shelves tags placement.destination) placed.sides.along placed.ready.spot placed.ready.valid placed.ready.can);
       ends = subst (λ (xs : List BucketShelf). ends_idle xs ≡ false) same placed.ready.ends;
     }

@@ -25,7 +25,7 @@ use Rattle.bucketed_records.specs.declared.records.KeptShelf.{KeptShelf}
 use Rattle.bucketed_records.specs.StandsFor.{live_of, shelf_of}
 use Rattle.bucketed_records.proofs.Spelling.KeptShelves.{kept-append, kept-heights, length-kept}
 use Rattle.bucketed_store.specs.Private.Returns.{emptied_record, item_returned, lessened_record, returned_kept, returned_record, width_of}
-use Rattle.bucketed_store.proofs.Emptying.SpelledPlaces.{HasBucket, is-spot, record-at, spot_at}
+use Rattle.bucketed_store.proofs.Emptying.SpelledSpots.{HasBucket, is-spot, record-at, spot_at}
 use Rattle.bucketed_store.proofs.Emptying.SpelledReturns.{first-changed, live-less, returned-spelled, shelves-changed-spelled, widest-all, widest-same}
 
 -- the element between a front and a back is changed by its number

@@ -18,7 +18,7 @@ use Rattle.bucketed_records.specs.declared.records.LinkedBucket.{LinkedBucket}
 use Rattle.bucketed_records.specs.Private.Store.{AreShelvesSpelled, IsPool, first_link, record_of}
 use Rattle.bucketed_records.specs.StandsFor.{live_of}
 use Rattle.bucketed_store.specs.Private.Returns.{gives_item, is_known_in}
-use Rattle.bucketed_store.proofs.Emptying.SpelledPlaces.{HasBucket, has-bucket, is-spot, record-at, spot_at}
+use Rattle.bucketed_store.proofs.Emptying.SpelledSpots.{HasBucket, has-bucket, is-spot, record-at, spot_at}
 
 -- some bucket of a shelf has given the item
 abbrev pub gives_in : ℕ → BucketShelf → Bool

@@ -28,7 +28,7 @@ use Rattle.bucketed_store.specs.Private.StoreEdits.{height_of}
 use Rattle.bucketed_store.proofs.Emptying.EndDrops.{drops-all, DropsAll}
 use Rattle.bucketed_store.proofs.Emptying.ItemReturns.{item-spells}
 use Rattle.bucketed_store.proofs.Emptying.KnownRecords.{known-records, unused-knows}
-use Rattle.bucketed_store.proofs.Emptying.SpelledPlaces.{has-bucket, HasBucket, is-spot, record-at, spot_at}
+use Rattle.bucketed_store.proofs.Emptying.SpelledSpots.{has-bucket, HasBucket, is-spot, record-at, spot_at}
 
 -- a known id's bucket, which holds something live
 record IsGiver (id : ℕ) (xs : List BucketShelf) : Type 0 where

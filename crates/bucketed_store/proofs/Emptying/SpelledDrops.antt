@@ -28,7 +28,7 @@ use Rattle.bucketed_records.proofs.Spelling.KeptShelves.{kept-append, last-kept}
 use Rattle.bucketed_records.proofs.Spelling.ReadBack.{spelled-pile}
 use Rattle.bucketed_store.specs.Private.Returns.{Dropping, end_dropped, ends_idle, last_dropped, linked_to, row_unused, row_count, row_end, row_from}
 use Rattle.bucketed_store.specs.declared.dropping.RowEnd.{RowEnd}
-use Rattle.bucketed_store.proofs.Emptying.SpelledPlaces.{shelf-spelled, shelves-frame, shelves-front-spelled}
+use Rattle.bucketed_store.proofs.Emptying.SpelledSpots.{shelf-spelled, shelves-frame, shelves-front-spelled}
 use Rattle.bucketed_store.proofs.Emptying.Splices.{last_of, last_of-stands, spliced}
 
 -- where a list that links spell ends, and how many stand in it

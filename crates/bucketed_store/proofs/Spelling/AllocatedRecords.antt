@@ -13,7 +13,7 @@ use Rattle.etagere_base.specs.Frames.{asked}
 use Rattle.etagere_base.specs.Lists.{times}
 use Rattle.bucketed_model.specs.Adding.{left_to}
 use Rattle.bucketed_model.specs.Atlas.{Allocates, NeedsShelf}
-use Rattle.bucketed_model.specs.Placing.{BucketPlace, BucketPlacement, bucket_place, placement_of}
+use Rattle.bucketed_model.specs.Placing.{Destination, BucketPlacement, destination_of, placement_of}
 use Rattle.bucketed_model.specs.Placing as placing
 use Rattle.bucketed_model.specs.Space.{allocated_space}
 use Rattle.bucketed_model.specs.State.{BucketedState, available_height, bucket_numbers, buckets_in_use, changed_bucket, current_column}
@@ -35,46 +35,46 @@ use Rattle.bucket_index.specs.declared.searching.Found.{Found}
 use Rattle.bucketed_store.specs.Private.Placing.{Placement, kept_placement}
 use Rattle.bucketed_store.specs.Private.StoreEdits.{CanGive, CanPrepare, HasFirst, IsAdding, IsShort, IsWidest, end_of, first_bucket_of, found_first, found_of, height_of, kept_allocation, live_items_of, needed_for, stored_ready, stored_taken}
 use Rattle.bucketed_store.specs.Private.StoreEdits as store
-use Rattle.bucketed_store.proofs.Spelling.FoundPlace.{found_seen}
-use Rattle.bucketed_store.proofs.Spelling.PlacedRecords.{AreReady, CanReady, found-is, place-is, place-ready, placement_by}
+use Rattle.bucketed_store.proofs.Spelling.FoundBucket.{found_seen}
+use Rattle.bucketed_store.proofs.Spelling.PlacedRecords.{AreReady, CanReady, found-is, destination-is, destination-ready, placement_by}
 use Rattle.bucketed_store.proofs.Spelling.Ends.{end-kept, short-kept}
 use Rattle.bucketed_store.proofs.Spelling.SpotRecords.{spot-few, spot-given, spot-gives, spot-height, spot-records, spot-takes, spot-within, used-not_unused}
 use Rattle.bucketed_store.proofs.Spelling.WidestSpots.{spot-widest}
 use Rattle.bucketed_store.proofs.Spelling.TakenRecords.{part-at, spells-taken}
 
 -- a placement of these sides
-abbrev pub placement_at : Sides → BucketPlace → BucketPlacement
-placement_at sides place = record { width = sides.along; place = place }
+abbrev pub placement_at : Sides → Destination → BucketPlacement
+placement_at sides destination = record { width = sides.along; destination = destination }
 
--- the place of a size is ready among records
-pub record Prepares (state : BucketedState) (size : Size) (sides : Sides) (place : BucketPlace) (stored : Stored) : Type 0 where
-  pub ready : AreReady state.frame place stored state.shelves
+-- the destination of a size is ready among records
+pub record Prepares (state : BucketedState) (size : Size) (sides : Sides) (destination : Destination) (stored : Stored) : Type 0 where
+  pub ready : AreReady state.frame destination stored state.shelves
   pub asked_is : asked state.frame size ≡ Some sides
   pub asks : IsAsked state.frame sides
-  pub is_ready : IsReady state.frame state.shelves sides place (prepared state.frame state.shelves ready.tags place)
-  pub is : placement_of state size ≡ Some (placement_at sides place)
-  pub found : found_of (placement_by place) (stored_ready state.frame (placement_by place) stored) ≡ Some (found_seen is_ready.spot)
+  pub is_ready : IsReady state.frame state.shelves sides destination (prepared state.frame state.shelves ready.tags destination)
+  pub is : placement_of state size ≡ Some (placement_at sides destination)
+  pub found : found_of (placement_by destination) (stored_ready state.frame (placement_by destination) stored) ≡ Some (found_seen is_ready.spot)
 
 -- its placement
-abbrev placed_of : (state : BucketedState) (size : Size) (sides : Sides) (place : BucketPlace) (stored : Stored) (p : Prepares state size sides place stored)
-    → IsPlaced state size (placement_at sides place) p.ready.tags
-placed_of state size sides place stored p = record { sides = sides; asked_is = p.asked_is; asks = p.asks; width = refl; ready = p.is_ready }
+abbrev placed_of : (state : BucketedState) (size : Size) (sides : Sides) (destination : Destination) (stored : Stored) (p : Prepares state size sides destination stored)
+    → IsPlaced state size (placement_at sides destination) p.ready.tags
+placed_of state size sides destination stored p = record { sides = sides; asked_is = p.asked_is; asks = p.asks; width = refl; ready = p.is_ready }
 
--- the place of a size becomes ready
-pub prepares : (state : BucketedState) (size : Size) (sides : Sides) (place : BucketPlace) (stored : Stored) (unused : List ℕ) → IsValid state → Spells state.frame stored unused state.shelves
-    → asked state.frame size ≡ Some sides → bucket_place state.frame state.shelves sides ≡ Some place → Prepares state size sides place stored
-prepares state size sides place stored unused valid spells asks h =
+-- the destination of a size becomes ready
+pub prepares : (state : BucketedState) (size : Size) (sides : Sides) (destination : Destination) (stored : Stored) (unused : List ℕ) → IsValid state → Spells state.frame stored unused state.shelves
+    → asked state.frame size ≡ Some sides → destination_of state.frame state.shelves sides ≡ Some destination → Prepares state size sides destination stored
+prepares state size sides destination stored unused valid spells asks h =
     let is_asked : IsAsked state.frame sides = asked-sides 65534 state.frame size sides valid.frame asks in
-    let ready : AreReady state.frame place stored state.shelves = place-ready state.frame sides stored unused state.shelves place valid.frame is_asked valid.shelves spells h in
-    let is_ready : IsReady state.frame state.shelves sides place (prepared state.frame state.shelves ready.tags place) =
-    placed.place-ready state.frame state.shelves sides ready.tags place valid.frame is_asked valid.shelves valid.ends h ready.new_tags in
+    let ready : AreReady state.frame destination stored state.shelves = destination-ready state.frame sides stored unused state.shelves destination valid.frame is_asked valid.shelves spells h in
+    let is_ready : IsReady state.frame state.shelves sides destination (prepared state.frame state.shelves ready.tags destination) =
+    placed.destination-ready state.frame state.shelves sides ready.tags destination valid.frame is_asked valid.shelves valid.ends h ready.new_tags in
     record {
       ready = ready;
       asked_is = asks;
       asks = is_asked;
       is_ready = is_ready;
-      is = ap (option_and_then (λ (s : Sides). option_map (placement_at s) (bucket_place state.frame state.shelves s))) asks ∙ ap (option_map (placement_at sides)) h;
-      found = found-is state.frame place (stored_ready state.frame (placement_by place) stored) ready.unused (prepared state.frame state.shelves ready.tags place) ready.spells
+      is = ap (option_and_then (λ (s : Sides). option_map (placement_at s) (destination_of state.frame state.shelves s))) asks ∙ ap (option_map (placement_at sides)) h;
+      found = found-is state.frame destination (stored_ready state.frame (placement_by destination) stored) ready.unused (prepared state.frame state.shelves ready.tags destination) ready.spells
           ∙ ap (option_map found_seen) is_ready.found;
     }
 
@@ -99,61 +99,61 @@ first-has n kept found h = by_shelf (slice_get kept n) refl
         (sym (ap (λ (r : Option KeptShelf). option_map (λ (bucket : ℕ). let f : Found = record { shelf = n; bucket = bucket } in f) (option_map_or (λ (one : KeptShelf). one.shelf.first_bucket) r None)) e) ∙ h)
 
 -- records can be made ready
-pub can-prepare : (frame : Frame) (place : BucketPlace) (in_use : ℕ) (stored : Stored) (found : Found) → CanReady frame (placement_by place) in_use stored
-    → found_of (placement_by place) (stored_ready frame (placement_by place) stored) ≡ Some found → CanPrepare frame (placement_by place) in_use stored
+pub can-prepare : (frame : Frame) (destination : Destination) (in_use : ℕ) (stored : Stored) (found : Found) → CanReady frame (placement_by destination) in_use stored
+    → found_of (placement_by destination) (stored_ready frame (placement_by destination) stored) ≡ Some found → CanPrepare frame (placement_by destination) in_use stored
 can-prepare frame (placing.InBucket spot) in_use stored found can h = tt
 can-prepare frame (placing.InAdded news) in_use stored found can h = (can, first-has _ _ found h)
 can-prepare frame (placing.InMerged group) in_use stored found can h = (can, first-has _ _ found h)
 
--- the records after a place was made ready and its item was taken
+-- the records after a placement was made ready and its item was taken
 abbrev pub taken_from : Frame → Sides → Placement → Found → Stored → Stored
-taken_from frame sides place found stored = stored_taken found.shelf found.bucket sides.along (stored_ready frame place stored)
+taken_from frame sides placement found stored = stored_taken found.shelf found.bucket sides.along (stored_ready frame placement stored)
 
--- all that an allocation at a place needs and leaves
-pub record IsAllocation (state : BucketedState) (size : Size) (sides : Sides) (stored : Stored) (place : Placement) (found : Found) : Type 0 where
-  pub give : CanGive state.frame sides.along found (stored_ready state.frame place stored)
-  pub shelf : found.shelf < length (stored_ready state.frame place stored).shelves
-  pub take : store.CanTake found.bucket sides.along (stored_ready state.frame place stored).buckets
-  pub few : live_items_of (stored_ready state.frame place stored).shelves found.shelf + 1 < 2 ^ 32
-  pub widest : IsWidest found.shelf found.bucket sides.along (stored_ready state.frame place stored)
+-- all that an allocation at a placement needs and leaves
+pub record IsAllocation (state : BucketedState) (size : Size) (sides : Sides) (stored : Stored) (placement : Placement) (found : Found) : Type 0 where
+  pub give : CanGive state.frame sides.along found (stored_ready state.frame placement stored)
+  pub shelf : found.shelf < length (stored_ready state.frame placement stored).shelves
+  pub take : store.CanTake found.bucket sides.along (stored_ready state.frame placement stored).buckets
+  pub few : live_items_of (stored_ready state.frame placement stored).shelves found.shelf + 1 < 2 ^ 32
+  pub widest : IsWidest found.shelf found.bucket sides.along (stored_ready state.frame placement stored)
   pub new : BucketedState
   pub unused : List ℕ
   pub allocates : (allocation : Allocation)
-      → ((kept : KeptShelf) (bucket : LinkedBucket) → slice_get (stored_ready state.frame place stored).shelves found.shelf ≡ Some kept
-      → slice_get (stored_ready state.frame place stored).buckets found.bucket ≡ Some bucket → allocation ≡ kept_allocation state.frame sides.along found kept bucket)
+      → ((kept : KeptShelf) (bucket : LinkedBucket) → slice_get (stored_ready state.frame placement stored).shelves found.shelf ≡ Some kept
+      → slice_get (stored_ready state.frame placement stored).buckets found.bucket ≡ Some bucket → allocation ≡ kept_allocation state.frame sides.along found kept bucket)
       → Allocates state size allocation new
-  pub witnessed : Witnessed (taken_from state.frame sides place found stored) unused (stored_state state.frame (taken_from state.frame sides place found stored))
-  pub read : stored_state state.frame (taken_from state.frame sides place found stored) ≡ new
+  pub witnessed : Witnessed (taken_from state.frame sides placement found stored) unused (stored_state state.frame (taken_from state.frame sides placement found stored))
+  pub read : stored_state state.frame (taken_from state.frame sides placement found stored) ≡ new
   pub valid : IsValid new
-  pub short : IsShort state.frame (taken_from state.frame sides place found stored).shelves
-  pub end : end_of state.frame (taken_from state.frame sides place found stored).shelves
+  pub short : IsShort state.frame (taken_from state.frame sides placement found stored).shelves
+  pub end : end_of state.frame (taken_from state.frame sides placement found stored).shelves
       ≡ record { along = current_column new.shelves; across = available_height state.frame new.shelves }
   pub frame : new.frame ≡ state.frame
-  pub in_use : buckets_in_use new.shelves ≡ buckets_in_use state.shelves + needed_for place
-  pub space : allocated_space new ≡ allocated_space state + sides.along * height_of (stored_ready state.frame place stored).shelves found.shelf
+  pub in_use : buckets_in_use new.shelves ≡ buckets_in_use state.shelves + needed_for placement
+  pub space : allocated_space new ≡ allocated_space state + sides.along * height_of (stored_ready state.frame placement stored).shelves found.shelf
 
--- an allocation at the bucket of a place
-allocation-at : (state : BucketedState) (size : Size) (sides : Sides) (place : BucketPlace) (stored : Stored) → IsValid state → (p : Prepares state size sides place stored)
-    → IsAllocation state size sides stored (placement_by place) (found_seen p.is_ready.spot)
-allocation-at state size sides place stored valid p =
+-- an allocation at the bucket of a destination
+allocation-at : (state : BucketedState) (size : Size) (sides : Sides) (destination : Destination) (stored : Stored) → IsValid state → (p : Prepares state size sides destination stored)
+    → IsAllocation state size sides stored (placement_by destination) (found_seen p.is_ready.spot)
+allocation-at state size sides destination stored valid p =
     let spot = p.is_ready.spot in
     let ready = p.is_ready in
     let frame = state.frame in
-    let placed_ = placed_of state size sides place stored p in
-    let placement = placement_at sides place in
-    let shelves = prepared frame state.shelves p.ready.tags place in
-    let after = stored_ready frame (placement_by place) stored in
+    let placed_ = placed_of state size sides destination stored p in
+    let placement = placement_at sides destination in
+    let shelves = prepared frame state.shelves p.ready.tags destination in
+    let after = stored_ready frame (placement_by destination) stored in
     let records = spot-records frame after p.ready.unused shelves spot ready.valid p.ready.spells ready.can.at in
     let stands : 1 ≤ times spot.bucket.tag.number (bucket_numbers shelves) = omega (arith, records.once, part-at spot.bucket.tag.number shelves spot.number spot.shelf records.at) in
     let new = bucket_taken state placement p.ready.tags in
     let changed : new.shelves ≡ changed_bucket spot.bucket.tag.number (taken_bucket sides.along) shelves = taken-shelves state size placement p.ready.tags placed_ in
     let is_valid : IsValid new = taken-valid state size placement p.ready.tags valid placed_ in
-    let spells : Spells frame (taken_from frame sides (placement_by place) (found_seen spot) stored) p.ready.unused new.shelves =
-    subst (Spells frame (taken_from frame sides (placement_by place) (found_seen spot) stored) p.ready.unused) (sym changed)
+    let spells : Spells frame (taken_from frame sides (placement_by destination) (found_seen spot) stored) p.ready.unused new.shelves =
+    subst (Spells frame (taken_from frame sides (placement_by destination) (found_seen spot) stored) p.ready.unused) (sym changed)
     (spells-taken frame after p.ready.unused shelves spot.number spot.bucket.tag.number sides.along spot.shelf records.at records.once
     (ready.valid.numbers spot.bucket.tag.number) ready.valid.few
     (used-not_unused after.buckets after.unused (bucket_numbers shelves) p.ready.unused spot.bucket.tag.number p.ready.spells.pool stands) p.ready.spells) in
-    let read = witnessed-read frame (taken_from frame sides (placement_by place) (found_seen spot) stored) p.ready.unused new.shelves is_valid spells in
+    let read = witnessed-read frame (taken_from frame sides (placement_by destination) (found_seen spot) stored) p.ready.unused new.shelves is_valid spells in
     let fits = (spot-valid frame shelves spot ready.can.at ready.valid).1.used in
     record {
       give = spot-gives frame after p.ready.unused shelves spot sides.along valid.frame ready.valid p.ready.spells ready.can;
@@ -184,20 +184,20 @@ allocation-at state size sides place stored valid p =
           ∙ ap (λ (height : ℕ). allocated_space state + sides.along * height) (sym (spot-height frame after p.ready.unused shelves spot ready.valid p.ready.spells ready.can.at));
     }
 
--- a size has this place among records
-pub record Makes (state : BucketedState) (size : Size) (sides : Sides) (stored : Stored) (place : Placement) : Type 0 where
-  pub at : BucketPlace
-  pub seen : placement_by at ≡ place
+-- a size has this placement among records
+pub record Makes (state : BucketedState) (size : Size) (sides : Sides) (stored : Stored) (placement : Placement) : Type 0 where
+  pub at : Destination
+  pub seen : placement_by at ≡ placement
   pub prepares : Prepares state size sides at stored
-  pub can : CanPrepare state.frame place (buckets_in_use state.shelves) stored
+  pub can : CanPrepare state.frame placement (buckets_in_use state.shelves) stored
 
--- what is found among records is the place of the size
-pub makes : (state : BucketedState) (size : Size) (sides : Sides) (stored : Stored) (unused : List ℕ) (place : Placement) → IsValid state → Spells state.frame stored unused state.shelves
-    → asked state.frame size ≡ Some sides → kept_placement state.frame (left_to state.frame state.shelves) sides stored.shelves stored.buckets ≡ Some place → Makes state size sides stored place
-makes state size sides stored unused place valid spells asks h =
+-- what is found among records is the placement of the size
+pub makes : (state : BucketedState) (size : Size) (sides : Sides) (stored : Stored) (unused : List ℕ) (placement : Placement) → IsValid state → Spells state.frame stored unused state.shelves
+    → asked state.frame size ≡ Some sides → kept_placement state.frame (left_to state.frame state.shelves) sides stored.shelves stored.buckets ≡ Some placement → Makes state size sides stored placement
+makes state size sides stored unused placement valid spells asks h =
     let is_asked = asked-sides 65534 state.frame size sides valid.frame asks in
-    let is = place-is state.frame sides stored unused state.shelves valid.frame.column_width is_asked.along valid.shelves.few spells in
-    let parts = map-parts placement_by (bucket_place state.frame state.shelves sides) place (sym is ∙ h) in
+    let is = destination-is state.frame sides stored unused state.shelves valid.frame.column_width is_asked.along valid.shelves.few spells in
+    let parts = map-parts placement_by (destination_of state.frame state.shelves sides) placement (sym is ∙ h) in
     let p = prepares state size sides parts.0 stored unused valid spells asks parts.1 in
     record {
       at = parts.0;
@@ -211,18 +211,18 @@ pub refused : (state : BucketedState) (size : Size) (sides : Sides) (stored : St
     → asked state.frame size ≡ Some sides → kept_placement state.frame (left_to state.frame state.shelves) sides stored.shelves stored.buckets ≡ None → placement_of state size ≡ None
 refused state size sides stored unused valid spells asks h =
     let is_asked = asked-sides 65534 state.frame size sides valid.frame asks in
-    let is = place-is state.frame sides stored unused state.shelves valid.frame.column_width is_asked.along valid.shelves.few spells in
-    ap (option_and_then (λ (s : Sides). option_map (placement_at s) (bucket_place state.frame state.shelves s))) asks
-    ∙ ap (option_map (placement_at sides)) (none (bucket_place state.frame state.shelves sides) (sym is ∙ h))
+    let is = destination-is state.frame sides stored unused state.shelves valid.frame.column_width is_asked.along valid.shelves.few spells in
+    ap (option_and_then (λ (s : Sides). option_map (placement_at s) (destination_of state.frame state.shelves s))) asks
+    ∙ ap (option_map (placement_at sides)) (none (destination_of state.frame state.shelves sides) (sym is ∙ h))
   where
-    none : (o : Option BucketPlace) → option_map placement_by o ≡ None → o ≡ None
+    none : (o : Option Destination) → option_map placement_by o ≡ None → o ≡ None
     none None h = refl
     none (Some p) h = absurd (cc)
 
 -- an allocation at the bucket that was found
-pub allocation-is : (state : BucketedState) (size : Size) (sides : Sides) (stored : Stored) (place : Placement) (found : Found) → IsValid state → Makes state size sides stored place
-    → found_of place (stored_ready state.frame place stored) ≡ Some found → IsAllocation state size sides stored place found
-allocation-is state size sides stored place found valid makes h =
+pub allocation-is : (state : BucketedState) (size : Size) (sides : Sides) (stored : Stored) (placement : Placement) (found : Found) → IsValid state → Makes state size sides stored placement
+    → found_of placement (stored_ready state.frame placement stored) ≡ Some found → IsAllocation state size sides stored placement found
+allocation-is state size sides stored placement found valid makes h =
     let first : found_of (placement_by makes.at) (stored_ready state.frame (placement_by makes.at) stored) ≡ Some found =
     ap (λ (p : Placement). found_of p (stored_ready state.frame p stored)) makes.seen ∙ h in
     let same : found_seen makes.prepares.is_ready.spot ≡ found = some-same (sym makes.prepares.found ∙ first) in
@@ -232,18 +232,18 @@ allocation-is state size sides stored place found valid makes h =
     some-same : {f g : Found} → Some f ≡ Some g → f ≡ g
     some-same {f} {g} h = cc
 
--- where the place is in shelves to be added the size needs a shelf
-pub needs-shelf : (state : BucketedState) (size : Size) (sides : Sides) (stored : Stored) (place : Placement) → Makes state size sides stored place → IsAdding place → NeedsShelf state size
-needs-shelf state size sides stored place makes adds = by_place makes.at makes.seen makes.prepares.is
+-- where the placement is in shelves to be added the size needs a shelf
+pub needs-shelf : (state : BucketedState) (size : Size) (sides : Sides) (stored : Stored) (placement : Placement) → Makes state size sides stored placement → IsAdding placement → NeedsShelf state size
+needs-shelf state size sides stored placement makes adds = by_place makes.at makes.seen makes.prepares.is
   where
-    by_place : (at : BucketPlace) → placement_by at ≡ place → placement_of state size ≡ Some (placement_at sides at) → NeedsShelf state size
+    by_place : (at : Destination) → placement_by at ≡ placement → placement_of state size ≡ Some (placement_at sides at) → NeedsShelf state size
     by_place (placing.InBucket spot) seen is = absurd (subst IsAdding (sym seen) adds)
     by_place (placing.InAdded news) seen is = record { placement = placement_at sides (placing.InAdded news); news = news; placed = is; adds = refl }
     by_place (placing.InMerged group) seen is = absurd (subst IsAdding (sym seen) adds)
 
--- few buckets are made for a place
-pub needed-few : (state : BucketedState) (size : Size) (sides : Sides) (stored : Stored) (place : Placement) → IsValid state → Makes state size sides stored place
-    → buckets_in_use state.shelves + needed_for place ≤ 4095
-needed-few state size sides stored place valid makes =
+-- few buckets are made for a placement
+pub needed-few : (state : BucketedState) (size : Size) (sides : Sides) (stored : Stored) (placement : Placement) → IsValid state → Makes state size sides stored placement
+    → buckets_in_use state.shelves + needed_for placement ≤ 4095
+needed-few state size sides stored placement valid makes =
     subst (λ (p : Placement). buckets_in_use state.shelves + needed_for p ≤ 4095) makes.seen
     (omega (arith, makes.prepares.ready.in_use, makes.prepares.is_ready.valid.few))

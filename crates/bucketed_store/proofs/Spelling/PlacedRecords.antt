@@ -1,4 +1,4 @@
--- The place of a size among records is that of the size in the state that they spell, and records made ready for it spell
+-- The destination of a size among records is that of the size in the state that they spell, and records made ready for it spell
 -- the shelves that are.
 use Rattle.std.proofs.Common.{◌≡◌, ℕ, ◌+◌, ◌-◌, ◌*◌, ◌<◌, ◌≤◌, Bool, true, false, cond, Option, None, Some, List, [], ◌∷◌, ◌++◌, length, take, drop, refl, ap, arith, sym, ◌∙◌, subst, ◌⊎◌, ⊎_elim, inl, inr}
 use Rattle.std.proofs.lemmas.List.{length-take-le, length-drop}
@@ -13,7 +13,7 @@ use Rattle.bucketed_model.specs.Adding.{AreNewTags, NewShelf, can_add, left_to, 
 use Rattle.bucketed_model.specs.Frames.{IsBucketedFrame}
 use Rattle.bucketed_model.specs.Merging.{Group, merged_shelves, mergeable_shelves}
 use Rattle.bucketed_model.specs.Picking.{Spot, or_else, pick}
-use Rattle.bucketed_model.specs.Placing.{BucketPlace, bucket_place}
+use Rattle.bucketed_model.specs.Placing.{Destination, destination_of}
 use Rattle.bucketed_model.specs.Placing as placing
 use Rattle.bucketed_model.specs.State.{Bucket, BucketShelf, Tag, buckets_in_use, most_buckets}
 use Rattle.bucketed_model.specs.Taking.{first_bucket, needed_buckets, prepared, spot_of}
@@ -28,20 +28,20 @@ use Rattle.bucketed_records.proofs.Spelling.KeptShelves.{length-kept}
 use Rattle.bucket_index.specs.declared.searching.Found.{Found}
 use Rattle.bucketed_store.specs.Private.Placing.{InAdded, InBucket, InMerged, Placement, kept_mergeable, kept_placement}
 use Rattle.bucketed_store.specs.Private.StoreEdits.{CanStore, IsGroupIn, IsNewShelf, across_of, found_first, found_of, group_height, needed_for, stored_ready, stored_shelves}
-use Rattle.bucketed_store.proofs.Spelling.FoundPlace.{found_seen, kept-at, picked-is}
+use Rattle.bucketed_store.proofs.Spelling.FoundBucket.{found_seen, kept-at, picked-is}
 use Rattle.bucketed_store.proofs.Spelling.MadeShelves.{AreStored, stored_shelves-are}
 use Rattle.bucketed_store.proofs.Spelling.MergedShelves.{AreMergeable, IsRow, mergeable-kept, mergeable-row, numbers-merged, row-short, row-within, spells-merged}
 
--- a place by the numbers of records
-abbrev pub placement_by : BucketPlace → Placement
+-- a destination by the numbers of records
+abbrev pub placement_by : Destination → Placement
 placement_by (placing.InBucket spot) = InBucket (found_seen spot)
 placement_by (placing.InAdded news) = InAdded news
 placement_by (placing.InMerged group) = InMerged group
 
--- the place that is found among records is that among the shelves that they spell
-pub place-is : (frame : Frame) (sides : Sides) (stored : Stored) (unused : List ℕ) (ss : List BucketShelf) → 1 ≤ frame.column_width → 1 ≤ sides.along → buckets_in_use ss ≤ most_buckets
-    → Spells frame stored unused ss → kept_placement frame (left_to frame ss) sides stored.shelves stored.buckets ≡ option_map placement_by (bucket_place frame ss sides)
-place-is frame sides stored unused ss wide some few spells =
+-- the destination that is found among records is that among the shelves that they spell
+pub destination-is : (frame : Frame) (sides : Sides) (stored : Stored) (unused : List ℕ) (ss : List BucketShelf) → 1 ≤ frame.column_width → 1 ≤ sides.along → buckets_in_use ss ≤ most_buckets
+    → Spells frame stored unused ss → kept_placement frame (left_to frame ss) sides stored.shelves stored.buckets ≡ option_map placement_by (destination_of frame ss sides)
+destination-is frame sides stored unused ss wide some few spells =
     ap (λ (ks : List KeptShelf). kept_placement frame (left_to frame ss) sides ks stored.buckets) spells.shelves
     ∙ ap (λ (f : Option Found). or_else (option_map InBucket f) (later (kept_mergeable sides 0 (kept_shelves frame [] ss)))) (picked-is adds sides stored.buckets frame ss some few spells.buckets)
     ∙ ap (λ (g : Option Group). or_else (option_map InBucket (option_map found_seen (pick adds sides ss))) (later g)) (mergeable-kept sides 0 frame [] ss wide)
@@ -81,9 +81,9 @@ first-kept frame ss n =
     by_shelf None = refl
     by_shelf (Some s) = by_buckets s s.buckets
 
--- the bucket of a place among records that were made ready is that of the place in the shelves that they spell
-pub found-is : (frame : Frame) (place : BucketPlace) (stored : Stored) (unused : List ℕ) (ss : List BucketShelf) → Spells frame stored unused ss
-    → found_of (placement_by place) stored ≡ option_map found_seen (spot_of ss place)
+-- the bucket of a destination among records that were made ready is that of the destination in the shelves that they spell
+pub found-is : (frame : Frame) (destination : Destination) (stored : Stored) (unused : List ℕ) (ss : List BucketShelf) → Spells frame stored unused ss
+    → found_of (placement_by destination) stored ≡ option_map found_seen (spot_of ss destination)
 found-is frame (placing.InBucket spot) stored unused ss spells = refl
 found-is frame (placing.InAdded news) stored unused ss spells =
     ap (λ (ks : List KeptShelf). found_first (length ks - 1) ks) spells.shelves
@@ -92,20 +92,20 @@ found-is frame (placing.InAdded news) stored unused ss spells =
 found-is frame (placing.InMerged group) stored unused ss spells =
     ap (λ (ks : List KeptShelf). found_first group.first ks) spells.shelves ∙ first-kept frame ss group.first
 
--- records can be made ready for a place, but for its first bucket
+-- records can be made ready for a destination, but for its first bucket
 abbrev pub CanReady : Frame → Placement → ℕ → Stored → Type 0
 CanReady frame (InBucket found) in_use stored = Unit {0}
 CanReady frame (InAdded news) in_use stored = CanStore frame news in_use stored
 CanReady frame (InMerged group) in_use stored = IsGroupIn group stored.shelves
 
--- records were made ready for a place: the tags of new buckets, and what is unused now
-pub record AreReady (frame : Frame) (place : BucketPlace) (stored : Stored) (ss : List BucketShelf) : Type 0 where
+-- records were made ready for a destination: the tags of new buckets, and what is unused now
+pub record AreReady (frame : Frame) (destination : Destination) (stored : Stored) (ss : List BucketShelf) : Type 0 where
   pub tags : List Tag
   pub unused : List ℕ
-  pub new_tags : AreNewTags ss (needed_buckets place) tags
-  pub spells : Spells frame (stored_ready frame (placement_by place) stored) unused (prepared frame ss tags place)
-  pub in_use : buckets_in_use (prepared frame ss tags place) ≡ buckets_in_use ss + needed_for (placement_by place)
-  pub can : CanReady frame (placement_by place) (buckets_in_use ss) stored
+  pub new_tags : AreNewTags ss (needed_buckets destination) tags
+  pub spells : Spells frame (stored_ready frame (placement_by destination) stored) unused (prepared frame ss tags destination)
+  pub in_use : buckets_in_use (prepared frame ss tags destination) ≡ buckets_in_use ss + needed_for (placement_by destination)
+  pub can : CanReady frame (placement_by destination) (buckets_in_use ss) stored
 
 -- new shelves have as many buckets as they get
 in-use-made : (frame : Frame) (news : List NewShelf) (tags : List Tag) → length tags ≡ total_count news → buckets_in_use (made_shelves frame news tags) ≡ total_count news
@@ -149,16 +149,16 @@ group-kept frame stored ss group is_frame valid kept few row =
           (omega (arith, short.1, valid.heights short.0, (sides_low 65534 frame is_frame).1));
     }
 
--- records are made ready for a place
-pub place-ready : (frame : Frame) (sides : Sides) (stored : Stored) (unused : List ℕ) (ss : List BucketShelf) (place : BucketPlace) → IsBucketedFrame frame → IsAsked frame sides → AreShelves frame ss
-    → Spells frame stored unused ss → bucket_place frame ss sides ≡ Some place → AreReady frame place stored ss
-place-ready frame sides stored unused ss place is_frame asks valid spells h =
-    by_pick (or_else-parts _ _ place h)
+-- records are made ready for a destination
+pub destination-ready : (frame : Frame) (sides : Sides) (stored : Stored) (unused : List ℕ) (ss : List BucketShelf) (destination : Destination) → IsBucketedFrame frame → IsAsked frame sides → AreShelves frame ss
+    → Spells frame stored unused ss → destination_of frame ss sides ≡ Some destination → AreReady frame destination stored ss
+destination-ready frame sides stored unused ss destination is_frame asks valid spells h =
+    by_pick (or_else-parts _ _ destination h)
   where
     adds : Bool
     adds = can_add frame (left_to frame ss) sides.across
 
-    none : (p : BucketPlace) → CanReady frame (placement_by p) (buckets_in_use ss) stored → needed_buckets p ≡ 0 → needed_for (placement_by p) ≡ 0 → Spells frame (stored_ready frame (placement_by p) stored) unused (prepared frame ss [] p)
+    none : (p : Destination) → CanReady frame (placement_by p) (buckets_in_use ss) stored → needed_buckets p ≡ 0 → needed_for (placement_by p) ≡ 0 → Spells frame (stored_ready frame (placement_by p) stored) unused (prepared frame ss [] p)
         → buckets_in_use (prepared frame ss [] p) ≡ buckets_in_use ss → AreReady frame p stored ss
     none p can zero_ none_ spelled same = record {
       tags = [];
@@ -203,20 +203,20 @@ place-ready frame sides stored unused ss place is_frame asks valid spells h =
           };
         }
 
-    by_add : (b : Bool) → adds ≡ b → cond b (Some (placing.InAdded (new_shelves frame (left_to frame ss) sides))) (option_map placing.InMerged (mergeable_shelves sides 0 ss)) ≡ Some place → AreReady frame place stored ss
-    by_add true e k = subst (λ (p : BucketPlace). AreReady frame p stored ss) (some-same k) (added e)
+    by_add : (b : Bool) → adds ≡ b → cond b (Some (placing.InAdded (new_shelves frame (left_to frame ss) sides))) (option_map placing.InMerged (mergeable_shelves sides 0 ss)) ≡ Some destination → AreReady frame destination stored ss
+    by_add true e k = subst (λ (p : Destination). AreReady frame p stored ss) (some-same k) (added e)
       where
-        some-same : {p q : BucketPlace} → Some p ≡ Some q → p ≡ q
+        some-same : {p q : Destination} → Some p ≡ Some q → p ≡ q
         some-same {p} {q} h = cc
     by_add false e k =
-        let parts = map-parts placing.InMerged (mergeable_shelves sides 0 ss) place k in
-        subst (λ (p : BucketPlace). AreReady frame p stored ss) parts.2 (merged parts.0 parts.1)
+        let parts = map-parts placing.InMerged (mergeable_shelves sides 0 ss) destination k in
+        subst (λ (p : Destination). AreReady frame p stored ss) parts.2 (merged parts.0 parts.1)
 
-    by_pick : (option_map placing.InBucket (pick adds sides ss) ≡ Some place)
+    by_pick : (option_map placing.InBucket (pick adds sides ss) ≡ Some destination)
         ⊎ ((option_map placing.InBucket (pick adds sides ss) ≡ None)
-        × (cond adds (Some (placing.InAdded (new_shelves frame (left_to frame ss) sides))) (option_map placing.InMerged (mergeable_shelves sides 0 ss)) ≡ Some place))
-        → AreReady frame place stored ss
+        × (cond adds (Some (placing.InAdded (new_shelves frame (left_to frame ss) sides))) (option_map placing.InMerged (mergeable_shelves sides 0 ss)) ≡ Some destination))
+        → AreReady frame destination stored ss
     by_pick (inl k) =
-        let parts = map-parts placing.InBucket (pick adds sides ss) place k in
-        subst (λ (p : BucketPlace). AreReady frame p stored ss) parts.2 (picked_ parts.0)
+        let parts = map-parts placing.InBucket (pick adds sides ss) destination k in
+        subst (λ (p : Destination). AreReady frame p stored ss) parts.2 (picked_ parts.0)
     by_pick (inr k) = by_add adds refl k.1

@@ -27,7 +27,7 @@ use Rattle.bucketed_records.specs.declared.records.KeptShelf.{KeptShelf}
 use Rattle.bucketed_store.specs.Private.StoreEdits.{CanGive, CanGiveFrom, height_of, kept_allocation, live_items_of}
 use Rattle.bucketed_store.specs.Private.StoreEdits as store
 use Rattle.bucketed_store.proofs.Spelling.FoundFirst.{spelled-back}
-use Rattle.bucketed_store.proofs.Spelling.FoundPlace.{few-at, found_seen, kept-at, spelled-at}
+use Rattle.bucketed_store.proofs.Spelling.FoundBucket.{few-at, found_seen, kept-at, spelled-at}
 
 -- the shelf of a spot stands under its number
 pub spot-at : (shelves : List BucketShelf) (spot : Spot) → IsSpot shelves spot → slice_get shelves spot.number ≡ Some spot.shelf

@@ -22,7 +22,7 @@ use Rattle.bucketed_records.proofs.Spelling.KeptShelves.{kept-heights}
 use Rattle.bucket_index.specs.Private.Searching.{widest_from}
 use Rattle.bucketed_store.specs.Private.StoreEdits.{first_bucket_of, given_from, stored_taken, taken_record}
 use Rattle.bucketed_store.proofs.Spelling.FoundFirst.{widest-read}
-use Rattle.bucketed_store.proofs.Spelling.FoundPlace.{few-at, kept-at, spelled-at}
+use Rattle.bucketed_store.proofs.Spelling.FoundBucket.{few-at, kept-at, spelled-at}
 use Rattle.bucketed_store.proofs.Spelling.MadeBuckets.{idle-kept}
 
 -- the record of a bucket that gave an item

@@ -16,7 +16,7 @@ use Rattle.bucketed_records.specs.declared.records.KeptShelf.{KeptShelf}
 use Rattle.bucket_index.specs.Private.Searching.{widest_from}
 use Rattle.bucketed_store.specs.Private.StoreEdits.{IsWidest, first_bucket_of, taken_record, widest_of}
 use Rattle.bucketed_store.proofs.Spelling.FoundFirst.{spelled-back, widest-read}
-use Rattle.bucketed_store.proofs.Spelling.FoundPlace.{few-at, spelled-at}
+use Rattle.bucketed_store.proofs.Spelling.FoundBucket.{few-at, spelled-at}
 use Rattle.bucketed_store.proofs.Spelling.SpotRecords.{spot-records}
 use Rattle.bucketed_store.proofs.Spelling.TakenRecords.{buckets-taken, first-taken}
 

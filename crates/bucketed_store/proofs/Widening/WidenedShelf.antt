@@ -21,7 +21,7 @@ use Rattle.bucketed_store.specs.Private.Grows.{shelf_made, shelf_widened, widene
 use Rattle.bucketed_store.specs.Private.Returns.{width_of}
 use Rattle.bucketed_store.specs.Private.StoreEdits.{Made, first_bucket_of, made_many}
 use Rattle.bucketed_store.proofs.Emptying.ItemReturns.{changed-middle}
-use Rattle.bucketed_store.proofs.Emptying.SpelledPlaces.{shelf-spelled}
+use Rattle.bucketed_store.proofs.Emptying.SpelledSpots.{shelf-spelled}
 use Rattle.bucketed_store.proofs.Emptying.SpelledReturns.{widest-all}
 use Rattle.bucketed_store.proofs.Spelling.MadeBuckets.{AreMade, made_many-are, pool-same, shelves-stay, StaysBut}
 

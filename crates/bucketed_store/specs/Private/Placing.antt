@@ -12,7 +12,7 @@ use Rattle.bucketed_records.specs.Private.Store.{is_kept_idle}
 use Rattle.bucket_index.specs.declared.searching.Found.{Found}
 use Rattle.bucket_index.specs.Private.Searching.{picked}
 use Rattle.bucketed_store.specs.declared.placing.Placement as code
-use Rattle.bucketed_store.specs.declared.placing.Placement.TheVariants as places
+use Rattle.bucketed_store.specs.declared.placing.Placement.TheVariants as variants
 
 -- where an item goes: a bucket that was found, shelves to be added, or shelves to be merged
 pub data Placement : Type 0 where
@@ -20,11 +20,11 @@ pub data Placement : Type 0 where
   InAdded : (news : List NewShelf) → Placement
   InMerged : (group : Group) → Placement
 
--- the place that the code's type stands for
+-- the placement that the code's type stands for
 abbrev pub placement_seen : code.Placement → Placement
-placement_seen (places.InBucket found) = InBucket found
-placement_seen (places.InAdded news) = InAdded (news_of news)
-placement_seen (places.InMerged group) = InMerged group
+placement_seen (variants.InBucket found) = InBucket found
+placement_seen (variants.InAdded news) = InAdded (news_of news)
+placement_seen (variants.InMerged group) = InMerged group
 
 -- the heights of shelves, added up
 abbrev pub kept_height : List KeptShelf → ℕ
@@ -58,7 +58,7 @@ abbrev pub serves_at : Sides → ℕ → List KeptShelf → Bool
 serves_at sides others [] = false
 serves_at sides others (kept ∷ shelves) = kept_serves sides others kept shelves
 
--- the place for these sides: the bucket that is picked, else shelves to be added, else shelves to
+-- the placement of these sides: the bucket that is picked, else shelves to be added, else shelves to
 -- be merged
 abbrev pub kept_placement : Frame → Remaining → Sides → List KeptShelf → List LinkedBucket → Option Placement
 kept_placement frame left sides shelves buckets =

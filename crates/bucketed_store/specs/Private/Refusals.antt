@@ -1,4 +1,4 @@
--- Why sides have no place among records, and what shelves and buckets hold, as the private functions
+-- Why sides do not fit among records, and what shelves and buckets hold, as the private functions
 -- find it.
 use Rattle.std.specs.Prelude.{ℕ, zero, suc, ◌+◌, ◌-◌, ◌&&◌, ◌||◌, max, Bool, not, Option, None, Some, is_some, List, [], ◌∷◌, length, slice_get, nat_le, nat_lt, ◌==◌, if◌then◌else◌}
 use Rattle.std.specs.List.{list_any}
@@ -31,7 +31,7 @@ abbrev pub kept_has_width : Sides → List LinkedBucket → KeptShelf → Bool
 kept_has_width sides buckets kept =
     nat_le sides.across kept.shelf.height && is_some (first_wanted (Wide sides.along) buckets kept)
 
--- the reason why sides have no place in shelves of which none has one
+-- the reason why sides do not fit in shelves of which none can take them
 abbrev pub kept_shelves_refusal : Frame → Remaining → Sides → List KeptShelf → List LinkedBucket → BucketedRefusal
 kept_shelves_refusal frame left sides shelves buckets =
     let spacious = has_space frame left sides.across in
@@ -39,7 +39,7 @@ kept_shelves_refusal frame left sides shelves buckets =
     then reasons.NoRoom (kept_widest sides.across shelves)
     else (if spacious then reasons.NoBuckets else reasons.ItemsUsedUp)
 
--- the reason why sides have no place, none where they have one
+-- the reason why sides do not fit, none where they do
 abbrev pub kept_refusal : Frame → Remaining → Sides → List KeptShelf → List LinkedBucket → Option BucketedRefusal
 kept_refusal frame left sides shelves buckets =
     if is_some (kept_placement frame left sides shelves buckets)

@@ -248,14 +248,14 @@ found_first number shelves =
     option_map (λ bucket. record { shelf = number; bucket = bucket })
     (first_bucket_of shelves number)
 
--- records made ready for a place
+-- records made ready for a placement
 abbrev pub stored_ready : Frame → Placement → Stored → Stored
 stored_ready frame (InBucket found) stored = stored
 stored_ready frame (InAdded news) stored = stored_shelves frame news stored
 stored_ready frame (InMerged group) stored =
     record stored { shelves = kept_merged group stored.shelves }
 
--- the bucket of a place in records that were made ready for it
+-- the bucket of a placement in records that were made ready for it
 abbrev pub found_of : Placement → Stored → Option Found
 found_of (InBucket found) stored = Some found
 found_of (InAdded news) stored = found_first (length stored.shelves - 1) stored.shelves
@@ -294,7 +294,7 @@ pub record HasFirst (number : ℕ) (shelves : List KeptShelf) : Type 0 where
   pub within : number < length shelves
   pub some : IsSome (first_bucket_of shelves number)
 
--- records can be made ready for a place
+-- records can be made ready for a placement
 abbrev pub CanPrepare : Frame → Placement → ℕ → Stored → Type 0
 CanPrepare frame (InBucket found) in_use stored = Unit {0}
 CanPrepare frame (InAdded news) in_use stored =
@@ -314,7 +314,7 @@ kept_allocation frame width found kept bucket =
           kept.shelf.y width kept.shelf.height;
     }
 
--- how many buckets have to be made for a place
+-- how many buckets have to be made for a placement
 abbrev pub needed_for : Placement → ℕ
 needed_for (InBucket found) = 0
 needed_for (InAdded news) = total_count news
@@ -330,13 +330,13 @@ end_of frame shelves =
     })
     (slice_get shelves (length shelves - 1)) (record { along = 0; across = across_side frame })
 
--- a place is in a bucket that is there
+-- a placement is in a bucket that is there
 abbrev pub IsThere : Placement → Type 0
 IsThere (InBucket found) = Unit {0}
 IsThere (InAdded news) = ⊥
 IsThere (InMerged group) = ⊥
 
--- a place is in shelves that have to be added
+-- a placement is in shelves that have to be added
 abbrev pub IsAdding : Placement → Type 0
 IsAdding (InBucket found) = ⊥
 IsAdding (InAdded news) = Unit {0}

@@ -6,7 +6,7 @@ use Rattle.etagere_base.specs.declared.ids.Allocation.{Allocation}
 use Rattle.bucketed_model.specs.declared.faults.GrowFault.{GrowFault}
 use Rattle.bucketed_model.specs.Faults.{grow_fault_number}
 use Rattle.bucketed_model.specs.Growing.{grow_fault, grown, grow_counts, total}
-use Rattle.bucketed_model.specs.Placing.{BucketPlace, BucketPlacement, InAdded, InBucket, InMerged, placement_of}
+use Rattle.bucketed_model.specs.Placing.{Destination, BucketPlacement, InAdded, InBucket, InMerged, placement_of}
 use Rattle.bucketed_model.specs.Returning.{bucket_returned}
 use Rattle.bucketed_model.specs.State.{BucketedState, fresh}
 use Rattle.bucketed_model.specs.Taking.{bucket_taken, needed_buckets}
@@ -40,7 +40,7 @@ unchanged position command reply entries state tied step keeps =
 
 -- a place that needs no new buckets is an answer to a size
 answers-placed : (position : ℕ) (size : Size) (entries : List Entry) (state : BucketedState) (placement : BucketPlacement)
-    → IsInBuckets entries state → placement_of state size ≡ Some placement → needed_buckets placement.place ≡ 0
+    → IsInBuckets entries state → placement_of state size ≡ Some placement → needed_buckets placement.destination ≡ 0
     → Answers position (Allocate size) entries state
 answers-placed position size entries state placement tied found none =
     let can = placed-allocates state size placement tied.tied.valid found none in
@@ -53,15 +53,15 @@ answers-placed position size entries state placement tied found none =
     }
 
 -- a size has an answer
-answers-place : (position : ℕ) (size : Size) (entries : List Entry) (state : BucketedState) (placement : BucketPlacement)
+answers-placement : (position : ℕ) (size : Size) (entries : List Entry) (state : BucketedState) (placement : BucketPlacement)
     → IsInBuckets entries state → placement_of state size ≡ Some placement
-    → (place : BucketPlace) → placement.place ≡ place → Answers position (Allocate size) entries state
-answers-place position size entries state placement tied found (InBucket spot) is =
+    → (destination : Destination) → placement.destination ≡ destination → Answers position (Allocate size) entries state
+answers-placement position size entries state placement tied found (InBucket spot) is =
     answers-placed position size entries state placement tied found (ap needed_buckets is)
-answers-place position size entries state placement tied found (InAdded news) is =
+answers-placement position size entries state placement tied found (InAdded news) is =
     unchanged position (Allocate size) NoMemory entries state tied
     (record { placement = placement; news = news; placed = found; adds = is }, refl) refl
-answers-place position size entries state placement tied found (InMerged group) is =
+answers-placement position size entries state placement tied found (InMerged group) is =
     answers-placed position size entries state placement tied found (ap needed_buckets is)
 
 answers-allocate : (position : ℕ) (size : Size) (entries : List Entry) (state : BucketedState) → IsInBuckets entries state
@@ -69,7 +69,7 @@ answers-allocate : (position : ℕ) (size : Size) (entries : List Entry) (state 
 answers-allocate position size entries state tied None none =
     unchanged position (Allocate size) Refused entries state tied (none, refl) refl
 answers-allocate position size entries state tied (Some placement) found =
-    answers-place position size entries state placement tied found placement.place refl
+    answers-placement position size entries state placement tied found placement.destination refl
 
 -- a position that is returned has an answer
 answers-return : (position other : ℕ) (entries : List Entry) (state : BucketedState) → IsInBuckets entries state

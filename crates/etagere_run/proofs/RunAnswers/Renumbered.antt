@@ -1,4 +1,4 @@
 pub mod RenumberedChanges
 pub mod RenumberedNames
-pub mod RenumberedPlaces
+pub mod RenumberedDestinations
 pub mod RenumberedRuns

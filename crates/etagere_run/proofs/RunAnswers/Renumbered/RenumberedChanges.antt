@@ -14,13 +14,13 @@ use Rattle.bucketed_model.specs.Adding.{NewShelf, made_shelf, made_shelves, new_
 use Rattle.bucketed_model.specs.Growing.{grow_counts, grown, grown_counts, grown_frame, widened}
 use Rattle.bucketed_model.specs.Merging.{merged_shelves, total_height}
 use Rattle.bucketed_model.specs.Picking.{Spot}
-use Rattle.bucketed_model.specs.Placing.{BucketPlace, InAdded, InBucket, InMerged}
+use Rattle.bucketed_model.specs.Placing.{Destination, InAdded, InBucket, InMerged}
 use Rattle.bucketed_model.specs.Returning.{emptied_bucket, kept_before, lessened_bucket, returned_bucket, without_idle_end}
 use Rattle.bucketed_model.specs.State.{Bucket, BucketShelf, BucketedState, Tag, buckets_left, changed_at, changed_bucket, changed_in, column_height, is_idle, most_buckets, with_height}
 use Rattle.bucketed_model.specs.Svg.{drawn_after, drawn_along, drawn_bucket, svg}
 use Rattle.bucketed_model.specs.Taking.{allocation_in, first_bucket, prepared, spot_of}
-use Rattle.etagere_run.specs.Answers.Private.Renumbered.{renumbered, renumbered_bucket, renumbered_place, renumbered_shelf, renumbered_spot, renumbered_tag}
-use Rattle.etagere_run.proofs.RunAnswers.Renumbered.RenumberedPlaces.{height-renumbered, idle-renumbered, in_use-renumbered, spot-renumbered, total-renumbered}
+use Rattle.etagere_run.specs.Answers.Private.Renumbered.{renumbered, renumbered_bucket, renumbered_destination, renumbered_shelf, renumbered_spot, renumbered_tag}
+use Rattle.etagere_run.proofs.RunAnswers.Renumbered.RenumberedDestinations.{height-renumbered, idle-renumbered, in_use-renumbered, spot-renumbered, total-renumbered}
 
 -- a bucket without its generation
 abbrev pub plain_bucket : Bucket → Bucket
@@ -66,9 +66,9 @@ module _ (name : ℕ → ℕ) where
       ∙ ap (λ (ss : List BucketShelf). map (with_height 0) (take others (map (renumbered_shelf name) shelves)) ++ ss) (sym (drop-map (renumbered_shelf name) others shelves)))
   merged-renumbered (suc first) others (shelf ∷ shelves) = ap (λ (ss : List BucketShelf). renumbered_shelf name shelf ∷ ss) (merged-renumbered first others shelves)
 
-  -- shelves that were made ready for a place
-  pub prepared-renumbered : (frame : Frame) (shelves : List BucketShelf) (tags : List Tag) (place : BucketPlace)
-      → prepared frame (map (renumbered_shelf name) shelves) (map (renumbered_tag name) tags) (renumbered_place name place) ≡ map (renumbered_shelf name) (prepared frame shelves tags place)
+  -- shelves that were made ready for a destination
+  pub prepared-renumbered : (frame : Frame) (shelves : List BucketShelf) (tags : List Tag) (destination : Destination)
+      → prepared frame (map (renumbered_shelf name) shelves) (map (renumbered_tag name) tags) (renumbered_destination name destination) ≡ map (renumbered_shelf name) (prepared frame shelves tags destination)
   prepared-renumbered frame shelves tags (InBucket spot) = refl
   prepared-renumbered frame shelves tags (InAdded news) =
       ap (λ (ss : List BucketShelf). map (renumbered_shelf name) shelves ++ ss) (sym (made-renumbered frame news tags)) ∙ sym (map-append (renumbered_shelf name) shelves (made_shelves frame news tags))
@@ -78,8 +78,8 @@ module _ (name : ℕ → ℕ) where
   first-spot : (number : ℕ) (shelves : List BucketShelf) → first_bucket number (map (renumbered_shelf name) shelves) ≡ option_map (renumbered_spot name) (first_bucket number shelves)
   first-spot number shelves = spot-renumbered name (λ (shelf : BucketShelf). slice_get shelf.buckets 0) (λ (shelf : BucketShelf). slice_get-map (renumbered_bucket name) shelf.buckets 0) number shelves
 
-  -- the bucket of a place
-  pub spot_of-renumbered : (shelves : List BucketShelf) (place : BucketPlace) → spot_of (map (renumbered_shelf name) shelves) (renumbered_place name place) ≡ option_map (renumbered_spot name) (spot_of shelves place)
+  -- the bucket of a destination
+  pub spot_of-renumbered : (shelves : List BucketShelf) (destination : Destination) → spot_of (map (renumbered_shelf name) shelves) (renumbered_destination name destination) ≡ option_map (renumbered_spot name) (spot_of shelves destination)
   spot_of-renumbered shelves (InBucket spot) = refl
   spot_of-renumbered shelves (InAdded news) =
       ap (λ n. first_bucket (n - 1) (map (renumbered_shelf name) shelves)) (length-map shelves (renumbered_shelf name)) ∙ first-spot (length shelves - 1) shelves

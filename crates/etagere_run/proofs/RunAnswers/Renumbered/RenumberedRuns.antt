@@ -12,7 +12,7 @@ use Rattle.bucketed_model.specs.Atlas.{Allocates, Grows}
 use Rattle.bucketed_model.specs.Faults.{grow_fault_number}
 use Rattle.bucketed_model.specs.Growing.{grow_counts, grow_fault, grown, total}
 use Rattle.bucketed_model.specs.Picking.{Spot}
-use Rattle.bucketed_model.specs.Placing.{BucketPlace, BucketPlacement, InAdded, InBucket, InMerged, placement_of}
+use Rattle.bucketed_model.specs.Placing.{Destination, BucketPlacement, InAdded, InBucket, InMerged, placement_of}
 use Rattle.bucketed_model.specs.Returning.{bucket_returned, returned_bucket, without_idle_end}
 use Rattle.bucketed_model.specs.State.{Bucket, BucketShelf, BucketedState, Tag, changed_bucket, fresh, given_unit}
 use Rattle.bucketed_model.specs.Taking.{allocation_in, needed_buckets, prepared, spot_of, taken_bucket}
@@ -29,12 +29,12 @@ use Rattle.etagere_run.specs.Answers.BucketedRuns.{BucketedStep, bucketed_atlas,
 use Rattle.etagere_run.specs.Answers.Laws.{without_number}
 use Rattle.etagere_run.specs.Answers.Live.{Entry, live_after, live_allocations, without}
 use Rattle.etagere_run.specs.Answers.Runs.{Runs}
-use Rattle.etagere_run.specs.Answers.Private.Renumbered.{Seen, renumbered, renumbered_bucket, renumbered_place, renumbered_placement, renumbered_shelf, renumbered_spot, renumbered_tag, seen_entry}
+use Rattle.etagere_run.specs.Answers.Private.Renumbered.{Seen, renumbered, renumbered_bucket, renumbered_destination, renumbered_placement, renumbered_shelf, renumbered_spot, renumbered_tag, seen_entry}
 use Rattle.etagere_run.specs.Answers.Private.Tied.{IsInBuckets}
 use Rattle.etagere_run.proofs.RunAnswers.BucketedAnswered.{bucketed-suits}
 use Rattle.etagere_run.proofs.RunAnswers.Renumbered.RenumberedChanges.{changed-renumbered, ends-renumbered, grow_counts-renumbered, grown-renumbered, plain_bucket, plain_shelf, prepared-renumbered, rectangle-renumbered, returned-plain, spot_of-renumbered}
 use Rattle.etagere_run.proofs.RunAnswers.Renumbered.RenumberedNames.{HasNewTags, new-tags, seen-agree}
-use Rattle.etagere_run.proofs.RunAnswers.Renumbered.RenumberedPlaces.{placement-renumbered}
+use Rattle.etagere_run.proofs.RunAnswers.Renumbered.RenumberedDestinations.{placement-renumbered}
 
 -- numbers as they are
 abbrev own : ℕ → ℕ
@@ -64,7 +64,7 @@ changed-alike name shelves others n m change apart same number alike =
     ∙ changed-renumbered name apart n change (same name) shelves
 
 -- what a placement needs
-needed-renumbered : (name : ℕ → ℕ) (place : BucketPlace) → needed_buckets (renumbered_place name place) ≡ needed_buckets place
+needed-renumbered : (name : ℕ → ℕ) (destination : Destination) → needed_buckets (renumbered_destination name destination) ≡ needed_buckets destination
 needed-renumbered name (InBucket spot) = refl
 needed-renumbered name (InAdded news) = refl
 needed-renumbered name (InMerged group) = refl
@@ -91,7 +91,7 @@ placed-refused name by one other size p state placed refused =
 given-number : (old : BucketedState) (size : Size) (allocation : Allocation) (new : BucketedState) (h : Allocates old size allocation new) (placed : IsPlaced old size h.placement h.tags)
     → allocation.id % given_unit ≡ placed.ready.spot.bucket.tag.number
 given-number old size allocation new h placed =
-    let shelves : List BucketShelf = prepared old.frame old.shelves h.tags h.placement.place in
+    let shelves : List BucketShelf = prepared old.frame old.shelves h.tags h.placement.destination in
     let spot : Spot = placed.ready.spot in
     let valid = spot-valid old.frame shelves spot placed.ready.can.at placed.ready.valid in
     let parts = id-parts spot.bucket.tag (spot.bucket.given + 1) (omega (arith, valid.1.tag.number)) (omega (arith, placed.ready.can.few)) in
@@ -99,9 +99,9 @@ given-number old size allocation new h placed =
 
 -- the shelves after a placement was taken
 taken-is : (old : BucketedState) (size : Size) (allocation : Allocation) (new : BucketedState) (h : Allocates old size allocation new) (placed : IsPlaced old size h.placement h.tags)
-    → new ≡ record { frame = old.frame; shelves = changed_bucket placed.ready.spot.bucket.tag.number (taken_bucket h.placement.width) (prepared old.frame old.shelves h.tags h.placement.place) }
+    → new ≡ record { frame = old.frame; shelves = changed_bucket placed.ready.spot.bucket.tag.number (taken_bucket h.placement.width) (prepared old.frame old.shelves h.tags h.placement.destination) }
 taken-is old size allocation new h placed =
-    let shelves : List BucketShelf = prepared old.frame old.shelves h.tags h.placement.place in
+    let shelves : List BucketShelf = prepared old.frame old.shelves h.tags h.placement.destination in
     h.after ∙ ap (λ (o : Option Spot). record { frame = old.frame; shelves = option_map_or (λ spot. changed_bucket spot.bucket.tag.number (taken_bucket h.placement.width) shelves) o shelves }) placed.ready.found
 
 -- a size got its place in both
@@ -111,35 +111,35 @@ placed-alike : (position : ℕ) (size : Size) (ones others : List Entry) (one ot
 placed-alike position size ones others one other new another a b tied others_tied alike h g =
     let first : renumbered_placement own g.placement ≡ renumbered_placement alike.name h.placement =
     alike-placement alike.name one other size h.placement g.placement alike.state h.placed g.placed in
-    let needed : needed_buckets h.placement.place ≡ needed_buckets g.placement.place =
-    sym (needed-renumbered alike.name h.placement.place) ∙ sym (ap (λ (p : BucketPlacement). needed_buckets p.place) first) ∙ needed-renumbered own g.placement.place in
+    let needed : needed_buckets h.placement.destination ≡ needed_buckets g.placement.destination =
+    sym (needed-renumbered alike.name h.placement.destination) ∙ sym (ap (λ (p : BucketPlacement). needed_buckets p.destination) first) ∙ needed-renumbered own g.placement.destination in
     let tags : HasNewTags alike.name one other h.tags g.tags =
-    new-tags alike.name one other (needed_buckets h.placement.place) (needed_buckets g.placement.place) h.tags g.tags alike.apart alike.state needed h.new_tags g.new_tags in
+    new-tags alike.name one other (needed_buckets h.placement.destination) (needed_buckets g.placement.destination) h.tags g.tags alike.apart alike.state needed h.new_tags g.new_tags in
     let later : ℕ → ℕ = tags.later in
     let same : renumbered_placement own g.placement ≡ renumbered_placement later h.placement =
     alike-placement later one other size h.placement g.placement tags.state h.placed g.placed in
-    let place : renumbered_place own g.placement.place ≡ renumbered_place later h.placement.place = ap (λ (p : BucketPlacement). p.place) same in
+    let place : renumbered_destination own g.placement.destination ≡ renumbered_destination later h.placement.destination = ap (λ (p : BucketPlacement). p.destination) same in
     let width : g.placement.width ≡ h.placement.width = ap (λ (p : BucketPlacement). p.width) same in
     let frame : other.frame ≡ one.frame = ap (λ (s : BucketedState). s.frame) tags.state in
-    let shelves : List BucketShelf = prepared one.frame one.shelves h.tags h.placement.place in
-    let others_shelves : List BucketShelf = prepared other.frame other.shelves g.tags g.placement.place in
+    let shelves : List BucketShelf = prepared one.frame one.shelves h.tags h.placement.destination in
+    let others_shelves : List BucketShelf = prepared other.frame other.shelves g.tags g.placement.destination in
     let ready : map plain_shelf others_shelves ≡ map (renumbered_shelf later) shelves =
-    sym (prepared-renumbered own other.frame other.shelves g.tags g.placement.place)
-    ∙ ap (λ (f : Frame). prepared f (map plain_shelf other.shelves) (map (renumbered_tag own) g.tags) (renumbered_place own g.placement.place)) frame
-    ∙ ap (λ (ss : List BucketShelf). prepared one.frame ss (map (renumbered_tag own) g.tags) (renumbered_place own g.placement.place)) (ap (λ (s : BucketedState). s.shelves) tags.state)
-    ∙ ap (λ (ts : List Tag). prepared one.frame (map (renumbered_shelf later) one.shelves) ts (renumbered_place own g.placement.place)) tags.own
+    sym (prepared-renumbered own other.frame other.shelves g.tags g.placement.destination)
+    ∙ ap (λ (f : Frame). prepared f (map plain_shelf other.shelves) (map (renumbered_tag own) g.tags) (renumbered_destination own g.placement.destination)) frame
+    ∙ ap (λ (ss : List BucketShelf). prepared one.frame ss (map (renumbered_tag own) g.tags) (renumbered_destination own g.placement.destination)) (ap (λ (s : BucketedState). s.shelves) tags.state)
+    ∙ ap (λ (ts : List Tag). prepared one.frame (map (renumbered_shelf later) one.shelves) ts (renumbered_destination own g.placement.destination)) tags.own
     ∙ ap (prepared one.frame (map (renumbered_shelf later) one.shelves) (map (renumbered_tag later) h.tags)) place
-    ∙ prepared-renumbered later one.frame one.shelves h.tags h.placement.place in
+    ∙ prepared-renumbered later one.frame one.shelves h.tags h.placement.destination in
     let placed : IsPlaced one size h.placement h.tags = allocates-placed one size a new tied.tied.valid h in
     let others_placed : IsPlaced other size g.placement g.tags = allocates-placed other size b another others_tied.tied.valid g in
     let spot : Spot = placed.ready.spot in
     let others_spot : Spot = others_placed.ready.spot in
     let spots : Some (renumbered_spot own others_spot) ≡ Some (renumbered_spot later spot) =
     sym (ap (option_map (renumbered_spot own)) others_placed.ready.found)
-    ∙ sym (spot_of-renumbered own others_shelves g.placement.place)
-    ∙ ap (λ (ss : List BucketShelf). spot_of ss (renumbered_place own g.placement.place)) ready
+    ∙ sym (spot_of-renumbered own others_shelves g.placement.destination)
+    ∙ ap (λ (ss : List BucketShelf). spot_of ss (renumbered_destination own g.placement.destination)) ready
     ∙ ap (spot_of (map (renumbered_shelf later) shelves)) place
-    ∙ spot_of-renumbered later shelves h.placement.place
+    ∙ spot_of-renumbered later shelves h.placement.destination
     ∙ ap (option_map (renumbered_spot later)) placed.ready.found in
     let one_spot : renumbered_spot own others_spot ≡ renumbered_spot later spot = cc in
     let one_number : others_spot.bucket.tag.number ≡ later spot.bucket.tag.number = ap (λ (s : Spot). s.bucket.tag.number) one_spot in

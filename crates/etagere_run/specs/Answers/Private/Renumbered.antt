@@ -2,7 +2,7 @@
 use Rattle.std.specs.Prelude.{ℕ, ◌%◌, map}
 use Rattle.etagere_base.specs.declared.geometry.Rectangle.{Rectangle}
 use Rattle.bucketed_model.specs.Picking.{Spot}
-use Rattle.bucketed_model.specs.Placing.{BucketPlace, BucketPlacement, InAdded, InBucket, InMerged}
+use Rattle.bucketed_model.specs.Placing.{Destination, BucketPlacement, InAdded, InBucket, InMerged}
 use Rattle.bucketed_model.specs.State.{Bucket, BucketShelf, BucketedState, Tag, given_unit}
 use Rattle.etagere_run.specs.Answers.Live.{Entry}
 
@@ -43,14 +43,14 @@ renumbered_spot name spot =
       bucket = renumbered_bucket name spot.bucket;
     }
 
-abbrev pub renumbered_place : (ℕ → ℕ) → BucketPlace → BucketPlace
-renumbered_place name (InBucket spot) = InBucket (renumbered_spot name spot)
-renumbered_place name (InAdded news) = InAdded news
-renumbered_place name (InMerged group) = InMerged group
+abbrev pub renumbered_destination : (ℕ → ℕ) → Destination → Destination
+renumbered_destination name (InBucket spot) = InBucket (renumbered_spot name spot)
+renumbered_destination name (InAdded news) = InAdded news
+renumbered_destination name (InMerged group) = InMerged group
 
 abbrev pub renumbered_placement : (ℕ → ℕ) → BucketPlacement → BucketPlacement
 renumbered_placement name placement =
-    record { width = placement.width; place = renumbered_place name placement.place }
+    record { width = placement.width; destination = renumbered_destination name placement.destination }
 
 -- what is seen of an entry: its position, its rectangle and the number of its bucket
 pub record Seen : Type 0 where

@@ -13,7 +13,7 @@ use Rattle.bucketed_records.specs.Private.Witnessed.{HasTotals, Witnessed}
 use Rattle.bucketed_store.proofs.Emptying.EndTotals.{tells-end}
 use Rattle.bucketed_store.proofs.Widening.Grown.{width-grows}
 use Rattle.etagere_bucketed.specs.Private.Consistent.{state_in}
-use Rattle.etagere_bucketed.proofs.AtlasGrows.{after-growth, atlas-grown, growth-needs, growth-uses}
+use Rattle.etagere_bucketed.proofs.AtlasGrows.{after-grow, atlas-grown, grow-needs, grow-uses}
 use Rattle.etagere_bucketed.proofs.atlas.BucketedAtlasAllocator.grow.Goals as goal
 
 pub returns-in-Some-clause-promises : goal.returns-in-Some-clause-promises
@@ -45,11 +45,11 @@ widen-requires-clause-used c =
 
 pub widen-requires-clause-records : goal.widen-requires-clause-records
 widen-requires-clause-records c =
-    growth-uses c.self.inside c.args.size c.grown_frame-frame.result c.self.invariant (sym c.grow_fault.ensures ∙ c.in_default.is) c.grown_frame-frame.ensures
+    grow-uses c.self.inside c.args.size c.grown_frame-frame.result c.self.invariant (sym c.grow_fault.ensures ∙ c.in_default.is) c.grown_frame-frame.ensures
 
 pub returns-in_default-widen-clause-memory : goal.returns-in_default-widen-clause-memory
 returns-in_default-widen-clause-memory c =
-    let needs = growth-needs c.self.inside c.args.size c.grown_frame-frame.result c.self.invariant (sym c.grow_fault.ensures ∙ c.in_default.is)
+    let needs = grow-needs c.self.inside c.args.size c.grown_frame-frame.result c.self.invariant (sym c.grow_fault.ensures ∙ c.in_default.is)
     c.grown_frame-frame.ensures c.in_default-widen.ensures.some in
     λ _. (refl, subst (λ (state : BucketedState). NeedsBuckets state c.args.size) c.self.view_is needs)
 
@@ -59,17 +59,17 @@ returns-in_default-widen-clause-promises c =
 
 pub end-end-requires-clause-frame : goal.end-end-requires-clause-frame
 end-end-requires-clause-frame c =
-    (after-growth c.self.inside c.args.size c.grown_frame-frame.result c.widen.new.self c.in-Ok.made c.self.invariant (sym c.grow_fault.ensures ∙ c.in_default.is)
+    (after-grow c.self.inside c.args.size c.grown_frame-frame.result c.widen.new.self c.in-Ok.made c.self.invariant (sym c.grow_fault.ensures ∙ c.in_default.is)
     c.grown_frame-frame.ensures c.in-Ok.ensures.ok c.in-Ok.ensures.made).is_frame
 
 pub end-end-requires-clause-short : goal.end-end-requires-clause-short
 end-end-requires-clause-short c =
-    (after-growth c.self.inside c.args.size c.grown_frame-frame.result c.widen.new.self c.in-Ok.made c.self.invariant (sym c.grow_fault.ensures ∙ c.in_default.is)
+    (after-grow c.self.inside c.args.size c.grown_frame-frame.result c.widen.new.self c.in-Ok.made c.self.invariant (sym c.grow_fault.ensures ∙ c.in_default.is)
     c.grown_frame-frame.ensures c.in-Ok.ensures.ok c.in-Ok.ensures.made).tells.short
 
 pub invariant_of-self-2 : goal.invariant_of-self-2
 invariant_of-self-2 c =
-    let a = after-growth c.self.inside c.args.size c.grown_frame-frame.result c.widen.new.self c.in-Ok.made c.self.invariant (sym c.grow_fault.ensures ∙ c.in_default.is)
+    let a = after-grow c.self.inside c.args.size c.grown_frame-frame.result c.widen.new.self c.in-Ok.made c.self.invariant (sym c.grow_fault.ensures ∙ c.in_default.is)
     c.grown_frame-frame.ensures c.in-Ok.ensures.ok c.in-Ok.ensures.made in
     record {
       unused = a.unused;
@@ -85,14 +85,14 @@ invariant_of-self-2 c =
 
 pub returns-clause-ok : goal.returns-clause-ok
 returns-clause-ok c =
-    let a = after-growth c.self.inside c.args.size c.grown_frame-frame.result c.widen.new.self c.in-Ok.made c.self.invariant (sym c.grow_fault.ensures ∙ c.in_default.is)
+    let a = after-grow c.self.inside c.args.size c.grown_frame-frame.result c.widen.new.self c.in-Ok.made c.self.invariant (sym c.grow_fault.ensures ∙ c.in_default.is)
     c.grown_frame-frame.ensures c.in-Ok.ensures.ok c.in-Ok.ensures.made in
     subst (λ (new : BucketedState). Grows c.args.self.now c.args.size new) (sym a.tells.read)
     (subst (λ (old : BucketedState). Grows old c.args.size a.state) c.self.view_is a.grows)
 
 pub returns-clause-promises : goal.returns-clause-promises
 returns-clause-promises c =
-    let a = after-growth c.self.inside c.args.size c.grown_frame-frame.result c.widen.new.self c.in-Ok.made c.self.invariant (sym c.grow_fault.ensures ∙ c.in_default.is)
+    let a = after-grow c.self.inside c.args.size c.grown_frame-frame.result c.widen.new.self c.in-Ok.made c.self.invariant (sym c.grow_fault.ensures ∙ c.in_default.is)
     c.grown_frame-frame.ensures c.in-Ok.ensures.ok c.in-Ok.ensures.made in
     subst KeepsPromises (sym a.tells.read) (valid-promises a.state a.witnessed.valid)
 

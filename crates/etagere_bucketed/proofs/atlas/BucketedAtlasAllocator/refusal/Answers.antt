@@ -10,7 +10,7 @@ use Rattle.bucketed_model.proofs.Shelving.Added.{current-below}
 use Rattle.bucketed_model.specs.Adding.{Remaining, left_to}
 use Rattle.bucketed_model.specs.declared.refusals.BucketedRefusal.{BucketedRefusal}
 use Rattle.bucketed_model.specs.Picking.{or_else}
-use Rattle.bucketed_model.specs.Refusal.{place_refusal, refusal, size_refusal}
+use Rattle.bucketed_model.specs.Refusal.{sides_refusal, refusal, size_refusal}
 use Rattle.bucketed_model.specs.State.{BucketedState, current_column, most_buckets}
 use Rattle.bucketed_store.specs.Private.Refusals.{kept_refusal}
 use Rattle.bucketed_store.proofs.Refused.{refusal-kept}
@@ -29,8 +29,8 @@ left-is inside is =
     ∙ ap (λ (n : ℕ). let left : Remaining = record { column = current_column (state_in inside).shelves; height = n; buckets = most_buckets - inside.buckets_in_use } in left) is.totals.height
     ∙ ap (λ (n : ℕ). let left : Remaining = record { column = current_column (state_in inside).shelves; height = (left_to inside.frame (state_in inside).shelves).height; buckets = most_buckets - n } in left) is.totals.in_use
 
-pub place_refusal-requires-clause-column : goal.place_refusal-requires-clause-column
-place_refusal-requires-clause-column c =
+pub sides_refusal-requires-clause-column : goal.sides_refusal-requires-clause-column
+sides_refusal-requires-clause-column c =
     let valid = c.self.invariant.witnessed.valid in
     let frame = c.self.inside.frame in
     omega (
@@ -44,10 +44,10 @@ place_refusal-requires-clause-column c =
 
 -- the reason of a size that is asked for is that of its sides
 refusal-asked : (state : BucketedState) (size : Size) (sides : Sides) → size_refusal state.frame size ≡ None → asked state.frame size ≡ Some sides
-    → refusal state size ≡ place_refusal state.frame state.shelves sides
+    → refusal state size ≡ sides_refusal state.frame state.shelves sides
 refusal-asked state size sides own asks =
-    ap (λ (o : Option BucketedRefusal). or_else o (option_and_then (place_refusal state.frame state.shelves) (asked state.frame size))) own
-    ∙ ap (option_and_then (place_refusal state.frame state.shelves)) asks
+    ap (λ (o : Option BucketedRefusal). or_else o (option_and_then (sides_refusal state.frame state.shelves) (asked state.frame size))) own
+    ∙ ap (option_and_then (sides_refusal state.frame state.shelves)) asks
 
 pub returns : goal.returns
 returns c =
@@ -57,7 +57,7 @@ returns c =
     let sides = c.in_ok-sides.sides in
     let own : size_refusal inside.frame c.args.size ≡ None = sym c.size_refusal.ensures ∙ c.in_default.is in
     let asks : asked inside.frame c.args.size ≡ Some sides = sym c.asked.ensures ∙ c.in_ok-sides.was in
-    c.place_refusal.ensures
+    c.sides_refusal.ensures
     ∙ ap (λ (left : Remaining). kept_refusal inside.frame left sides inside.store.shelves inside.store.buckets) (left-is inside is)
     ∙ refusal-kept inside.frame sides inside.store is.unused (state_in inside).shelves valid.frame.column_width
     (asked-sides 65534 inside.frame c.args.size sides valid.frame asks).along valid.shelves.few is.witnessed.spells

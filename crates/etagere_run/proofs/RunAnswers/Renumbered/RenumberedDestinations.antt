@@ -12,9 +12,9 @@ use Rattle.etagere_base.specs.declared.sides.Sides.{Sides}
 use Rattle.bucketed_model.specs.Adding.{Remaining, can_add, left_to, new_shelves}
 use Rattle.bucketed_model.specs.Merging.{Group, is_idle_in, mergeable_shelves, serves, total_height}
 use Rattle.bucketed_model.specs.Picking.{Spot, exact_bucket, exact_or, first_spot, free_width, has_room, is_eligible, is_exact, least_spot, or_else, pick, roomy_bucket, spot_in, waste}
-use Rattle.bucketed_model.specs.Placing.{BucketPlace, InAdded, InBucket, InMerged, bucket_place, placement_of}
+use Rattle.bucketed_model.specs.Placing.{Destination, InAdded, InBucket, InMerged, destination_of, placement_of}
 use Rattle.bucketed_model.specs.State.{Bucket, BucketShelf, BucketedState, buckets_in_use, column_height, is_idle, is_idle_bucket, last_column}
-use Rattle.etagere_run.specs.Answers.Private.Renumbered.{renumbered, renumbered_bucket, renumbered_place, renumbered_placement, renumbered_shelf, renumbered_spot}
+use Rattle.etagere_run.specs.Answers.Private.Renumbered.{renumbered, renumbered_bucket, renumbered_destination, renumbered_placement, renumbered_shelf, renumbered_spot}
 
 -- what is found among changed elements is what was found, changed
 find-changed : {X : Type 0} (change : X → X) (test other : X → Bool) → ((x : X) → test (change x) ≡ other x) → (xs : List X)
@@ -174,24 +174,24 @@ module _ (name : ℕ → ℕ) where
       rw (serves-renumbered sides 1 shelf shelves, serves-renumbered sides 2 shelf shelves, mergeable-renumbered sides (suc number) shelves) refl
 
   -- sides have the same place
-  place-renumbered : (frame : Frame) (shelves : List BucketShelf) (sides : Sides) → bucket_place frame (map (renumbered_shelf name) shelves) sides ≡ option_map (renumbered_place name) (bucket_place frame shelves sides)
-  place-renumbered frame shelves sides =
+  destination-renumbered : (frame : Frame) (shelves : List BucketShelf) (sides : Sides) → destination_of frame (map (renumbered_shelf name) shelves) sides ≡ option_map (renumbered_destination name) (destination_of frame shelves sides)
+  destination-renumbered frame shelves sides =
       ap (λ left. placed left (map (renumbered_shelf name) shelves)) (left-renumbered frame shelves) ∙ of_left (left_to frame shelves)
     where
-      placed : Remaining → List BucketShelf → Option BucketPlace
+      placed : Remaining → List BucketShelf → Option Destination
       placed left shelves =
           or_else (option_map InBucket (pick (can_add frame left sides.across) sides shelves))
           (if can_add frame left sides.across then Some (InAdded (new_shelves frame left sides)) else option_map InMerged (mergeable_shelves sides 0 shelves))
 
       of_spot : (left : Remaining) (o : Option Spot) (b : Bool) (g : Option Group)
           → or_else (option_map InBucket (option_map (renumbered_spot name) o)) (cond b (Some (InAdded (new_shelves frame left sides))) (option_map InMerged g))
-          ≡ option_map (renumbered_place name) (or_else (option_map InBucket o) (cond b (Some (InAdded (new_shelves frame left sides))) (option_map InMerged g)))
+          ≡ option_map (renumbered_destination name) (or_else (option_map InBucket o) (cond b (Some (InAdded (new_shelves frame left sides))) (option_map InMerged g)))
       of_spot left (Some spot) b g = refl
       of_spot left None true g = refl
       of_spot left None false None = refl
       of_spot left None false (Some group) = refl
 
-      of_left : (left : Remaining) → placed left (map (renumbered_shelf name) shelves) ≡ option_map (renumbered_place name) (placed left shelves)
+      of_left : (left : Remaining) → placed left (map (renumbered_shelf name) shelves) ≡ option_map (renumbered_destination name) (placed left shelves)
       of_left left =
           ap (λ o. or_else (option_map InBucket o) (if can_add frame left sides.across then Some (InAdded (new_shelves frame left sides)) else option_map InMerged (mergeable_shelves sides 0 (map (renumbered_shelf name) shelves)))) (pick-renumbered (can_add frame left sides.across) sides shelves)
           ∙ ap (λ g. or_else (option_map InBucket (option_map (renumbered_spot name) (pick (can_add frame left sides.across) sides shelves))) (if can_add frame left sides.across then Some (InAdded (new_shelves frame left sides)) else option_map InMerged g)) (mergeable-renumbered sides 0 shelves)
@@ -201,14 +201,14 @@ module _ (name : ℕ → ℕ) where
   pub placement-renumbered : (state : BucketedState) (size : Size) → placement_of (renumbered name state) size ≡ option_map (renumbered_placement name) (placement_of state size)
   placement-renumbered state size = of_sides (asked state.frame size)
     where
-      of_place : (sides : Sides) (o : Option BucketPlace)
-          → option_map (λ (place : BucketPlace). record { width = sides.along; place = place }) (option_map (renumbered_place name) o)
-          ≡ option_map (renumbered_placement name) (option_map (λ (place : BucketPlace). record { width = sides.along; place = place }) o)
+      of_place : (sides : Sides) (o : Option Destination)
+          → option_map (λ (destination : Destination). record { width = sides.along; destination = destination }) (option_map (renumbered_destination name) o)
+          ≡ option_map (renumbered_placement name) (option_map (λ (destination : Destination). record { width = sides.along; destination = destination }) o)
       of_place sides None = refl
       of_place sides (Some place) = refl
 
       of_sides : (o : Option Sides)
-          → option_and_then (λ sides. option_map (λ (place : BucketPlace). record { width = sides.along; place = place }) (bucket_place state.frame (map (renumbered_shelf name) state.shelves) sides)) o
-          ≡ option_map (renumbered_placement name) (option_and_then (λ sides. option_map (λ (place : BucketPlace). record { width = sides.along; place = place }) (bucket_place state.frame state.shelves sides)) o)
+          → option_and_then (λ sides. option_map (λ (destination : Destination). record { width = sides.along; destination = destination }) (destination_of state.frame (map (renumbered_shelf name) state.shelves) sides)) o
+          ≡ option_map (renumbered_placement name) (option_and_then (λ sides. option_map (λ (destination : Destination). record { width = sides.along; destination = destination }) (destination_of state.frame state.shelves sides)) o)
       of_sides None = refl
-      of_sides (Some sides) = rw (place-renumbered state.frame state.shelves sides) (of_place sides (bucket_place state.frame state.shelves sides))
+      of_sides (Some sides) = rw (destination-renumbered state.frame state.shelves sides) (of_place sides (destination_of state.frame state.shelves sides))
