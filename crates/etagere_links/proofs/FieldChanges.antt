@@ -1,9 +1,15 @@
 -- A field of the record of a number: what a change of a record keeps of it.
-use Rattle.std.proofs.Common.{◌≡◌, ◌≢◌, ℕ, zero, suc, ◌<◌, Option, Some, List, [], ◌∷◌, length, map, refl, ap, arith, sym, ◌∙◌}
+use Rattle.std.proofs.Common.{◌≡◌, ◌≢◌, ℕ, zero, suc, ◌<◌, Option, Some, List, [], ◌∷◌, length, get_or, map, refl, ap, arith, sym, ◌∙◌}
 use Rattle.std.specs.Prelude.{slice_get}
 use Rattle.std.specs.Option.{option_map_or}
 use Rattle.etagere_links.specs.Edits.{changed_by, field_at}
 use Rattle.etagere_links.proofs.RecordChanges.{get-changed_by-other}
+
+-- a field of a record that is there
+pub field_at-within : {T X : Type 0} (field : T → X) (other : X) (xs : List T) (k : ℕ) (d : T) → k < length xs → field_at field other xs k ≡ field (get_or xs k d)
+field_at-within field other [] k d within = absurd (omega arith)
+field_at-within field other (x ∷ xs) zero d within = refl
+field_at-within field other (x ∷ xs) (suc k) d within = field_at-within field other xs k d (omega arith)
 
 -- a field of the record that a link names, after it was changed to this
 pub field_at-changed : {T X : Type 0} (field : T → X) (other : X) (change : T → T) (xs : List T) (k : ℕ) (value : X) → k < length xs → ((x : T) → field (change x) ≡ value) → field_at field other (changed_by (Some k) change xs) k ≡ value

@@ -1,19 +1,12 @@
 -- Writing a shelf's links to the first of its lists, where the shelf is there, is changing them.
-use Rattle.std.proofs.Common.{◌≡◌, ℕ, zero, suc, ◌<◌, Option, None, List, [], ◌∷◌, length, get_or, refl, arith, sym, ◌∙◌}
+use Rattle.std.proofs.Common.{◌≡◌, ℕ, ◌<◌, Option, None, List, length, get_or, refl, sym, ◌∙◌}
 use Rattle.std.proofs.Math.ListN.{set}
 use Rattle.shelf_records.specs.declared.records.LinkedShelf.{LinkedShelf}
 use Rattle.shelf_records.specs.RecordEdits.{with_first_item, with_first_free}
-use Rattle.etagere_links.specs.Edits.{field_at}
 use Rattle.shelf_records.specs.RecordLists.{first_item_of, first_free_of}
 use Rattle.etagere_links.proofs.EditLemmas.{set-changed, changed-twice}
-use Rattle.etagere_links.proofs.FieldChanges.{field_at-kept}
+use Rattle.etagere_links.proofs.FieldChanges.{field_at-kept, field_at-within}
 use Rattle.shelf_records.proofs.FirstLinks.{to_first_item, to_first_free}
-
--- a field of a record that is there
-field_at-within : {T X : Type 0} (field : T → X) (other : X) (xs : List T) (k : ℕ) (d : T) → k < length xs → field_at field other xs k ≡ field (get_or xs k d)
-field_at-within field other [] k d within = absurd (omega arith)
-field_at-within field other (x ∷ xs) zero d within = refl
-field_at-within field other (x ∷ xs) (suc k) d within = field_at-within field other xs k d (omega arith)
 
 -- the first of the free list of a shelf that is there
 pub first_free-within : (shelves : List LinkedShelf) (shelf : ℕ) (d : LinkedShelf) → shelf < length shelves → first_free_of shelves shelf ≡ (get_or shelves shelf d).first_unallocated

@@ -8,23 +8,11 @@ ghost use Rattle.etagere_links.specs.Edits.{changed_by, linked_between, made_unu
 ghost use Rattle.etagere_links.specs.Links.{no_link};
 ghost use Rattle.etagere_links.specs.Neighbours.{NamesOneOf};
 ghost use Rattle.shelf_records.specs.RecordEdits as edits;
-ghost use Rattle.shelf_records.specs.RecordLists.{first_free_of};
 ghost use Rattle.shelf_records.specs.RecordMaking as making;
 ghost use Rattle.shelf_records.specs.Records.{free_list, item_chain};
 
 use crate::records::{LinkedItem, LinkedShelf};
 use etagere_links::{FreeList, Link, lists};
-
-/// The link to the first of the free list of the shelf of this number; none where there is no such shelf.
-pub fn first_free(shelves: &[LinkedShelf], shelf: usize) -> Link
-    ensures { result ≡ first_free_of shelves.now shelf }
-{
-    if shelf < shelves.len() {
-        shelves[shelf].first_unallocated
-    } else {
-        Link::none()
-    }
-}
 
 /// Changes the link to the first of the free list of a shelf.
 pub fn set_first_free(shelves: &mut [LinkedShelf], shelf: usize, first: Link)
@@ -36,16 +24,6 @@ pub fn set_first_free(shelves: &mut [LinkedShelf], shelf: usize, first: Link)
     }
 }
 
-/// Changes the height of a shelf.
-pub fn set_height(shelves: &mut [LinkedShelf], shelf: usize, height: u16)
-    ensures { shelves.new ≡ edits.with_height shelf height shelves.old }
-{
-    if shelf < shelves.len() {
-        let here = &mut shelves[shelf];
-        here.height = height;
-    }
-}
-
 /// Changes the height of a shelf that is there.
 pub fn set_height_present(shelves: &mut [LinkedShelf], shelf: usize, height: u16)
     requires { shelf < length shelves.old }
@@ -53,25 +31,6 @@ pub fn set_height_present(shelves: &mut [LinkedShelf], shelf: usize, height: u16
 {
     let here = &mut shelves[shelf];
     here.height = height;
-}
-
-/// Says whether a shelf is empty that is there.
-pub fn set_empty_present(shelves: &mut [LinkedShelf], shelf: usize, is_empty: bool)
-    requires { shelf < length shelves.old }
-    ensures { shelves.new ≡ edits.with_empty shelf is_empty shelves.old }
-{
-    let here = &mut shelves[shelf];
-    here.is_empty = is_empty;
-}
-
-/// Changes the width of an item.
-pub fn set_width(items: &mut [LinkedItem], number: usize, width: u16)
-    ensures { items.new ≡ edits.with_width number width items.old }
-{
-    if number < items.len() {
-        let here = &mut items[number];
-        here.width = width;
-    }
 }
 
 /// Changes the width of an item that is there.
@@ -140,7 +99,7 @@ pub fn set_given_present(items: &mut [LinkedItem], number: usize, width: u16)
 }
 
 /// The record of an item that begins anew, as that of a free one in no list. Its generation stays.
-fn started(item: &LinkedItem, x: u16, width: u16, shelf: u16) -> LinkedItem
+pub(crate) fn started(item: &LinkedItem, x: u16, width: u16, shelf: u16) -> LinkedItem
     ensures { result ≡ making.started x width shelf item.now }
 {
     LinkedItem {
@@ -154,48 +113,4 @@ fn started(item: &LinkedItem, x: u16, width: u16, shelf: u16) -> LinkedItem
         allocated: false,
         generation: item.generation,
     }
-}
-
-/// Begins the record of an item anew, as that of a free one in no list. Its generation stays.
-pub fn start_item(items: &mut [LinkedItem], number: usize, x: u16, width: u16, shelf: u16)
-    ensures { items.new ≡ changed_by (Some number) (making.started x width shelf) items.old }
-{
-    if number < items.len() {
-        let item = started(&items[number], x, width, shelf);
-        items[number] = item;
-    }
-}
-
-/// Writes the record of an item anew.
-pub fn write_item(items: &mut [LinkedItem], number: usize, item: LinkedItem)
-    ensures { items.new ≡ changed_by (Some number) (λ _. item) items.old }
-{
-    if number < items.len() {
-        items[number] = item;
-    }
-}
-
-/// Writes the record of an item anew that is there.
-pub fn write_item_present(items: &mut [LinkedItem], number: usize, item: LinkedItem)
-    requires { number < length items.old }
-    ensures { items.new ≡ changed_by (Some number) (λ _. item) items.old }
-{
-    items[number] = item;
-}
-
-/// Writes the record of a shelf anew.
-pub fn write_shelf(shelves: &mut [LinkedShelf], number: usize, shelf: LinkedShelf)
-    ensures { shelves.new ≡ changed_by (Some number) (λ _. shelf) shelves.old }
-{
-    if number < shelves.len() {
-        shelves[number] = shelf;
-    }
-}
-
-/// Writes the record of a shelf anew that is there.
-pub fn write_shelf_present(shelves: &mut [LinkedShelf], number: usize, shelf: LinkedShelf)
-    requires { number < length shelves.old }
-    ensures { shelves.new ≡ changed_by (Some number) (λ _. shelf) shelves.old }
-{
-    shelves[number] = shelf;
 }

@@ -9,7 +9,7 @@ ghost use Rattle.etagere_links.specs.Links.{no_link};
 
 use crate::records::{LinkedItem, LinkedShelf};
 use crate::uses::Rests;
-use crate::{field_edits, uses};
+use crate::{field_edits, fields, uses};
 use etagere_links::{Chain, FreeList, Link, lists};
 use std::alloc::{AllocError, Global};
 use std::marker::Model;
@@ -197,7 +197,9 @@ impl Records {
         ensures small { IfSome result (λ number. number < no_link) }
         ensures records { self.new ≡ making.item_used_again self.old }
     {
-        uses::use_item_again(&mut self.item_records, &mut self.unused_items)
+        let number = lists::take::<Chain, LinkedItem>(&self.item_records, &mut self.unused_items)?;
+        uses::use_again(&mut self.item_records, number);
+        Some(number)
     }
 
     /// Puts the shelf record to use again that became unused last; none where none was.
@@ -223,7 +225,7 @@ impl Records {
         requires { number < no_link }
         ensures { self.new ≡ edits.free_inserted_front shelf number self.old }
     {
-        let mut first = field_edits::first_free(&self.shelf_records, shelf);
+        let mut first = fields::first_free_link(&self.shelf_records, shelf);
         lists::insert_front::<FreeList, LinkedItem>(&mut self.item_records, &mut first, number);
         field_edits::set_first_free(&mut self.shelf_records, shelf, first);
     }
@@ -242,21 +244,29 @@ impl Records {
         ensures { self.new
             ≡ edits.item_changed number (λ here. record here { width = width }) self.old }
     {
-        field_edits::set_width(&mut self.item_records, number, width);
+        if number < self.item_records.len() {
+            let here = &mut self.item_records[number];
+            here.width = width;
+        }
     }
 
     /// Begins the record of an item anew, as that of a free one in no list. Its generation stays.
     pub fn start_item(&mut self, number: usize, x: u16, width: u16, shelf: u16)
         ensures { self.new ≡ edits.item_changed number (making.started x width shelf) self.old }
     {
-        field_edits::start_item(&mut self.item_records, number, x, width, shelf);
+        if number < self.item_records.len() {
+            let item = field_edits::started(&self.item_records[number], x, width, shelf);
+            self.item_records[number] = item;
+        }
     }
 
     /// Writes the record of an item anew.
     pub fn write_item(&mut self, number: usize, item: LinkedItem)
         ensures { self.new ≡ edits.item_changed number (λ _. item) self.old }
     {
-        field_edits::write_item(&mut self.item_records, number, item);
+        if number < self.item_records.len() {
+            self.item_records[number] = item;
+        }
     }
 
     /// Writes the record of an item anew that is there: no range is tested.
@@ -264,7 +274,7 @@ impl Records {
         requires { number < length self.old.items }
         ensures { self.new ≡ edits.item_changed number (λ _. item) self.old }
     {
-        field_edits::write_item_present(&mut self.item_records, number, item);
+        self.item_records[number] = item;
     }
 
     /// Changes the height of a shelf.
@@ -272,7 +282,10 @@ impl Records {
         ensures { self.new
             ≡ edits.shelf_changed shelf (λ here. record here { height = height }) self.old }
     {
-        field_edits::set_height(&mut self.shelf_records, shelf, height);
+        if shelf < self.shelf_records.len() {
+            let here = &mut self.shelf_records[shelf];
+            here.height = height;
+        }
     }
 
     /// Says whether a shelf is empty that is there: no range is tested.
@@ -281,14 +294,17 @@ impl Records {
         ensures { self.new
             ≡ edits.shelf_changed shelf (λ here. record here { is_empty = is_empty }) self.old }
     {
-        field_edits::set_empty_present(&mut self.shelf_records, shelf, is_empty);
+        let here = &mut self.shelf_records[shelf];
+        here.is_empty = is_empty;
     }
 
     /// Writes the record of a shelf anew.
     pub fn write_shelf(&mut self, number: usize, shelf: LinkedShelf)
         ensures { self.new ≡ edits.shelf_changed number (λ _. shelf) self.old }
     {
-        field_edits::write_shelf(&mut self.shelf_records, number, shelf);
+        if number < self.shelf_records.len() {
+            self.shelf_records[number] = shelf;
+        }
     }
 
     /// Gives an item this width, and lets it take the place of the free one after it, which becomes unused. The
@@ -395,8 +411,8 @@ impl Records {
         ensures { self.new
             ≡ merges.shelf_split shelf rest rest_item height rest_shelf item self.old }
     {
-        field_edits::write_item_present(&mut self.item_records, rest_item, item);
-        field_edits::write_shelf_present(&mut self.shelf_records, rest, rest_shelf);
+        self.item_records[rest_item] = item;
+        self.shelf_records[rest] = rest_shelf;
         lists::insert_after_present::<Chain, LinkedShelf>(&mut self.shelf_records, shelf, rest);
         field_edits::set_height_present(&mut self.shelf_records, shelf, height);
     }

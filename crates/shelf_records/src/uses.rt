@@ -3,7 +3,7 @@
 //! Definitions: `RecordUses` for what a split puts to use, and `RecordMaking` for making many records and using one
 //! again. Room is made for all before the first is put to use; this has to stay so.
 
-ghost use Rattle.std.specs.Prelude.{◌≡◌, ◌+◌, ◌<◌, ◌≤◌, true, OnOk, OnErr, IfSome, is_some, length, vec_capacity, if◌then◌else◌};
+ghost use Rattle.std.specs.Prelude.{◌≡◌, ◌+◌, ◌<◌, ◌≤◌, true, OnOk, OnErr, IfSome, length, vec_capacity, if◌then◌else◌};
 ghost use Rattle.etagere_links.specs.Edits.{changed_by};
 ghost use Rattle.etagere_links.specs.Links.{no_link};
 ghost use Rattle.shelf_records.specs.Records.{item_chain, shelf_chain};
@@ -88,7 +88,7 @@ pub(crate) fn reserve_shelf(
 }
 
 /// Counts that an item record is put to use again.
-fn use_again(items: &mut [LinkedItem], number: usize)
+pub(crate) fn use_again(items: &mut [LinkedItem], number: usize)
     ensures { items.new ≡ changed_by (Some number) spec.used_again items.old }
 {
     if number < items.len() {
@@ -163,19 +163,6 @@ pub(crate) fn make_shelves(shelves: &mut Vec<LinkedShelf>, count: usize)
     for _made in 0..count {
         shelves.push_reserved(new_shelf());
     }
-}
-
-/// Puts the item record to use again that became unused last; none where none was.
-pub(crate) fn use_item_again(items: &mut [LinkedItem], unused: &mut Link) -> Option<usize>
-    ensures number { result ≡ unused.old }
-    ensures small { IfSome result (λ number. number < no_link) }
-    ensures items { items.new ≡ spec.items_used (is_some unused.old) unused.old items.old }
-    ensures unused { unused.new
-        ≡ spec.unused_after item_chain (is_some unused.old) unused.old items.old }
-{
-    let number = lists::take::<Chain, LinkedItem>(items, unused)?;
-    use_again(items, number);
-    Some(number)
 }
 
 /// Puts an item record to use where one is wanted, and gives its number.
