@@ -11,7 +11,7 @@ ghost use Rattle.std.specs.Prelude.{◌≡◌, false, true, ◌+◌, ◌*◌, �
 ghost use Rattle.etagere_base.specs.Frames.{IsFrame, longest_side};
 ghost use Rattle.etagere_base.specs.Lists.{times};
 ghost use Rattle.shelf_records.specs.RecordLists.{IsLinked, shelf_walk, walked_lists};
-ghost use Rattle.shelf_records.specs.AtlasRecords.{height_of, is_empty_at};
+ghost use Rattle.shelf_records.specs.AtlasRecords.{height_of};
 ghost use Rattle.shelf_model.specs.Choice as choice;
 ghost use Rattle.shelf_model.specs.Choice.{bad_fit_rank};
 ghost use Rattle.shelf_model.specs.Fresh.{fresh};
@@ -339,7 +339,7 @@ fn empty_at(
     ensures by_height { AreSearchable records.now by_height.new.items }
     ensures capacity { by_height.old.capacity ≤ by_height.new.capacity }
 {
-    if is_empty(records, by_height.shelf(index)) {
+    if records.shelves()[by_height.shelf(index)].is_empty {
         return fit_at(records, by_height, index, width, height);
     }
     let mut one = by_height.get(index);
@@ -459,14 +459,6 @@ fn own_height(shelves: &[LinkedShelf], shelf: usize) -> u32
     ensures short { result ≤ longest_side }
 {
     u32::from(shelves[shelf].height)
-}
-
-/// Whether a shelf is one free item.
-fn is_empty(records: &Records, shelf: usize) -> bool
-    requires { shelf < length records.now.shelves }
-    ensures { result ≡ is_empty_at records.now.shelves shelf }
-{
-    records.shelves()[shelf].is_empty
 }
 
 /// Whether a shelf that fits is a good fit.

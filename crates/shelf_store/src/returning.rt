@@ -6,8 +6,6 @@
 
 ghost use Rattle.std.specs.Prelude.{◌≡◌, ℕ, ◌<◌, ◌≤◌, false, Some, IfSome, length};
 ghost use Rattle.etagere_base.specs.Lists.{times};
-ghost use Rattle.shelf_records.specs.RecordLists.{first_item_of};
-ghost use Rattle.shelf_records.specs.AtlasRecords as spec;
 ghost use Rattle.shelf_records.specs.AtlasRecords.{shelf_of};
 ghost use Rattle.shelf_store.specs.Private.ItemReturned as returned;
 ghost use Rattle.shelf_store.specs.Private.ItemReturned.{CanMergeItem, CanMergeShelves, CanReturn, FreeNextIsThere, HeightsFit, AreThere, WidthsFit};
@@ -15,7 +13,6 @@ ghost use Rattle.shelf_heights.specs.Private.ByHeight.{AreInOrder, numbers_by_he
 ghost use Rattle.shelf_notes.specs.Private.Pending.{is_noted};
 ghost use Rattle.shelf_store.specs.Private.ReturnedNotes as noting;
 ghost use Rattle.shelf_store.specs.Private.ReturnedNotes.{CanMergeAllNotes, CanMergeNamedNotes, CanMergeNotes, CanReturnByHeight};
-ghost use Rattle.etagere_links.specs.Edits.{link_at};
 ghost use Rattle.etagere_links.specs.Links.{no_link};
 ghost use Rattle.etagere_links.specs.Neighbours.{HasNeighbours, NamesOneOf};
 ghost use Rattle.shelf_records.specs.Records.{shelf_chain};
@@ -57,8 +54,9 @@ pub fn return_item(
     ensures capacity { by_height.old.capacity ≤ by_height.new.capacity }
 {
     let merged = merge_item(records, shelf, number);
-    let width = width_of(records.items(), merged.item);
-    if is_alone(records.items(), merged.item) {
+    let items = records.items();
+    let width = items[merged.item].width;
+    if is_alone(items, merged.item) {
         records.set_empty_present(shelf, true);
         let made_unused = merge_shelves(records, pending, shelf);
         raise_unless_noted(by_height, pending, shelf, width);
@@ -88,14 +86,6 @@ fn raise_unless_noted(
     if !pending.is_noted(shelf) {
         raise(pending.kept(), by_height, shelf, width);
     }
-}
-
-/// How wide an item is that is there.
-fn width_of(items: &[LinkedItem], number: usize) -> u16
-    requires { number < length items.now }
-    ensures { result ≡ spec.width_of items.now number }
-{
-    items[number].width
 }
 
 /// Whether an item stands alone in its shelf.
@@ -262,55 +252,15 @@ fn absorb_shelf(
     ensures few { result < 2 }
     ensures room { pending.new.room ≡ pending.old.room }
 {
-    let Some(item) = first_item(records.shelves(), next) else {
+    let absorbed = &records.shelves()[next];
+    let Some(item) = absorbed.first_item.number() else {
         return 0;
     };
-    let height = height_of(records.shelves(), shelf) + height_of(records.shelves(), next);
+    let height = records.shelves()[shelf].height + absorbed.height;
     records.absorb_shelf(shelf, next, item, height);
     pending.note(next, false);
     pending.note(shelf, true);
     1
-}
-
-/// The number of the first item of a shelf that is there.
-fn first_item(shelves: &[LinkedShelf], shelf: usize) -> Option<usize>
-    requires { shelf < length shelves.now }
-    ensures value { result ≡ first_item_of shelves.now shelf }
-    ensures small { IfSome result (λ number. number < no_link) }
-{
-    shelves[shelf].first_item.number()
-}
-
-/// How tall a shelf is that is there.
-fn height_of(shelves: &[LinkedShelf], shelf: usize) -> u16
-    requires { shelf < length shelves.now }
-    ensures { result ≡ spec.height_of shelves.now shelf }
-{
-    shelves[shelf].height
-}
-
-/// Whether a shelf that is there says that it is empty.
-fn is_empty(shelves: &[LinkedShelf], shelf: usize) -> bool
-    requires { shelf < length shelves.now }
-    ensures { result ≡ spec.is_empty_at shelves.now shelf }
-{
-    shelves[shelf].is_empty
-}
-
-/// Where the column of a shelf begins that is there.
-fn along(shelves: &[LinkedShelf], shelf: usize) -> u16
-    requires { shelf < length shelves.now }
-    ensures { result ≡ spec.along_of shelves.now shelf }
-{
-    shelves[shelf].x
-}
-
-/// The link to the shelf after one that is there.
-fn next_link(shelves: &[LinkedShelf], shelf: usize) -> Link
-    requires { shelf < length shelves.now }
-    ensures { result ≡ link_at shelf_chain.next shelves.now shelf }
-{
-    shelves[shelf].next
 }
 
 /// The shelf after one, where both are empty and stand in one column. Both are there.
@@ -319,10 +269,11 @@ fn empty_next(shelves: &[LinkedShelf], shelf: usize) -> Option<usize>
     ensures value { result ≡ returned.empty_next shelves.now shelf }
     ensures small { IfSome result (λ number. number < no_link) }
 {
-    if !is_empty(shelves, shelf) {
+    let here = &shelves[shelf];
+    if !here.is_empty {
         return None;
     }
-    let next = next_link(shelves, shelf).number()?;
+    let next = here.next.number()?;
     if are_both_empty(shelves, shelf, next) {
         Some(next)
     } else {
@@ -336,7 +287,7 @@ fn are_both_empty(shelves: &[LinkedShelf], shelf: usize, next: usize) -> bool
     requires next { next < length shelves.now }
     ensures { result ≡ returned.are_both_empty shelves.now shelf next }
 {
-    along(shelves, shelf) == along(shelves, next)
-        && is_empty(shelves, shelf)
-        && is_empty(shelves, next)
+    let here = &shelves[shelf];
+    let after = &shelves[next];
+    here.x == after.x && here.is_empty && after.is_empty
 }

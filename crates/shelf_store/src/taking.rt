@@ -125,7 +125,7 @@ fn split_shelf(
     let whole = records.shelves()[found.shelf];
     let height = found.height as u16;
     let rest = rest_shelf(&whole, height, item);
-    let generation = present_item(records.items(), item).generation;
+    let generation = records.items()[item].generation;
     let free = free_item(whole.x, column_width, shelf as u16, generation);
     records.split_shelf_present(found.shelf, height, shelf, rest, item, free);
     pending.note(found.shelf, true);
@@ -156,8 +156,8 @@ fn write_item_rest(records: &mut Records, found: &Placement, rest: usize)
     requires there { rest < length records.old.items }
     ensures { records.new ≡ spec.with_rest_written found.now rest records.old }
 {
-    let whole = present_item(records.items(), found.item);
-    let generation = present_item(records.items(), rest).generation;
+    let whole = records.items()[found.item];
+    let generation = records.items()[rest].generation;
     let item = rest_item(&whole, found.width as u16, found.shelf as u16, generation);
     records.write_item_present(rest, item);
 }
@@ -168,16 +168,8 @@ fn id_of(items: &[LinkedItem], number: usize) -> AllocId
     requires small { number < no_link }
     ensures { result ≡ spec.id_of items.now number }
 {
-    let generation = present_item(items, number).generation;
+    let generation = items[number].generation;
     AllocId::deserialize(number as u32 + INDEX_MODULUS * u32::from(generation))
-}
-
-/// The record of the item of this number, which is there.
-fn present_item(items: &[LinkedItem], number: usize) -> LinkedItem
-    requires { number < length items.now }
-    ensures { result ≡ spec.item_record items.now number }
-{
-    items[number]
 }
 
 /// The record of a free item in no list.

@@ -1,34 +1,54 @@
-use Rattle.std.proofs.Common.{◌≡◌, ◌<◌, false, Some, arith, length, refl}
+use Rattle.std.proofs.Common.{◌≡◌, ℕ, ◌<◌, false, None, Some, List, ap, arith, get_or, length, refl, sym, ◌∙◌}
+use Rattle.etagere_links.specs.Edits.{field_at}
 use Rattle.etagere_links.specs.Neighbours.{HasNeighbours}
+use Rattle.etagere_links.proofs.FieldChanges.{field_at-within}
+use Rattle.shelf_records.specs.AtlasRecords.{height_of}
+use Rattle.shelf_records.specs.declared.records.LinkedShelf.{LinkedShelf}
 use Rattle.shelf_records.specs.RecordLists.{first_item_of}
 use Rattle.shelf_records.specs.Records.{shelf_chain}
 use Rattle.shelf_notes.proofs.NotedShelves.{noted-known}
 use Rattle.shelf_store.proofs.returning.absorb_shelf.Goals as goal
-use Rattle.shelf_store.proofs.returning.absorb_shelf.Goals.{Start}
-
-pub returns-clause-records : goal.returns-clause-records
-returns-clause-records c =
-    let item : first_item_of c.args.records.now.shelves c.args.next ≡ Some c.in-Some.item =
-    cc (c.shelves.ensures, c.first_item.ensures.value, c.in-Some.is) in
-    rw (
-      c.absorb_shelf.ensures,
-      c.requires.next,
-      item,
-      c.height_of.ensures,
-      c.height_of-2.ensures,
-      c.shelves-2.ensures,
-      c.shelves-3.ensures,
-    ) refl
-
-pub returns-clause-notes : goal.returns-clause-notes
-returns-clause-notes c =
-    let item : first_item_of c.args.records.now.shelves c.args.next ≡ Some c.in-Some.item =
-    cc (c.shelves.ensures, c.first_item.ensures.value, c.in-Some.is) in
-    rw (c.note-2.ensures.notes, c.note.ensures.notes, c.requires.next, item) refl
+use Rattle.shelf_store.proofs.returning.absorb_shelf.Goals.{In-Some, Start}
 
 -- both shelves are there
 both-there : (c : Start) → (c.args.shelf < length c.args.records.now.shelves) × HasNeighbours shelf_chain c.args.records.now.shelves c.args.next
 both-there c = (c.requires.notes.there.here.here, c.requires.notes.there.next c.args.next c.requires.next)
+
+-- a field of a shelf that was read, and is there
+read : {X : Type 0} (field : LinkedShelf → X) (other : X) (shelves found : List LinkedShelf) (shelf : ℕ) (here : LinkedShelf) → found ≡ shelves → shelf < length shelves → field_at field other shelves shelf ≡ field (get_or found shelf here)
+read field other shelves found shelf here same within =
+    field_at-within field other shelves shelf here within ∙ ap (λ (all : List LinkedShelf). field (get_or all shelf here)) (sym same)
+
+-- the first item of the next shelf
+first : (c : In-Some) → c.args.next < length c.args.records.now.shelves → first_item_of c.args.records.now.shelves c.args.next ≡ Some c.in-Some.item
+first c there =
+    read (λ (s : LinkedShelf). s.first_item) None c.args.records.now.shelves c.shelves.result.now c.args.next c.index-shelves-next.result c.shelves.ensures there
+    ∙ ap (λ (s : LinkedShelf). s.first_item) (sym c.index-shelves-next.is) ∙ sym c.number.ensures.value ∙ c.in-Some.is
+
+pub returns-clause-records : goal.returns-clause-records
+returns-clause-records c =
+    let shelves : List LinkedShelf = c.args.records.now.shelves in
+    let at = goal.at.returns-clause-records c in
+    let there = both-there at.Start in
+    let item : first_item_of shelves c.args.next ≡ Some c.in-Some.item = first at.In-Some there.1.here in
+    let height : height_of shelves c.args.shelf ≡ (get_or c.shelves-2.result.now c.args.shelf c.index-shelves-shelf.result).height =
+    read (λ (s : LinkedShelf). s.height) 0 shelves c.shelves-2.result.now c.args.shelf c.index-shelves-shelf.result c.shelves-2.ensures there.0 in
+    let next_height : height_of shelves c.args.next ≡ c.index-shelves-next.result.height =
+    read (λ (s : LinkedShelf). s.height) 0 shelves c.shelves.result.now c.args.next c.index-shelves-next.result c.shelves.ensures there.1.here
+    ∙ ap (λ (s : LinkedShelf). s.height) (sym c.index-shelves-next.is) in
+    rw (
+      c.absorb_shelf.ensures,
+      c.requires.next,
+      item,
+      height,
+      next_height,
+    ) refl
+
+pub returns-clause-notes : goal.returns-clause-notes
+returns-clause-notes c =
+    let at = goal.at.returns-clause-notes c in
+    let item = first at.In-Some (both-there at.Start).1.here in
+    rw (c.note-2.ensures.notes, c.note.ensures.notes, c.requires.next, item) refl
 
 pub note-requires : goal.note-requires
 note-requires c = omega (arith, (both-there (goal.at.note-requires c).Start).1.here, c.requires.notes.known)
@@ -39,15 +59,6 @@ note-requires-2 c =
     rw c.note.ensures.notes
     (omega (arith, there.0, c.requires.notes.known, noted-known c.args.pending.now.notes c.args.next false (omega (arith, there.1.here, c.requires.notes.known))))
 
-pub first_item-requires : goal.first_item-requires
-first_item-requires c = rw c.shelves.ensures (both-there (goal.at.first_item-requires c).Start).1.here
-
-pub height_of-requires : goal.height_of-requires
-height_of-requires c = rw c.shelves-2.ensures (both-there (goal.at.height_of-requires c).Start).0
-
-pub height_of-requires-2 : goal.height_of-requires-2
-height_of-requires-2 c = rw c.shelves-3.ensures (both-there (goal.at.height_of-requires-2 c).Start).1.here
-
 pub absorb_shelf-requires-clause-shelf : goal.absorb_shelf-requires-clause-shelf
 absorb_shelf-requires-clause-shelf c = (both-there (goal.at.absorb_shelf-requires-clause-shelf c).Start).0
 
@@ -56,6 +67,5 @@ absorb_shelf-requires-clause-next c = (both-there (goal.at.absorb_shelf-requires
 
 pub absorb_shelf-requires-clause-item : goal.absorb_shelf-requires-clause-item
 absorb_shelf-requires-clause-item c =
-    let item : first_item_of c.args.records.now.shelves c.args.next ≡ Some c.in-Some.item =
-    cc (c.shelves.ensures, c.first_item.ensures.value, c.in-Some.is) in
-    c.requires.notes.there.item c.args.next c.requires.next c.in-Some.item item
+    let at = goal.at.absorb_shelf-requires-clause-item c in
+    c.requires.notes.there.item c.args.next c.requires.next c.in-Some.item (first at.In-Some (both-there at.Start).1.here)

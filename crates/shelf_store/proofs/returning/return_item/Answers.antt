@@ -1,9 +1,11 @@
-use Rattle.std.proofs.Common.{◌≡◌, ℕ, Bool, true, false, List, refl, ap, sym, arith, ◌∙◌}
+use Rattle.std.proofs.Common.{◌≡◌, ℕ, ◌<◌, Bool, true, false, None, List, get_or, length, refl, ap, sym, arith, ◌∙◌}
 use Rattle.shelf_records.specs.declared.records.LinkedItem.{LinkedItem}
 use Rattle.shelf_records.specs.declared.records.LinkedShelf.{LinkedShelf}
 use Rattle.shelf_records.specs.RecordEdits.{shelf_changed}
 use Rattle.shelf_records.specs.RecordLists.{Records}
-use Rattle.shelf_records.specs.AtlasRecords.{shelf_of, width_of}
+use Rattle.shelf_records.specs.AtlasRecords.{shelf_of, spelled_item, width_of}
+use Rattle.shelf_model.specs.State.{Item}
+use Rattle.etagere_links.proofs.FieldChanges.{field_at-within}
 use Rattle.shelf_notes.specs.Private.Pending.{Notes, is_noted}
 use Rattle.shelf_heights.specs.declared.by_height.BoundedShelf.{BoundedShelf}
 use Rattle.shelf_store.specs.Private.ItemReturned.{emptiness_said, has_one_free, item_merged, merged_width}
@@ -12,18 +14,18 @@ use Rattle.shelf_store.proofs.ByHeight.LaterNotes.{returned-later}
 use Rattle.shelf_store.proofs.Spelled.NotEmptied.{StaysInUse, stays-in-use}
 use Rattle.shelf_store.proofs.Spelled.ReturnedLengths.{merged-lengths}
 use Rattle.shelf_store.proofs.returning.return_item.Goals as goal
-use Rattle.shelf_store.proofs.returning.return_item.Goals.{After-is_alone, After-set_empty_present, After-width_of-width}
+use Rattle.shelf_store.proofs.returning.return_item.Goals.{After-is_alone, After-set_empty_present, After-index-items-merged}
 
 pub merge_item-merged-requires-clause-fits : goal.merge_item-merged-requires-clause-fits
 merge_item-merged-requires-clause-fits c = rw c.requires.shelf (c.requires.fits.item)
 
-pub width_of-width-requires : goal.width_of-width-requires
-width_of-width-requires c =
-    rw (c.items.ensures, c.merge_item-merged.ensures.records, c.merge_item-merged.ensures.item, c.requires.shelf) (c.requires.fits.remaining.there)
+pub bounds-items-merged : goal.bounds-items-merged
+bounds-items-merged c =
+    rw (c.items-items.ensures, c.merge_item-merged.ensures.records, c.merge_item-merged.ensures.item, c.requires.shelf) (c.requires.fits.remaining.there)
 
 pub is_alone-requires : goal.is_alone-requires
 is_alone-requires c =
-    rw (c.items-2.ensures, c.merge_item-merged.ensures.records, c.merge_item-merged.ensures.item, c.requires.shelf) (c.requires.fits.remaining.there)
+    rw (c.items-items.ensures, c.merge_item-merged.ensures.records, c.merge_item-merged.ensures.item, c.requires.shelf) (c.requires.fits.remaining.there)
 
 pub set_empty_present-requires : goal.set_empty_present-requires
 set_empty_present-requires c =
@@ -32,10 +34,12 @@ set_empty_present-requires c =
     (omega (arith, c.requires.fits.item.here.in_range, (merged-lengths shelf c.args.number c.args.records.now).shelves))
 
 -- what remains is as wide as what becomes free
-wide : (c : After-width_of-width) → c.width_of-width.result ≡ freed_width c.args.records.now.items c.args.number
+wide : (c : After-index-items-merged) → (get_or c.items-items.result.now c.merge_item-merged.result.item c.index-items-merged.result).width ≡ freed_width c.args.records.now.items c.args.number
 wide c =
-    c.width_of-width.ensures
-    ∙ ap (λ (is : List LinkedItem). width_of is c.merge_item-merged.result.item) (c.items.ensures ∙ ap (λ (r : Records). r.items) c.merge_item-merged.ensures.records)
+    let within : c.merge_item-merged.result.item < length c.items-items.result.now =
+    rw (c.items-items.ensures, c.merge_item-merged.ensures.records, c.merge_item-merged.ensures.item, c.requires.shelf) (c.requires.fits.remaining.there) in
+    sym (ap (λ (i : Item). i.width) (field_at-within (spelled_item c.merge_item-merged.result.item) (record { width = 0; id = None }) c.items-items.result.now c.merge_item-merged.result.item c.index-items-merged.result within))
+    ∙ ap (λ (is : List LinkedItem). width_of is c.merge_item-merged.result.item) (c.items-items.ensures ∙ ap (λ (r : Records). r.items) c.merge_item-merged.ensures.records)
     ∙ ap (width_of (item_merged c.args.shelf c.args.number c.args.records.now).records.items) c.merge_item-merged.ensures.item
     ∙ ap (λ s. merged_width s c.args.number c.args.records.now) c.requires.shelf
     ∙ c.requires.by_height.width
@@ -53,7 +57,7 @@ rises shelf number width records notes before by_height new raises own wide note
 emptied : (c : After-is_alone) → (let shelf = shelf_of c.args.records.now.items c.args.number in has_one_free shelf (item_merged shelf c.args.number c.args.records.now).records ≡ c.is_alone.result)
 emptied c =
     c.requires.fits.remaining.alone
-    ∙ sym (rw (c.is_alone.ensures, c.items-2.ensures, c.merge_item-merged.ensures.records, c.merge_item-merged.ensures.item, c.requires.shelf) refl)
+    ∙ sym (rw (c.is_alone.ensures, c.items-items.ensures, c.merge_item-merged.ensures.records, c.merge_item-merged.ensures.item, c.requires.shelf) refl)
 
 -- the records once the shelf says that it is empty
 said : (c : After-set_empty_present) → (let shelf = shelf_of c.args.records.now.items c.args.number in has_one_free shelf (item_merged shelf c.args.number c.args.records.now).records ≡ true → c.set_empty_present.new.self ≡ emptiness_said shelf (item_merged shelf c.args.number c.args.records.now).records)
@@ -93,8 +97,8 @@ returns-then-is_alone-clause-records c =
 pub returns-then-is_alone-clause-by_height : goal.returns-then-is_alone-clause-by_height
 returns-then-is_alone-clause-by_height c =
     let at = goal.at.returns-then-is_alone-clause-by_height c in
-    rises c.args.shelf c.args.number c.width_of-width.result c.args.records.now c.merge_shelves-made_unused.new.pending.notes c.args.pending.now.notes c.args.by_height.now.items c.raise_unless_noted.new.by_height.items
-    c.raise_unless_noted.ensures.by_height c.requires.shelf (wide at.After-width_of-width)
+    rises c.args.shelf c.args.number (get_or c.items-items.result.now c.merge_item-merged.result.item c.index-items-merged.result).width c.args.records.now c.merge_shelves-made_unused.new.pending.notes c.args.pending.now.notes c.args.by_height.now.items c.raise_unless_noted.new.by_height.items
+    c.raise_unless_noted.ensures.by_height c.requires.shelf (wide at.After-index-items-merged)
     (noted at.After-set_empty_present c.merge_shelves-made_unused.new.pending.notes (emptied at.After-is_alone ∙ c.if-is_alone.true) c.merge_shelves-made_unused.ensures.notes)
 
 pub returns-then-is_alone-clause-notes : goal.returns-then-is_alone-clause-notes
@@ -127,8 +131,8 @@ pub returns-else-is_alone-clause-by_height : goal.returns-else-is_alone-clause-b
 returns-else-is_alone-clause-by_height c =
     let at = goal.at.returns-else-is_alone-clause-by_height c in
     let still = stays at.After-is_alone c.if-is_alone.false in
-    rises c.args.shelf c.args.number c.width_of-width.result c.args.records.now c.args.pending.now.notes c.args.pending.now.notes c.args.by_height.now.items c.raise_unless_noted-else-is_alone.new.by_height.items
-    c.raise_unless_noted-else-is_alone.ensures.by_height c.requires.shelf (wide at.After-width_of-width) (sym (still.unnoted c.args.pending.now.notes))
+    rises c.args.shelf c.args.number (get_or c.items-items.result.now c.merge_item-merged.result.item c.index-items-merged.result).width c.args.records.now c.args.pending.now.notes c.args.pending.now.notes c.args.by_height.now.items c.raise_unless_noted-else-is_alone.new.by_height.items
+    c.raise_unless_noted-else-is_alone.ensures.by_height c.requires.shelf (wide at.After-index-items-merged) (sym (still.unnoted c.args.pending.now.notes))
 
 pub returns-else-is_alone-clause-notes : goal.returns-else-is_alone-clause-notes
 returns-else-is_alone-clause-notes c =
