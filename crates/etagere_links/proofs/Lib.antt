@@ -3,7 +3,6 @@ mod WalkRows
 mod WalkSteps
 mod MarkedWalks
 mod WalkPrefixes
-pub mod ChainEdits
 pub mod Chains
 mod FirstFaults
 pub mod LinkBits
@@ -11,8 +10,6 @@ pub mod ListEnds
 mod MetPositions
 pub mod MarkLemmas
 pub mod RecordChanges
-pub mod RecordFrames
-pub mod RecordLists
 pub mod ReadLinks
 pub mod Tallies
 pub mod WalkChains

@@ -1,32 +1,11 @@
 -- Lists that links spell.
 use Rattle.std.specs.Prelude.{◌≡◌, ℕ, Option, None, Some, List, [], ◌∷◌}
-use Rattle.etagere_links.specs.Edits.{link_at}
-use Rattle.etagere_links.specs.Families.{Family}
 
 -- following the links from a start on meets just these, and then the end
 abbrev pub Leads : (ℕ → Option ℕ) → Option ℕ → List ℕ → Option ℕ → Type 0
 Leads next start [] end = start ≡ end
 Leads next start (x ∷ xs) end = (start ≡ Some x) × Leads next (next x) xs end
 
--- each of these links back to the one before it, the first to what stands before all
-abbrev pub LeadsBack : (ℕ → Option ℕ) → Option ℕ → List ℕ → Type 0
-LeadsBack previous before [] = Unit {0}
-LeadsBack previous before (x ∷ xs) = (previous x ≡ before) × LeadsBack previous (Some x) xs
-
 -- the links spell this list
 abbrev pub IsPile : (ℕ → Option ℕ) → Option ℕ → List ℕ → Type 0
 IsPile next first xs = Leads next first xs None
-
--- the links spell this list forward and backward
-pub record IsChain (next previous : ℕ → Option ℕ) (first : Option ℕ) (xs : List ℕ) : Type 0 where
-  pub forward : IsPile next first xs
-  pub backward : LeadsBack previous None xs
-
--- the links of one kind in these records spell this list
-abbrev pub IsChainIn : {T : Type 0} → Family T → List T → Option ℕ → List ℕ → Type 0
-IsChainIn family records first xs =
-    IsChain (link_at family.next records) (link_at family.previous records) first xs
-
--- the links to the next one in these records spell this list
-abbrev pub IsPileIn : {T : Type 0} → Family T → List T → Option ℕ → List ℕ → Type 0
-IsPileIn family records top xs = IsPile (link_at family.next records) top xs

@@ -1,11 +1,9 @@
 pub mod Chains
 pub mod Edits
-pub mod Families
 pub mod Links
 pub mod LinksRead
 pub mod Lists
 pub mod Marks
-pub mod Neighbours
 pub mod Private
 pub mod WalkFaults
 pub mod Walks

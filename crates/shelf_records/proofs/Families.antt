@@ -1,6 +1,6 @@
 -- The links of the records of a shelf atlas: each is a field of its own.
 use Rattle.std.proofs.Common.{refl}
-use Rattle.etagere_links.specs.Families.{IsFamily}
+use Rattle.shelf_records.specs.Families.{IsFamily}
 use Rattle.shelf_records.specs.Records.{item_chain, free_list, shelf_chain}
 
 pub item_chain-laws : IsFamily item_chain

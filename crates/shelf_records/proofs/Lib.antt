@@ -10,3 +10,8 @@ pub mod NeighbourFrames
 pub mod MissingRecords
 pub mod UsedRecords
 mod RecordRows
+pub mod ChainEdits
+pub mod Chains
+pub mod ListEnds
+pub mod RecordFrames
+pub mod RecordLists

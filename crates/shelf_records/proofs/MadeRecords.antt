@@ -3,7 +3,7 @@ use Rattle.std.proofs.Common.{◌≡◌, ℕ, zero, suc, Option, None, Some, Lis
 use Rattle.shelf_records.specs.declared.records.LinkedItem.{LinkedItem}
 use Rattle.shelf_records.specs.declared.records.LinkedShelf.{LinkedShelf}
 use Rattle.etagere_links.specs.Edits.{link_at}
-use Rattle.etagere_links.specs.Families.{Family}
+use Rattle.shelf_records.specs.Families.{Family}
 use Rattle.shelf_records.specs.RecordMaking.{with_new_items, with_new_shelves}
 use Rattle.shelf_records.specs.RecordUses.{missing, new_item, new_shelf}
 

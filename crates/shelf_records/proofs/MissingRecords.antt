@@ -1,8 +1,8 @@
 -- How many records are missing: as many as are wanted beyond those that became unused.
 use Rattle.std.proofs.Common.{◌≡◌, ℕ, zero, suc, ◌-◌, ◌≤◌, Option, None, Some, List, [], ◌∷◌, length, arith}
-use Rattle.etagere_links.specs.Chains.{IsPileIn}
+use Rattle.shelf_records.specs.Chains.{IsPileIn}
 use Rattle.etagere_links.specs.Edits.{link_at}
-use Rattle.etagere_links.specs.Families.{Family}
+use Rattle.shelf_records.specs.Families.{Family}
 use Rattle.shelf_records.specs.RecordUses.{missing}
 
 -- no more are missing than are wanted

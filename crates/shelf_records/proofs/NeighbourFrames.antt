@@ -1,14 +1,15 @@
 -- A record and its neighbours in a list are there after a step that changes no link of that list, or puts one in.
 use Rattle.std.proofs.Common.{◌≡◌, ℕ, zero, suc, ◌<◌, Option, None, Some, List, [], ◌∷◌, length, sym, subst, ◌∙◌}
 use Rattle.shelf_records.specs.declared.records.LinkedItem.{LinkedItem}
-use Rattle.etagere_links.specs.Edits.{changed_at, changed_by, link_at, linked_between, unlinked}
-use Rattle.etagere_links.specs.Families.{Family, IsFamily, IsUnchanged}
-use Rattle.etagere_links.specs.Neighbours.{HasNeighbours, NamesOneOf}
+use Rattle.etagere_links.specs.Edits.{changed_at, changed_by, link_at}
+use Rattle.shelf_records.specs.ListEdits.{linked_between, unlinked}
+use Rattle.shelf_records.specs.Families.{Family, IsFamily, IsUnchanged}
+use Rattle.shelf_records.specs.Neighbours.{HasNeighbours, NamesOneOf}
 use Rattle.shelf_records.specs.Records.{item_chain, free_list}
 use Rattle.shelf_records.proofs.AllLists.LinkedItems.{frees-keep, items-keep}
 use Rattle.etagere_links.proofs.RecordChanges.{length-changed_by, link_at-same}
 use Rattle.shelf_records.proofs.Families.{free_list-laws}
-use Rattle.etagere_links.proofs.RecordFrames.{length-linked_between, length-unlinked, map-linked_between, map-unlinked}
+use Rattle.shelf_records.proofs.RecordFrames.{length-linked_between, length-unlinked, map-linked_between, map-unlinked}
 
 -- one is taken out of another list
 neighbours-unlinked : {T : Type 0} (family other : Family T) → IsUnchanged other family.next → IsUnchanged other family.previous → (records : List T) (at number : ℕ) → HasNeighbours family records number → HasNeighbours family (unlinked other at records) number

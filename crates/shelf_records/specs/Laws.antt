@@ -1,9 +1,10 @@
 -- Laws of edits: what an edit of links does to the list that they spell.
 use Rattle.std.specs.Prelude.{◌≡◌, ℕ, ◌<◌, ◌≤◌, Option, None, Some, option_and_then, List, [], ◌∷◌, ◌++◌, length}
 use Rattle.etagere_base.specs.Lists.{times}
-use Rattle.etagere_links.specs.Chains.{IsChainIn, IsPileIn}
-use Rattle.etagere_links.specs.Edits.{first_without, link_at, linked_between, made_unused, unlinked}
-use Rattle.etagere_links.specs.Families.{Family}
+use Rattle.shelf_records.specs.Chains.{IsChainIn, IsPileIn}
+use Rattle.etagere_links.specs.Edits.{link_at}
+use Rattle.shelf_records.specs.ListEdits.{first_without, linked_between, made_unused, unlinked}
+use Rattle.shelf_records.specs.Families.{Family}
 use Rattle.shelf_records.specs.Records.{free_list, item_chain, shelf_chain}
 
 -- links spell this list forward and backward, of records that are there, each once

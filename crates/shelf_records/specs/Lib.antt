@@ -9,3 +9,8 @@ pub mod RecordMaking
 pub mod RecordMerges
 pub mod RecordUses
 pub mod Records
+pub mod Chains
+pub mod Families
+pub mod ListEdits
+pub mod ListEnds
+pub mod Neighbours

@@ -2,7 +2,8 @@
 use Rattle.std.specs.Prelude.{ℕ, Bool, Option, None, Some, option_and_then, List, [], ◌∷◌, ◌++◌, take}
 use Rattle.shelf_records.specs.declared.records.LinkedItem.{LinkedItem}
 use Rattle.shelf_records.specs.declared.records.LinkedShelf.{LinkedShelf}
-use Rattle.etagere_links.specs.Edits.{changed_by, link_at, unlinked, first_without, linked_between, made_unused}
+use Rattle.etagere_links.specs.Edits.{changed_by, link_at}
+use Rattle.shelf_records.specs.ListEdits.{unlinked, first_without, linked_between, made_unused}
 use Rattle.shelf_records.specs.RecordLists.{Records, first_item_of, first_free_of}
 use Rattle.shelf_records.specs.Records.{item_chain, free_list, shelf_chain}
 

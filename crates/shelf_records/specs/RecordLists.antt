@@ -4,7 +4,7 @@ use Rattle.std.specs.List.{AllByRecursion}
 use Rattle.etagere_base.specs.Lists.{times}
 use Rattle.shelf_records.specs.declared.records.LinkedItem.{LinkedItem}
 use Rattle.shelf_records.specs.declared.records.LinkedShelf.{LinkedShelf}
-use Rattle.etagere_links.specs.Chains.{IsChainIn, IsPileIn}
+use Rattle.shelf_records.specs.Chains.{IsChainIn, IsPileIn}
 use Rattle.shelf_records.specs.Records.{item_chain, free_list, shelf_chain}
 use Rattle.etagere_links.specs.Walks.{Walked, walk_by}
 use Rattle.etagere_links.specs.Edits.{field_at}

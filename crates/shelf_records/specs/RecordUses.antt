@@ -4,7 +4,7 @@ use Rattle.shelf_records.specs.declared.records.LinkedItem.{LinkedItem}
 use Rattle.shelf_records.specs.declared.records.LinkedShelf.{LinkedShelf}
 use Rattle.shelf_records.specs.declared.uses.Rests.{Rests}
 use Rattle.etagere_links.specs.Edits.{changed_by, link_at}
-use Rattle.etagere_links.specs.Families.{Family}
+use Rattle.shelf_records.specs.Families.{Family}
 use Rattle.etagere_links.specs.Links.{no_link}
 use Rattle.shelf_records.specs.RecordLists.{Records}
 use Rattle.shelf_records.specs.Records.{item_chain, shelf_chain}

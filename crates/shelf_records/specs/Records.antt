@@ -1,5 +1,5 @@
 -- Which fields of the records of a shelf atlas are the links of which lists.
-use Rattle.etagere_links.specs.Families.{Family}
+use Rattle.shelf_records.specs.Families.{Family}
 use Rattle.shelf_records.specs.declared.records.LinkedItem.{LinkedItem}
 use Rattle.shelf_records.specs.declared.records.LinkedShelf.{LinkedShelf}
 

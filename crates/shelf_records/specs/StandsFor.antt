@@ -9,7 +9,7 @@ use Rattle.std.specs.List.{AllByRecursion}
 use Rattle.etagere_base.specs.Lists.{NoNeighbours, times}
 use Rattle.shelf_records.specs.declared.records.LinkedItem.{LinkedItem}
 use Rattle.shelf_records.specs.declared.records.LinkedShelf.{LinkedShelf}
-use Rattle.etagere_links.specs.Chains.{LeadsBack}
+use Rattle.shelf_records.specs.Chains.{LeadsBack}
 use Rattle.etagere_links.specs.Edits.{link_at}
 use Rattle.etagere_links.specs.Links.{no_link}
 use Rattle.shelf_records.specs.RecordLists.{Entry, item_numbers, shelf_numbers, shelf_walk, unused_shelf_walk, unused_item_walk, item_walk, free_walk}

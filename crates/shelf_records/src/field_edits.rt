@@ -1,18 +1,22 @@
 //! Fields of records by number, and two steps that free an item and link it at once. A number past the last record
 //! changes nothing. What ends in `present` needs the records there that it changes, and tests no range.
 //!
-//! Definitions: `RecordEdits`. A field that a step writes gets its function here, and keeps all others.
+//! Definitions: `RecordEdits`. What a step writes beside other fields or lists gets its function here, and keeps the
+//! rest.
 
 ghost use Rattle.std.specs.Prelude.{◌≡◌, ◌<◌, true, false, Some, length};
-ghost use Rattle.etagere_links.specs.Edits.{changed_by, linked_between, made_unused};
+ghost use Rattle.etagere_links.specs.Edits.{changed_by};
+ghost use Rattle.shelf_records.specs.ListEdits.{linked_between, made_unused};
 ghost use Rattle.etagere_links.specs.Links.{no_link};
-ghost use Rattle.etagere_links.specs.Neighbours.{NamesOneOf};
+ghost use Rattle.shelf_records.specs.Neighbours.{NamesOneOf};
 ghost use Rattle.shelf_records.specs.RecordEdits as edits;
 ghost use Rattle.shelf_records.specs.RecordMaking as making;
 ghost use Rattle.shelf_records.specs.Records.{free_list, item_chain};
 
+use crate::chained::FreeList;
+use crate::lists;
 use crate::records::{LinkedItem, LinkedShelf};
-use etagere_links::{FreeList, Link, lists};
+use etagere_links::Link;
 
 /// Changes the link to the first of the free list of a shelf.
 pub fn set_first_free(shelves: &mut [LinkedShelf], shelf: usize, first: Link)

@@ -4,7 +4,8 @@
 
 ghost use Rattle.shelf_records.specs.Records.{item_chain, free_list, shelf_chain};
 
-use etagere_links::{Chain, FreeList, Link, Linked};
+use crate::chained::{Chain, FreeList, Linked};
+use etagere_links::Link;
 
 /// A stretch of a shelf, or an unused record for one. Lengths and places are in pixels.
 #[derive(Clone, Copy, Debug, PartialEq, Eq)]

@@ -1,16 +1,17 @@
 //! All records of a shelf atlas, and the steps of which allocations, returns and growths are made.
 //!
 //! Definitions: `RecordLists` for what records are, `RecordEdits`, `RecordMerges`, `RecordUses` and
-//! `RecordMaking` for the steps, `Neighbours` for what those ask that test no range. A step calls `lists`,
-//! `field_edits` or `uses` for each list or field that it changes.
+//! `RecordMaking` for the steps, `Neighbours` for what those ask that test no range. A step that changes
+//! more than one field calls `lists`, `field_edits` or `uses` for each part.
 
 ghost use Rattle.std.specs.Prelude.{◌≡◌, ◌+◌, ◌<◌, ◌≤◌, None, true, [], length, IfOk, IfSome, OnOk, OnErr, if◌then◌else◌};
 ghost use Rattle.etagere_links.specs.Links.{no_link};
 
+use crate::chained::{Chain, FreeList};
 use crate::records::{LinkedItem, LinkedShelf};
 use crate::uses::Rests;
-use crate::{field_edits, fields, uses};
-use etagere_links::{Chain, FreeList, Link, lists};
+use crate::{field_edits, fields, lists, uses};
+use etagere_links::Link;
 use std::alloc::{AllocError, Global};
 use std::marker::Model;
 
@@ -45,7 +46,7 @@ impl Records {
     ghost use Rattle.shelf_records.specs.RecordMaking as making;
     ghost use Rattle.shelf_records.specs.RecordMerges as merges;
     ghost use Rattle.shelf_records.specs.RecordUses as using;
-    ghost use Rattle.etagere_links.specs.Neighbours.{HasNeighbours, NamesOneOf};
+    ghost use Rattle.shelf_records.specs.Neighbours.{HasNeighbours, NamesOneOf};
     ghost use Rattle.shelf_records.specs.RecordLists.{first_free_of};
     ghost use Rattle.shelf_records.specs.RecordUses.{AreSmall};
     ghost use Rattle.shelf_records.specs.Records.{free_list, item_chain, shelf_chain};

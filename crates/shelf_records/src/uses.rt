@@ -10,8 +10,10 @@ ghost use Rattle.shelf_records.specs.Records.{item_chain, shelf_chain};
 ghost use Rattle.shelf_records.specs.RecordMaking as making;
 ghost use Rattle.shelf_records.specs.RecordUses as spec;
 
+use crate::chained::{Chain, Linked};
+use crate::lists;
 use crate::records::{LinkedItem, LinkedShelf};
-use etagere_links::{Chain, Link, Linked, lists};
+use etagere_links::Link;
 use std::alloc::AllocError;
 
 /// The numbers of the records for what is left where a shelf or an item is split: of a shelf its record and

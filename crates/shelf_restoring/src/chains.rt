@@ -4,7 +4,7 @@
 
 ghost use Rattle.std.specs.Prelude.{◌≡◌, ◌+◌, ◌*◌, ◌^◌, ◌<◌, ◌≤◌, ◌++◌, ℕ, [], IfOk, IfErr, OnOk, length, map};
 ghost use Rattle.std.specs.List.{AllByRecursion};
-ghost use Rattle.etagere_links.specs.Edits.{AreFitting};
+ghost use Rattle.shelf_records.specs.ListEdits.{AreFitting};
 ghost use Rattle.etagere_links.specs.Links.{no_link, bits_of};
 ghost use Rattle.etagere_links.specs.LinksRead.{links_in, links_until};
 ghost use Rattle.etagere_links.specs.Marks.{IsMarkedBy};
@@ -14,14 +14,13 @@ ghost use Rattle.shelf_records.specs.Private.Restoring.{HasChain, HasItemLists, 
 ghost use Rattle.shelf_restoring.specs.RestoringSteps.{StopsAfter, item_walks};
 ghost use Rattle.shelf_records.specs.Snapshots.{IsBroken};
 
+use crate::link_bits::next_bits;
 use crate::loaded_atlas::LoadedAtlas;
 use crate::walked_lists::WalkedLists;
 use etagere_base::RestoreFault;
-use etagere_links::{
-    Chain, WalkRoom, all_marked, mark_onto, next_bits, restore_fault, room_and_marks,
-};
-use shelf_records::LinkedItem;
+use etagere_links::{WalkRoom, all_marked, mark_onto, restore_fault, room_and_marks};
 use shelf_records::fields::first_item_link;
+use shelf_records::{Chain, LinkedItem};
 use std::alloc::Global;
 
 /// What walks have met of the items: of each shelf in use, and what is unused.

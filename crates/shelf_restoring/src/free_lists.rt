@@ -4,7 +4,7 @@
 
 ghost use Rattle.std.specs.Prelude.{◌≡◌, ◌+◌, ◌*◌, ◌^◌, ◌<◌, ◌≤◌, ◌++◌, [], IfOk, IfErr, OnOk, length, map};
 ghost use Rattle.std.specs.List.{AllByRecursion};
-ghost use Rattle.etagere_links.specs.Edits.{AreFitting};
+ghost use Rattle.shelf_records.specs.ListEdits.{AreFitting};
 ghost use Rattle.etagere_links.specs.Links.{no_link, bits_of};
 ghost use Rattle.etagere_links.specs.LinksRead.{links_in, links_until};
 ghost use Rattle.etagere_links.specs.Marks.{IsMarkedBy};
@@ -17,12 +17,13 @@ ghost use Rattle.shelf_records.specs.Private.Restoring.{HasFree, free_numbers, f
 ghost use Rattle.shelf_restoring.specs.RestoringSteps.{StopsAfter, free_walks};
 ghost use Rattle.shelf_records.specs.Snapshots.{IsBroken};
 
+use crate::link_bits::next_bits;
 use crate::loaded_atlas::LoadedAtlas;
 use crate::walked_lists::WalkedLists;
 use etagere_base::RestoreFault;
-use etagere_links::{FreeList, WalkFault, WalkRoom, mark_onto, next_bits, room_and_marks};
-use shelf_records::LinkedItem;
+use etagere_links::{WalkFault, WalkRoom, mark_onto, room_and_marks};
 use shelf_records::fields::first_free_link;
+use shelf_records::{FreeList, LinkedItem};
 use std::alloc::Global;
 
 /// The free lists of the shelves in use, where no item is in two of them. Each item is known to be of one shelf.

@@ -7,6 +7,7 @@
 pub mod chains;
 pub mod free_lists;
 pub mod judging;
+mod link_bits;
 pub mod loaded_atlas;
 pub mod loading;
 pub mod rules;

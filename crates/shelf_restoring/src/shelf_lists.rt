@@ -3,7 +3,7 @@
 //! Definitions: `Restoring`.
 
 ghost use Rattle.std.specs.Prelude.{◌≡◌, ◌*◌, ◌≤◌, ℕ, [], IfOk, IfErr, OnOk, length, map};
-ghost use Rattle.etagere_links.specs.Edits.{AreFitting};
+ghost use Rattle.shelf_records.specs.ListEdits.{AreFitting};
 ghost use Rattle.etagere_links.specs.Links.{bits_of, no_link};
 ghost use Rattle.etagere_links.specs.LinksRead.{links_in, links_until};
 ghost use Rattle.etagere_links.specs.Marks.{IsMarkedBy};
@@ -12,12 +12,11 @@ ghost use Rattle.shelf_records.specs.Private.Restoring.{HasShelfLists};
 ghost use Rattle.shelf_restoring.specs.RestoringSteps.{StopsAfter, shelf_walks};
 ghost use Rattle.shelf_records.specs.Snapshots.{IsBroken};
 
+use crate::link_bits::next_bits;
 use crate::loaded_atlas::LoadedAtlas;
 use etagere_base::RestoreFault;
-use etagere_links::{
-    Chain, WalkRoom, all_marked, mark_onto, next_bits, restore_fault, room_and_marks,
-};
-use shelf_records::LinkedShelf;
+use etagere_links::{WalkRoom, all_marked, mark_onto, restore_fault, room_and_marks};
+use shelf_records::{Chain, LinkedShelf};
 use std::alloc::Global;
 
 /// The numbers of the shelves in use, where each shelf record is in use or unused, and in one list.

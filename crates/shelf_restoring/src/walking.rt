@@ -16,8 +16,7 @@ use crate::loaded_atlas::LoadedAtlas;
 use crate::shelf_lists::walk_shelves;
 use crate::walked_lists::WalkedLists;
 use etagere_base::RestoreFault;
-use etagere_links::Chain;
-use shelf_records::LinkedShelf;
+use shelf_records::{Chain, LinkedShelf};
 use std::alloc::Global;
 
 /// What walks have met of all records.

@@ -19,9 +19,8 @@ use crate::by_place::first_of_least_rank;
 use crate::choosing::{MOST_ITEMS, MOST_SPLITS, placement_at, shelf_height};
 use crate::free_items::free_items_of;
 use etagere_base::{Frame, Sides, Size, SizeRefusal, rounded, size_refusal};
-use etagere_links::{Chain, next_of};
 use shelf_model::faults::Refusal;
-use shelf_records::{LinkedShelf, Records, fields};
+use shelf_records::{Chain, LinkedShelf, Records, fields, next_of};
 
 /// The first reason for which a size has no place; none where it has one.
 pub fn refusal(frame: &Frame, records: &Records, items_in_use: u32, size: Size) -> Option<Refusal>

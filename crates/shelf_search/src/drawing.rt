@@ -12,9 +12,8 @@ ghost use Rattle.shelf_records.specs.Private.Kept.{AreKept, state_of};
 ghost use Rattle.shelf_model.specs.Svg as svg;
 
 use etagere_base::{Colour, Drawn, Frame, Sides};
-use etagere_links::{Chain, next_of};
 use pictures::{GatheredText, drawn_at, push_drawn};
-use shelf_records::{LinkedItem, LinkedShelf, Records, fields};
+use shelf_records::{Chain, LinkedItem, LinkedShelf, Records, fields, next_of};
 use std::io::{self, Write};
 
 /// The colour of an item.

@@ -8,8 +8,7 @@ ghost use Rattle.etagere_links.specs.Links.{no_link};
 ghost use Rattle.shelf_records.specs.RecordLists.{IsLinked, shelf_walk, walked_lists};
 ghost use Rattle.shelf_search.specs.Private.Asking.{free_of};
 
-use etagere_links::{FreeList, next_of};
-use shelf_records::{LinkedItem, Records, fields};
+use shelf_records::{FreeList, LinkedItem, Records, fields, next_of};
 
 /// The free items of a shelf: how many there are, and how wide the widest is; 0 where there are none.
 #[derive(Clone, Copy)]

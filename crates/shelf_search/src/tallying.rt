@@ -16,9 +16,8 @@ ghost use Rattle.shelf_search.specs.Private.Asking.{free_of, tally_of, tally_wit
 use crate::choosing::MOST_ITEMS;
 use crate::free_items::free_items_of;
 use etagere_base::{Frame, Size, size_at};
-use etagere_links::{Chain, next_of};
 use shelf_model::usage::Usage;
-use shelf_records::{LinkedShelf, Records, fields};
+use shelf_records::{Chain, LinkedShelf, Records, fields, next_of};
 
 /// What is counted of shelves: how many there are, how many of them are empty, how many items are free, how wide the
 /// widest of these is, and how tall the tallest of those that are as wide; 0 where none is free.

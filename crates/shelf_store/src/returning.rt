@@ -14,14 +14,14 @@ ghost use Rattle.shelf_notes.specs.Private.Pending.{is_noted};
 ghost use Rattle.shelf_store.specs.Private.ReturnedNotes as noting;
 ghost use Rattle.shelf_store.specs.Private.ReturnedNotes.{CanMergeAllNotes, CanMergeNamedNotes, CanMergeNotes, CanReturnByHeight};
 ghost use Rattle.etagere_links.specs.Links.{no_link};
-ghost use Rattle.etagere_links.specs.Neighbours.{HasNeighbours, NamesOneOf};
+ghost use Rattle.shelf_records.specs.Neighbours.{HasNeighbours, NamesOneOf};
 ghost use Rattle.shelf_records.specs.Records.{shelf_chain};
 
-use etagere_links::{Chain, Link, previous_of};
+use etagere_links::Link;
 use shelf_heights::by_height::ShelvesByHeight;
 use shelf_heights::heights::raise;
 use shelf_notes::pending::PendingShelves;
-use shelf_records::{LinkedItem, LinkedShelf, Records};
+use shelf_records::{Chain, LinkedItem, LinkedShelf, Records, previous_of};
 
 /// The item that remains where one was freed, and how many item records became unused.
 #[derive(Drop)]

@@ -15,10 +15,10 @@ ghost use Rattle.shelf_store.specs.Private.FreshRecords as spec;
 ghost use Rattle.shelf_records.specs.Private.Kept.{AreKept};
 
 use etagere_base::Frame;
-use etagere_links::{Chain, Link, next_of};
+use etagere_links::Link;
 use shelf_heights::by_height::{BoundedShelf, ShelvesByHeight};
 use shelf_heights::heights::bounded;
-use shelf_records::{LinkedItem, LinkedShelf, Records};
+use shelf_records::{Chain, LinkedItem, LinkedShelf, Records, next_of};
 use std::alloc::{AllocError, Global};
 
 /// A new atlas has room for so many shelves by height, and for notes of them, so that the first few take no memory there.

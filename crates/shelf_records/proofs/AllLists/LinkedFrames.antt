@@ -4,13 +4,14 @@ use Rattle.std.specs.Prelude.{slice_get, option_and_then}
 use Rattle.etagere_base.proofs.TimesLemmas.{times-append}
 use Rattle.std.specs.List.{AllByRecursion}
 use Rattle.etagere_base.specs.Lists.{times}
-use Rattle.etagere_links.specs.Chains.{IsPileIn, IsChainIn}
+use Rattle.shelf_records.specs.Chains.{IsPileIn, IsChainIn}
 use Rattle.shelf_records.specs.declared.records.LinkedShelf.{LinkedShelf}
 use Rattle.etagere_links.specs.Edits.{link_at}
-use Rattle.etagere_links.specs.Families.{Family}
+use Rattle.shelf_records.specs.Families.{Family}
 use Rattle.shelf_records.specs.RecordLists.{Records, Entry, first_item_of, first_free_of, shelf_numbers, item_numbers, IsEntry}
 use Rattle.shelf_records.specs.Records.{item_chain, free_list}
-use Rattle.etagere_links.proofs.Chains.{Leads-frame, LeadsBack-frame}
+use Rattle.etagere_links.proofs.Chains.{Leads-frame}
+use Rattle.shelf_records.proofs.Chains.{LeadsBack-frame}
 use Rattle.etagere_links.proofs.ListEnds.{times-here}
 
 -- the records of these numbers are the same

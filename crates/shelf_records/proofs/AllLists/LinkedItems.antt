@@ -6,23 +6,25 @@ use Rattle.etagere_base.proofs.TimesLemmas.{times-append}
 use Rattle.etagere_base.specs.Lists.{times}
 use Rattle.shelf_records.specs.declared.records.LinkedItem.{LinkedItem}
 use Rattle.shelf_records.specs.declared.records.LinkedShelf.{LinkedShelf}
-use Rattle.etagere_links.specs.Chains.{IsChainIn}
-use Rattle.etagere_links.specs.Edits.{link_at, unlinked, first_without, linked_between}
-use Rattle.etagere_links.specs.Families.{Family, IsFamily, IsUnchanged}
-use Rattle.etagere_links.specs.Lists.{first_or, last_or}
+use Rattle.shelf_records.specs.Chains.{IsChainIn}
+use Rattle.etagere_links.specs.Edits.{link_at}
+use Rattle.shelf_records.specs.ListEdits.{unlinked, first_without, linked_between}
+use Rattle.shelf_records.specs.Families.{Family, IsFamily, IsUnchanged}
+use Rattle.shelf_records.specs.ListEnds.{first_or, last_or}
 use Rattle.shelf_records.specs.RecordEdits.{with_first_item, with_first_free, item_unlinked, item_inserted_after, free_unlinked, free_inserted_front, free_inserted_after}
 use Rattle.shelf_records.specs.RecordLists.{Records, Entry, first_item_of, first_free_of, IsEntry, IsLinkedExcept}
 use Rattle.shelf_records.specs.Records.{item_chain, free_list}
-use Rattle.etagere_links.proofs.Chains.{Leads-start, next-is, previous-is}
+use Rattle.shelf_records.proofs.Chains.{Leads-start, next-is, previous-is}
 use Rattle.shelf_records.proofs.Families.{item_chain-laws, free_list-laws}
 use Rattle.etagere_links.proofs.FieldChanges.{field_at-changed, field_at-kept}
 use Rattle.shelf_records.proofs.FirstLinks.{to_first_item, to_first_free, SameChain, chain-kept, chain-same_all}
 use Rattle.shelf_records.proofs.AllLists.LinkedEdits.{Around, with_entry, IsApart, linked-apart, entry-edited}
 use Rattle.shelf_records.proofs.AllLists.LinkedFrames.{chain-same}
-use Rattle.etagere_links.proofs.ListEnds.{times-here, times-other, first-stands}
+use Rattle.etagere_links.proofs.ListEnds.{times-here, times-other}
+use Rattle.shelf_records.proofs.ListEnds.{first-stands}
 use Rattle.etagere_links.proofs.RecordChanges.{link_at-same}
-use Rattle.etagere_links.proofs.RecordFrames.{map-unlinked, map-linked_between, length-unlinked, length-linked_between, get-unlinked, get-linked}
-use Rattle.etagere_links.proofs.RecordLists.{without-first, unlinked-spells, inserted_front-spells, inserted_after-spells}
+use Rattle.shelf_records.proofs.RecordFrames.{map-unlinked, map-linked_between, length-unlinked, length-linked_between, get-unlinked, get-linked}
+use Rattle.shelf_records.proofs.RecordLists.{without-first, unlinked-spells, inserted_front-spells, inserted_after-spells}
 use Rattle.etagere_links.proofs.WalkedLists.{IsPart}
 
 -- the lists of a shelf

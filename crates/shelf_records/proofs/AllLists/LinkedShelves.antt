@@ -5,23 +5,26 @@ use Rattle.etagere_base.proofs.TimesLemmas.{times-append}
 use Rattle.std.specs.List.{AllByRecursion}
 use Rattle.etagere_base.specs.Lists.{times}
 use Rattle.shelf_records.specs.declared.records.LinkedShelf.{LinkedShelf}
-use Rattle.etagere_links.specs.Chains.{IsChainIn}
-use Rattle.etagere_links.specs.Edits.{link_at, unlinked, first_without, linked_between}
-use Rattle.etagere_links.specs.Families.{IsUnchanged}
-use Rattle.etagere_links.specs.Lists.{first_or, last_or, HasEachOnce}
+use Rattle.shelf_records.specs.Chains.{IsChainIn}
+use Rattle.etagere_links.specs.Edits.{link_at}
+use Rattle.shelf_records.specs.ListEdits.{unlinked, first_without, linked_between}
+use Rattle.shelf_records.specs.Families.{IsUnchanged}
+use Rattle.etagere_links.specs.Lists.{HasEachOnce}
+use Rattle.shelf_records.specs.ListEnds.{first_or, last_or}
 use Rattle.shelf_records.specs.RecordEdits.{shelf_unlinked, shelf_inserted_after}
 use Rattle.shelf_records.specs.RecordLists.{Records, Entry, shelf_numbers, item_numbers, IsEntry, IsLinkedExcept}
 use Rattle.shelf_records.specs.Records.{shelf_chain}
-use Rattle.etagere_links.proofs.Chains.{Leads-start, next-is, previous-is}
+use Rattle.shelf_records.proofs.Chains.{Leads-start, next-is, previous-is}
 use Rattle.shelf_records.proofs.Families.{shelf_chain-laws}
 use Rattle.etagere_links.proofs.FieldChanges.{field_at-same}
 use Rattle.shelf_records.proofs.AllLists.LinkedEdits.{Around, with_entry}
 use Rattle.shelf_records.proofs.AllLists.LinkedFrames.{pile-frame, entries-frame, item_numbers-append, shelf_numbers-append}
 use Rattle.shelf_records.proofs.AllLists.LinkedUnused.{lists_of, three-count, IsLoose, loose-of}
 use Rattle.etagere_links.proofs.WalkedLists.{once-part, IsPart, part-of}
-use Rattle.etagere_links.proofs.ListEnds.{times-here, first-stands}
-use Rattle.etagere_links.proofs.RecordFrames.{map-unlinked, map-linked_between, length-unlinked, length-linked_between, get-unlinked, get-linked}
-use Rattle.etagere_links.proofs.RecordLists.{without-first, unlinked-spells, inserted_after-spells}
+use Rattle.etagere_links.proofs.ListEnds.{times-here}
+use Rattle.shelf_records.proofs.ListEnds.{first-stands}
+use Rattle.shelf_records.proofs.RecordFrames.{map-unlinked, map-linked_between, length-unlinked, length-linked_between, get-unlinked, get-linked}
+use Rattle.shelf_records.proofs.RecordLists.{without-first, unlinked-spells, inserted_after-spells}
 
 -- what shelves begin with is no part of the links between shelves
 shelves-keep_items : IsUnchanged shelf_chain (λ (x : LinkedShelf). x.first_item)

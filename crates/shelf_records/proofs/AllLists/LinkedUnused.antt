@@ -4,7 +4,7 @@ use Rattle.etagere_base.proofs.TimesLemmas.{times-append}
 use Rattle.etagere_base.specs.Lists.{times}
 use Rattle.shelf_records.specs.declared.records.LinkedItem.{LinkedItem}
 use Rattle.shelf_records.specs.declared.records.LinkedShelf.{LinkedShelf}
-use Rattle.etagere_links.specs.Edits.{made_unused}
+use Rattle.shelf_records.specs.ListEdits.{made_unused}
 use Rattle.shelf_records.specs.RecordEdits.{item_made_unused, item_taken, shelf_made_unused, shelf_taken}
 use Rattle.shelf_records.specs.RecordLists.{Records, Entry, Lists, shelf_numbers, item_numbers, IsLinkedExcept}
 use Rattle.etagere_links.specs.Lists.{HasEachOnce}
@@ -14,8 +14,8 @@ use Rattle.etagere_links.proofs.FieldChanges.{field_at-kept}
 use Rattle.shelf_records.proofs.AllLists.LinkedFrames.{chain-frame, entries-frame}
 use Rattle.etagere_links.proofs.WalkedLists.{once-part}
 use Rattle.etagere_links.proofs.ListEnds.{times-here}
-use Rattle.etagere_links.proofs.RecordFrames.{length-made_unused, get-made_unused}
-use Rattle.etagere_links.proofs.RecordLists.{made_unused-spells}
+use Rattle.shelf_records.proofs.RecordFrames.{length-made_unused, get-made_unused}
+use Rattle.shelf_records.proofs.RecordLists.{made_unused-spells}
 
 -- lists of shelves, and of what became unused
 abbrev pub lists_of : List Entry → List ℕ → List ℕ → Lists

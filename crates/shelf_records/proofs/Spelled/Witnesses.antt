@@ -3,7 +3,7 @@ use Rattle.std.proofs.Common.{pos, ◌≡◌, ℕ, ◌≤◌, false, None, List,
 use Rattle.std.specs.Prelude.{◌<◌, ◌%◌}
 use Rattle.etagere_base.specs.declared.frames.Frame as frames
 use Rattle.etagere_base.specs.declared.faults.RestoreFault.TheVariants.{Frame, Counts, Link, Shelves, Runs, Neighbours, FreeList, Sharing, Unused, Space, Memory}
-use Rattle.etagere_links.specs.Chains.{IsPileIn, LeadsBack}
+use Rattle.shelf_records.specs.Chains.{IsPileIn, LeadsBack}
 use Rattle.etagere_links.specs.Edits.{link_at}
 use Rattle.etagere_links.proofs.WalkedLists.{walk_by-fits}
 use Rattle.shelf_records.specs.Records.{free_list, item_chain, shelf_chain}

@@ -5,8 +5,9 @@ use Rattle.etagere_base.specs.declared.faults.RestoreFault.TheVariants as faults
 use Rattle.std.specs.List.{AllByRecursion}
 use Rattle.etagere_links.specs.declared.marking.WalkFault.{WalkFault}
 use Rattle.etagere_links.specs.declared.marking.WalkFault.TheVariants.{OutOfRange, Marked, Circular, Memory}
-use Rattle.etagere_links.specs.Edits.{AreFitting, link_at}
-use Rattle.etagere_links.specs.Chains.{LeadsBack}
+use Rattle.etagere_links.specs.Edits.{link_at}
+use Rattle.shelf_records.specs.ListEdits.{AreFitting}
+use Rattle.shelf_records.specs.Chains.{LeadsBack}
 use Rattle.etagere_links.specs.Links.{bits_of, link_of, no_link}
 use Rattle.shelf_records.specs.RecordLists.{Records, Entry, first_free_of, first_item_of, free_walk, item_numbers, item_walk, shelf_walk, unused_item_walk, unused_shelf_walk}
 use Rattle.etagere_links.specs.Lists.{HasEachOnce}

@@ -5,7 +5,7 @@ use Rattle.etagere_base.specs.declared.frames.Frame.{Frame}
 use Rattle.etagere_base.specs.Lists.{NoNeighbours}
 use Rattle.std.specs.List.{AllByRecursion}
 use Rattle.std.specs.Prelude.{Decides}
-use Rattle.etagere_links.specs.Chains.{LeadsBack}
+use Rattle.shelf_records.specs.Chains.{LeadsBack}
 use Rattle.etagere_links.specs.Edits.{link_at}
 use Rattle.shelf_records.specs.declared.records.LinkedItem.{LinkedItem}
 use Rattle.shelf_records.specs.Records.{item_chain}

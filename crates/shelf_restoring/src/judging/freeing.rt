@@ -12,8 +12,7 @@ ghost use Rattle.shelf_records.specs.StandsFor.{free_present};
 ghost use Rattle.shelf_restoring.specs.Private.Rules.{FreeOwn};
 
 use crate::judging::linking::links_back;
-use etagere_links::FreeList;
-use shelf_records::{LinkedItem, fields};
+use shelf_records::{FreeList, LinkedItem, fields};
 use std::alloc::{AllocError, Global};
 
 /// The marks of the items in use, of so many: all but those unused.

@@ -18,8 +18,8 @@ ghost use Rattle.shelf_restoring.specs.Private.Rules.{ApartFrom, LinkedFrom, Row
 
 use crate::judging::linking::is_link_to;
 use etagere_base::Frame;
-use etagere_links::{Chain, is_multiple, previous_of};
-use shelf_records::{LinkedItem, fields};
+use etagere_links::is_multiple;
+use shelf_records::{Chain, LinkedItem, fields, previous_of};
 
 /// What is found of the items of a shelf.
 #[derive(Clone, Copy, Drop)]

@@ -2,10 +2,11 @@
 //!
 //! Definitions: `LeadsBack` of `Chains`.
 ghost use Rattle.std.specs.Prelude.{◌≡◌, None, Decides};
-ghost use Rattle.etagere_links.specs.Chains.{LeadsBack};
+ghost use Rattle.shelf_records.specs.Chains.{LeadsBack};
 ghost use Rattle.etagere_links.specs.Edits.{link_at};
 
-use etagere_links::{Link, Linked, previous_of};
+use etagere_links::Link;
+use shelf_records::{Linked, previous_of};
 
 /// Whether a link names this record, or none.
 pub fn is_link_to(link: Link, number: Option<usize>) -> bool

@@ -9,11 +9,11 @@ use Rattle.etagere_base.specs.MergingAt.{merged_at, merged_before}
 use Rattle.shelf_records.proofs.AllLists.LinkedItems.{entry_of}
 use Rattle.shelf_records.specs.declared.records.LinkedItem.{LinkedItem}
 use Rattle.etagere_links.specs.Edits.{link_at}
-use Rattle.etagere_links.specs.Lists.{first_or, last_or}
+use Rattle.shelf_records.specs.ListEnds.{first_or, last_or}
 use Rattle.shelf_records.specs.RecordLists.{IsEntry, first_item_of}
 use Rattle.shelf_records.specs.Records.{item_chain}
-use Rattle.etagere_links.proofs.Chains.{next-is, previous-is}
-use Rattle.etagere_links.proofs.ListEnds.{last-append}
+use Rattle.shelf_records.proofs.Chains.{next-is, previous-is}
+use Rattle.shelf_records.proofs.ListEnds.{last-append}
 use Rattle.shelf_records.specs.AtlasRecords.{AtlasRecords, is_allocated_at, item_at, width_of}
 use Rattle.shelf_model.specs.Merging.{both_free, combined_items, merged_items}
 use Rattle.shelf_store.specs.Private.ItemReturned.{free_named}

@@ -3,7 +3,8 @@ use Rattle.std.proofs.Common.{◌≡◌, ◌≢◌, ℕ, ◌+◌, ◌*◌, ◌<�
 use Rattle.std.proofs.lemmas.List.{length-append}
 use Rattle.etagere_base.specs.Lists.{times}
 use Rattle.etagere_base.specs.declared.frames.Frame.{Frame}
-use Rattle.etagere_links.specs.Edits.{changed_by, first_without, link_at, linked_between}
+use Rattle.etagere_links.specs.Edits.{changed_by, link_at}
+use Rattle.shelf_records.specs.ListEdits.{first_without, linked_between}
 use Rattle.shelf_records.specs.RecordLists.{Records, first_free_of, shelf_walk}
 use Rattle.shelf_records.specs.RecordMerges.{shelf_split}
 use Rattle.shelf_records.specs.RecordUses.{new_shelf, rests_of, rests_used, shelves_used}
@@ -12,7 +13,7 @@ use Rattle.shelf_records.specs.declared.records.LinkedItem.{LinkedItem}
 use Rattle.shelf_records.specs.declared.records.LinkedShelf.{LinkedShelf}
 use Rattle.etagere_links.proofs.FieldChanges.{field_at-kept}
 use Rattle.etagere_links.proofs.RecordChanges.{length-changed_by}
-use Rattle.etagere_links.proofs.RecordFrames.{length-linked_between, map-linked_between}
+use Rattle.shelf_records.proofs.RecordFrames.{length-linked_between, map-linked_between}
 use Rattle.shelf_records.specs.AtlasRecords.{across_of, along_of, height_of}
 use Rattle.shelf_model.specs.Choice.{Placement}
 use Rattle.shelf_heights.specs.Private.ByHeight.{order_of, chain_order}

@@ -10,7 +10,8 @@ use Rattle.shelf_records.proofs.AllLists.LinkedItems.{entry_of}
 use Rattle.shelf_records.proofs.AllLists.LinkedEdits.{linked-apart, around_of}
 use Rattle.shelf_records.specs.declared.records.LinkedItem.{LinkedItem}
 use Rattle.shelf_records.specs.declared.records.LinkedShelf.{LinkedShelf}
-use Rattle.etagere_links.specs.Edits.{changed_by, link_at, linked_between}
+use Rattle.etagere_links.specs.Edits.{changed_by, link_at}
+use Rattle.shelf_records.specs.ListEdits.{linked_between}
 use Rattle.shelf_records.specs.RecordEdits.{item_changed, shelf_changed, shelf_inserted_after}
 use Rattle.shelf_records.specs.RecordLists.{Entry, IsEntry, IsLinkedExcept, Records, item_numbers, shelf_numbers}
 use Rattle.shelf_records.specs.RecordMaking.{started}
@@ -23,7 +24,7 @@ use Rattle.shelf_records.proofs.AllLists.LinkedShelves.{shelf_inserted_after-lin
 use Rattle.shelf_records.proofs.AllLists.LinkedUnused.{IsLoose, lists_of, loose-of}
 use Rattle.shelf_records.proofs.AllLists.LinkedUses.{but_first}
 use Rattle.etagere_links.proofs.RecordChanges.{get-changed_by-other, length-changed_by, link_at-changed}
-use Rattle.etagere_links.proofs.RecordFrames.{map-linked_between}
+use Rattle.shelf_records.proofs.RecordFrames.{map-linked_between}
 use Rattle.shelf_records.specs.AtlasRecords.{across_of, along_of, height_of, is_allocated_at, is_empty_at, item_at, item_place_of, shelf_of, spelled_item, spelled_shelf}
 use Rattle.shelf_records.specs.Private.Kept.{bare}
 use Rattle.shelf_records.proofs.Spelled.Witnessed.{HasFlag, IsPlaced}

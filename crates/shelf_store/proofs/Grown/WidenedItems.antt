@@ -16,7 +16,7 @@ use Rattle.shelf_records.specs.Records.{free_list, item_chain}
 use Rattle.etagere_links.proofs.FieldChanges.{field_at-changed}
 use Rattle.etagere_links.proofs.ListEnds.{times-here}
 use Rattle.etagere_links.proofs.RecordChanges.{get-changed_by-other, length-changed_by}
-use Rattle.etagere_links.proofs.RecordFrames.{map-linked_between}
+use Rattle.shelf_records.proofs.RecordFrames.{map-linked_between}
 use Rattle.shelf_records.specs.AtlasRecords.{is_allocated_at, item_at, item_place_of, shelf_of, spelled_item}
 use Rattle.shelf_model.specs.Growing.{ends_free}
 use Rattle.shelf_store.specs.Private.RecordsGrown.{Growing, after_item, end_inserted, next_item}

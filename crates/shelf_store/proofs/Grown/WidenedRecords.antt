@@ -6,10 +6,10 @@ use Rattle.etagere_base.specs.declared.frames.Frame.{Frame}
 use Rattle.std.specs.List.{AllByRecursion}
 use Rattle.etagere_base.specs.Lists.{total}
 use Rattle.etagere_links.specs.Edits.{link_at}
-use Rattle.etagere_links.specs.Lists.{first_or}
+use Rattle.shelf_records.specs.ListEnds.{first_or}
 use Rattle.shelf_records.specs.RecordLists.{Entry, shelf_numbers}
 use Rattle.shelf_records.specs.Records.{shelf_chain}
-use Rattle.etagere_links.proofs.Chains.{Leads-start, next-is}
+use Rattle.shelf_records.proofs.Chains.{Leads-start, next-is}
 use Rattle.shelf_records.proofs.AllLists.LinkedFrames.{shelf_numbers-append}
 use Rattle.shelf_records.specs.AtlasRecords.{spelled_shelf}
 use Rattle.shelf_model.specs.Growing.{ends_free}

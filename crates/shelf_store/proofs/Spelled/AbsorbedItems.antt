@@ -7,15 +7,16 @@ use Rattle.etagere_base.proofs.TimesLemmas.{times-append}
 use Rattle.std.specs.List.{AllByRecursion}
 use Rattle.etagere_base.specs.Lists.{times}
 use Rattle.shelf_records.specs.declared.records.LinkedItem.{LinkedItem}
-use Rattle.etagere_links.specs.Edits.{changed_by, unlinked, made_unused}
-use Rattle.etagere_links.specs.Families.{IsUnchanged}
+use Rattle.etagere_links.specs.Edits.{changed_by}
+use Rattle.shelf_records.specs.ListEdits.{unlinked, made_unused}
+use Rattle.shelf_records.specs.Families.{IsUnchanged}
 use Rattle.shelf_records.specs.RecordLists.{Records}
 use Rattle.shelf_records.specs.RecordMerges.{free_absorbed, allocated_absorbed}
 use Rattle.shelf_records.specs.Records.{item_chain, free_list}
 use Rattle.etagere_links.proofs.ListEnds.{times-here}
 use Rattle.etagere_links.proofs.FieldChanges.{field_at-changed, field_at-kept}
 use Rattle.etagere_links.proofs.RecordChanges.{get-changed_by-other, length-changed_by}
-use Rattle.etagere_links.proofs.RecordFrames.{map-unlinked, map-made_unused, length-unlinked, length-made_unused}
+use Rattle.shelf_records.proofs.RecordFrames.{map-unlinked, map-made_unused, length-unlinked, length-made_unused}
 use Rattle.shelf_records.specs.AtlasRecords.{is_allocated_at, item_place_of, shelf_of, item_at}
 use Rattle.shelf_records.specs.StandsFor.{LieFrom}
 use Rattle.shelf_model.specs.State.{Item}

@@ -7,7 +7,7 @@ use Rattle.etagere_base.specs.Lists.{times}
 use Rattle.shelf_records.proofs.AllLists.LinkedEdits.{linked-apart, Around, with_entry}
 use Rattle.shelf_records.specs.declared.records.LinkedItem.{LinkedItem}
 use Rattle.shelf_records.specs.declared.records.LinkedShelf.{LinkedShelf}
-use Rattle.etagere_links.specs.Chains.{IsChainIn}
+use Rattle.shelf_records.specs.Chains.{IsChainIn}
 use Rattle.shelf_records.specs.RecordLists.{Records, Entry, Lists, IsEntry, first_item_of, shelf_numbers}
 use Rattle.shelf_records.specs.Records.{item_chain}
 use Rattle.shelf_records.proofs.AllLists.LinkedFields.{KeepsShelfLinks, shelf_changed-linked}

@@ -8,7 +8,8 @@ use Rattle.etagere_base.specs.declared.frames.Frame.{Frame}
 use Rattle.etagere_base.specs.Frames.{HasAllColumns, IsFrame, across_side}
 use Rattle.etagere_base.proofs.FrameSides.{columns-le}
 use Rattle.etagere_base.specs.Lists.{times}
-use Rattle.etagere_links.specs.Chains.{IsChainIn, Leads, LeadsBack}
+use Rattle.etagere_links.specs.Chains.{Leads}
+use Rattle.shelf_records.specs.Chains.{IsChainIn, LeadsBack}
 use Rattle.shelf_records.specs.declared.records.LinkedItem.{LinkedItem}
 use Rattle.shelf_records.specs.declared.records.LinkedShelf.{LinkedShelf}
 use Rattle.etagere_links.specs.Edits.{link_at, field_at}

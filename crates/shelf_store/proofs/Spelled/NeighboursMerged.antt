@@ -7,13 +7,14 @@ use Rattle.etagere_base.proofs.TimesLemmas.{times-append}
 use Rattle.etagere_base.specs.Lists.{times}
 use Rattle.etagere_base.specs.MergingAt.{merged_at, merged_before}
 use Rattle.etagere_links.specs.Edits.{link_at}
-use Rattle.etagere_links.specs.Lists.{last_or}
-use Rattle.etagere_links.specs.Neighbours.{HasNeighbours, NamesOneOf}
+use Rattle.shelf_records.specs.ListEnds.{last_or}
+use Rattle.shelf_records.specs.Neighbours.{HasNeighbours, NamesOneOf}
 use Rattle.shelf_records.specs.RecordLists.{Entry, first_item_of, item_numbers, shelf_numbers}
 use Rattle.shelf_records.specs.Records.{shelf_chain}
 use Rattle.shelf_records.proofs.AllLists.LinkedFrames.{item_numbers-append, shelf_numbers-append}
 use Rattle.shelf_records.proofs.AllLists.LinkedUnused.{lists_of}
-use Rattle.etagere_links.proofs.ListEnds.{last-append, times-here}
+use Rattle.etagere_links.proofs.ListEnds.{times-here}
+use Rattle.shelf_records.proofs.ListEnds.{last-append}
 use Rattle.shelf_records.specs.AtlasRecords.{AtlasRecords, height_of, spelled_shelf}
 use Rattle.shelf_model.specs.Merging.{both_empty, combined_shelves}
 use Rattle.shelf_model.specs.Places.{column_height}

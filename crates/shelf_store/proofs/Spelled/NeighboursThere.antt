@@ -6,15 +6,16 @@ use Rattle.etagere_base.specs.Lists.{times}
 use Rattle.shelf_records.proofs.AllLists.LinkedItems.{entry_of}
 use Rattle.shelf_records.proofs.AllLists.LinkedEdits.{IsApart, linked-apart, Around, with_entry}
 use Rattle.shelf_records.specs.declared.records.LinkedItem.{LinkedItem}
-use Rattle.etagere_links.specs.Chains.{IsChainIn}
+use Rattle.shelf_records.specs.Chains.{IsChainIn}
 use Rattle.etagere_links.specs.Edits.{link_at}
-use Rattle.etagere_links.specs.Families.{Family}
-use Rattle.etagere_links.specs.Lists.{first_or, last_or}
-use Rattle.etagere_links.specs.Neighbours.{HasNeighbours, NamesOneOf}
+use Rattle.shelf_records.specs.Families.{Family}
+use Rattle.shelf_records.specs.ListEnds.{first_or, last_or}
+use Rattle.shelf_records.specs.Neighbours.{HasNeighbours, NamesOneOf}
 use Rattle.shelf_records.specs.RecordLists.{Records, Entry, IsEntry, IsLinked, IsLinkedExcept, Lists, first_free_of, first_item_of, item_numbers, shelf_numbers}
 use Rattle.shelf_records.specs.Records.{free_list, item_chain, shelf_chain}
-use Rattle.etagere_links.proofs.Chains.{Leads-start, next-is, previous-is}
-use Rattle.etagere_links.proofs.ListEnds.{first-stands, last-stands-in, times-here}
+use Rattle.shelf_records.proofs.Chains.{Leads-start, next-is, previous-is}
+use Rattle.etagere_links.proofs.ListEnds.{times-here}
+use Rattle.shelf_records.proofs.ListEnds.{first-stands, last-stands-in}
 use Rattle.etagere_links.proofs.WalkedLists.{once-part}
 use Rattle.shelf_records.specs.AtlasRecords.{AtlasRecords, is_allocated_at}
 use Rattle.shelf_store.specs.Private.ItemReturned.{FreeNextIsThere, AreThere, free_named, free_next}

@@ -12,7 +12,7 @@ use Rattle.shelf_records.specs.declared.records.LinkedItem.{LinkedItem}
 use Rattle.etagere_links.specs.Edits.{link_at}
 use Rattle.shelf_records.specs.RecordLists.{Records, Entry, IsEntry, first_item_of}
 use Rattle.shelf_records.specs.Records.{item_chain}
-use Rattle.etagere_links.proofs.Chains.{next-is}
+use Rattle.shelf_records.proofs.Chains.{next-is}
 use Rattle.shelf_records.specs.AtlasRecords.{AtlasRecords, is_allocated_at, item_place_of, along_of, item_at, spelled_shelf, width_of}
 use Rattle.shelf_model.specs.Merging.{both_free, combined_items}
 use Rattle.shelf_store.specs.Private.ItemReturned.{Step, free_named, free_next, next_absorbed}

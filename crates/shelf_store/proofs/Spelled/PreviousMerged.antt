@@ -11,11 +11,11 @@ use Rattle.shelf_records.proofs.AllLists.LinkedItems.{entry_of}
 use Rattle.shelf_records.proofs.AllLists.LinkedEdits.{linked-apart, Around, with_entry}
 use Rattle.shelf_records.specs.declared.records.LinkedItem.{LinkedItem}
 use Rattle.etagere_links.specs.Edits.{link_at}
-use Rattle.etagere_links.specs.Lists.{last_or}
+use Rattle.shelf_records.specs.ListEnds.{last_or}
 use Rattle.shelf_records.specs.RecordLists.{Records, Entry, IsEntry}
 use Rattle.shelf_records.specs.Records.{item_chain}
-use Rattle.etagere_links.proofs.Chains.{previous-is}
-use Rattle.etagere_links.proofs.ListEnds.{last-append}
+use Rattle.shelf_records.proofs.Chains.{previous-is}
+use Rattle.shelf_records.proofs.ListEnds.{last-append}
 use Rattle.shelf_records.specs.AtlasRecords.{AtlasRecords, is_allocated_at, item_place_of, item_at, spelled_shelf, width_of}
 use Rattle.shelf_model.specs.Merging.{both_free, combined_items}
 use Rattle.shelf_store.specs.Private.ItemReturned.{Step, free_named, free_previous, freed_after, remaining_item}

@@ -9,13 +9,13 @@ use Rattle.etagere_base.specs.Lists.{times}
 use Rattle.shelf_records.proofs.AllLists.LinkedItems.{entry_of}
 use Rattle.shelf_records.proofs.AllLists.LinkedEdits.{linked-apart, Around, with_entry}
 use Rattle.shelf_records.specs.declared.records.LinkedItem.{LinkedItem}
-use Rattle.etagere_links.specs.Chains.{IsChainIn}
+use Rattle.shelf_records.specs.Chains.{IsChainIn}
 use Rattle.etagere_links.specs.Edits.{link_at}
-use Rattle.etagere_links.specs.Lists.{first_or, last_or}
+use Rattle.shelf_records.specs.ListEnds.{first_or, last_or}
 use Rattle.shelf_records.specs.RecordLists.{Records, Entry, IsEntry, first_item_of}
 use Rattle.shelf_records.specs.Records.{item_chain}
-use Rattle.etagere_links.proofs.Chains.{Leads-start, next-is, previous-is}
-use Rattle.etagere_links.proofs.ListEnds.{last-stands-in}
+use Rattle.shelf_records.proofs.Chains.{Leads-start, next-is, previous-is}
+use Rattle.shelf_records.proofs.ListEnds.{last-stands-in}
 use Rattle.shelf_records.specs.AtlasRecords.{AtlasRecords, is_allocated_at, is_empty_at, item_at, spelled_shelf, width_of}
 use Rattle.shelf_store.specs.Private.ItemReturned.{IsRemaining, Step, free_named, free_next, free_previous, freed_after, is_alone, item_merged, remaining_in, names_one_free, next_absorbed}
 use Rattle.shelf_records.proofs.Spelled.Witnessed.{HasFlag}

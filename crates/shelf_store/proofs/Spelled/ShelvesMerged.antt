@@ -12,10 +12,10 @@ use Rattle.shelf_records.proofs.AllLists.LinkedEdits.{linked-apart, around_of, A
 use Rattle.shelf_records.specs.declared.records.LinkedItem.{LinkedItem}
 use Rattle.shelf_records.specs.declared.records.LinkedShelf.{LinkedShelf}
 use Rattle.etagere_links.specs.Edits.{link_at}
-use Rattle.etagere_links.specs.Lists.{first_or, last_or}
+use Rattle.shelf_records.specs.ListEnds.{first_or, last_or}
 use Rattle.shelf_records.specs.RecordLists.{Records, Entry, IsEntry, first_item_of, shelf_numbers}
 use Rattle.shelf_records.specs.Records.{item_chain, shelf_chain}
-use Rattle.etagere_links.proofs.Chains.{Leads-start, next-is, previous-is}
+use Rattle.shelf_records.proofs.Chains.{Leads-start, next-is, previous-is}
 use Rattle.shelf_records.proofs.AllLists.LinkedFrames.{shelf_numbers-append}
 use Rattle.shelf_records.proofs.AllLists.LinkedUnused.{lists_of}
 use Rattle.etagere_links.proofs.ListEnds.{times-here}

@@ -7,7 +7,8 @@ use Rattle.etagere_base.specs.Lists.{times}
 use Rattle.shelf_records.proofs.AllLists.LinkedItems.{entry_of}
 use Rattle.shelf_records.proofs.AllLists.LinkedEdits.{linked-apart, Around, with_entry}
 use Rattle.shelf_records.specs.declared.records.LinkedItem.{LinkedItem}
-use Rattle.etagere_links.specs.Edits.{changed_by, link_at, first_without, linked_between, unlinked, field_at}
+use Rattle.etagere_links.specs.Edits.{changed_by, link_at, field_at}
+use Rattle.shelf_records.specs.ListEdits.{first_without, linked_between, unlinked}
 use Rattle.shelf_records.specs.RecordLists.{Records, Entry, first_free_of}
 use Rattle.shelf_records.specs.RecordMerges.{front_given}
 use Rattle.shelf_records.specs.Records.{item_chain, free_list}
@@ -15,7 +16,7 @@ use Rattle.etagere_links.proofs.FieldChanges.{field_at-changed, field_at-kept}
 use Rattle.shelf_records.proofs.AllLists.LinkedMerges.{front_given-linked}
 use Rattle.etagere_links.proofs.ListEnds.{times-here}
 use Rattle.etagere_links.proofs.RecordChanges.{get-changed_by-other}
-use Rattle.etagere_links.proofs.RecordFrames.{length-unlinked, length-linked_between, map-linked_between, map-unlinked}
+use Rattle.shelf_records.proofs.RecordFrames.{length-unlinked, length-linked_between, map-linked_between, map-unlinked}
 use Rattle.shelf_records.specs.AtlasRecords.{AtlasRecords, is_allocated_at, item_place_of, shelf_of, along_of, item_at, spelled_item}
 use Rattle.shelf_records.proofs.Spelled.Witnessed.{IsPlaced}
 use Rattle.shelf_records.specs.StandsFor.{LieFrom}

@@ -9,7 +9,8 @@ use Rattle.shelf_records.proofs.AllLists.LinkedItems.{entry_of}
 use Rattle.shelf_records.proofs.AllLists.LinkedEdits.{linked-apart, Around, with_entry}
 use Rattle.shelf_records.specs.declared.records.LinkedItem.{LinkedItem}
 use Rattle.shelf_records.specs.declared.records.LinkedShelf.{LinkedShelf}
-use Rattle.etagere_links.specs.Edits.{changed_by, link_at, first_without, linked_between, unlinked, field_at}
+use Rattle.etagere_links.specs.Edits.{changed_by, link_at, field_at}
+use Rattle.shelf_records.specs.ListEdits.{first_without, linked_between, unlinked}
 use Rattle.shelf_records.specs.RecordEdits.{free_unlinked, with_first_item, with_first_free}
 use Rattle.shelf_records.specs.RecordLists.{IsLinkedExcept, Records, Entry, first_item_of, first_free_of}
 use Rattle.shelf_records.specs.RecordMerges.{free_absorbed, allocated_absorbed, item_freed, item_given}
@@ -17,7 +18,7 @@ use Rattle.shelf_records.specs.Records.{item_chain, free_list}
 use Rattle.shelf_records.proofs.AllLists.LinkedMerges.{unused_too, free_absorbed-linked, allocated_absorbed-linked, item_freed-linked, item_given-linked}
 use Rattle.etagere_links.proofs.ListEnds.{times-here}
 use Rattle.etagere_links.proofs.RecordChanges.{map-changed_by}
-use Rattle.etagere_links.proofs.RecordFrames.{length-unlinked, map-linked_between, map-unlinked}
+use Rattle.shelf_records.proofs.RecordFrames.{length-unlinked, map-linked_between, map-unlinked}
 use Rattle.shelf_records.specs.AtlasRecords.{AtlasRecords, is_allocated_at, shelf_of, along_of, item_at}
 use Rattle.shelf_model.specs.State.{Item}
 use Rattle.shelf_store.proofs.Spelled.AbsorbedItems.{Absorbs, IsRest, rest-of, absorbed-places, absorbed-owners, absorbed-free, free-widens, widened-absorbs, allocated-absorbs, allocated-unmarked, frees-keep_values}

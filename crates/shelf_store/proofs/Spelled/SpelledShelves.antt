@@ -6,8 +6,8 @@ use Rattle.shelf_records.proofs.AllLists.LinkedItems.{entry_of}
 use Rattle.shelf_records.proofs.AllLists.LinkedEdits.{linked-apart, Around}
 use Rattle.shelf_records.specs.declared.records.LinkedItem.{LinkedItem}
 use Rattle.shelf_records.specs.declared.records.LinkedShelf.{LinkedShelf}
-use Rattle.etagere_links.specs.Edits.{unlinked, made_unused}
-use Rattle.etagere_links.specs.Families.{IsUnchanged}
+use Rattle.shelf_records.specs.ListEdits.{unlinked, made_unused}
+use Rattle.shelf_records.specs.Families.{IsUnchanged}
 use Rattle.shelf_records.specs.RecordLists.{Records, Entry, shelf_numbers}
 use Rattle.shelf_records.specs.RecordMerges.{shelf_absorbed}
 use Rattle.shelf_records.specs.Records.{item_chain, shelf_chain}
@@ -16,7 +16,7 @@ use Rattle.shelf_records.proofs.AllLists.LinkedMerges.{shelf_absorbed-linked}
 use Rattle.shelf_records.proofs.AllLists.LinkedFrames.{shelf_numbers-append}
 use Rattle.shelf_records.proofs.AllLists.LinkedUnused.{lists_of}
 use Rattle.etagere_links.proofs.RecordChanges.{length-changed_by}
-use Rattle.etagere_links.proofs.RecordFrames.{map-unlinked, map-made_unused, length-unlinked, length-made_unused}
+use Rattle.shelf_records.proofs.RecordFrames.{map-unlinked, map-made_unused, length-unlinked, length-made_unused}
 use Rattle.shelf_records.specs.AtlasRecords.{AtlasRecords, is_allocated_at, is_empty_at, along_of, across_of, height_of}
 use Rattle.shelf_store.proofs.Spelled.AbsorbedItems.{items-keep_values}
 use Rattle.shelf_records.proofs.Spelled.RecordValues.{item_values, shelf_values, SameItem, SameShelf, items-same, shelves-same, shelf-other}

@@ -9,7 +9,8 @@ use Rattle.shelf_records.proofs.AllLists.LinkedItems.{entry_of}
 use Rattle.shelf_records.proofs.AllLists.LinkedEdits.{linked-apart, Around, with_entry}
 use Rattle.shelf_records.specs.declared.records.LinkedItem.{LinkedItem}
 use Rattle.shelf_records.specs.declared.records.LinkedShelf.{LinkedShelf}
-use Rattle.etagere_links.specs.Edits.{changed_by, link_at, linked_between, field_at}
+use Rattle.etagere_links.specs.Edits.{changed_by, link_at, field_at}
+use Rattle.shelf_records.specs.ListEdits.{linked_between}
 use Rattle.etagere_links.specs.Links.{no_link}
 use Rattle.shelf_records.specs.RecordEdits.{item_changed}
 use Rattle.shelf_records.specs.RecordLists.{Records, Entry, shelf_numbers, item_numbers, IsEntry}
@@ -21,7 +22,7 @@ use Rattle.shelf_records.proofs.AllLists.LinkedFrames.{item_numbers-append, shel
 use Rattle.shelf_records.proofs.AllLists.LinkedSplits.{shelf_split-linked}
 use Rattle.shelf_records.proofs.AllLists.LinkedUnused.{lists_of, IsLoose, loose-of}
 use Rattle.etagere_links.proofs.RecordChanges.{get-changed_by-other, length-changed_by}
-use Rattle.etagere_links.proofs.RecordFrames.{map-linked_between, length-linked_between}
+use Rattle.shelf_records.proofs.RecordFrames.{map-linked_between, length-linked_between}
 use Rattle.shelf_records.specs.AtlasRecords.{AtlasRecords, is_allocated_at, item_place_of, shelf_of, along_of, across_of, height_of, is_empty_at, item_at, spelled_item, spelled_shelf}
 use Rattle.shelf_records.proofs.Spelled.Witnessed.{HasFlag, IsPlaced}
 use Rattle.shelf_store.specs.Private.PlacementTaken.{free_item, item_record, rest_shelf, shelf_record}

@@ -4,7 +4,7 @@ use Rattle.std.specs.Prelude.{◌≡◌, ℕ, ◌+◌, ◌<◌, ◌==◌, Bool, 
 use Rattle.shelf_records.specs.declared.records.LinkedItem.{LinkedItem}
 use Rattle.shelf_records.specs.declared.records.LinkedShelf.{LinkedShelf}
 use Rattle.etagere_links.specs.Edits.{link_at}
-use Rattle.etagere_links.specs.Neighbours.{HasNeighbours, NamesOneOf}
+use Rattle.shelf_records.specs.Neighbours.{HasNeighbours, NamesOneOf}
 use Rattle.shelf_records.specs.RecordEdits.{shelf_changed}
 use Rattle.shelf_records.specs.RecordLists.{Records, first_free_of, first_item_of}
 use Rattle.shelf_records.specs.RecordMerges.{free_absorbed, allocated_absorbed, item_freed, shelf_absorbed}

@@ -8,7 +8,7 @@ use Rattle.etagere_links.specs.Links.{no_link}
 use Rattle.shelf_records.specs.RecordEdits.{item_changed, shelf_changed}
 use Rattle.shelf_records.specs.RecordLists.{Records}
 use Rattle.etagere_links.specs.Edits.{field_at}
-use Rattle.etagere_links.specs.Neighbours.{HasNeighbours}
+use Rattle.shelf_records.specs.Neighbours.{HasNeighbours}
 use Rattle.shelf_records.specs.Records.{free_list, item_chain, shelf_chain}
 use Rattle.shelf_records.specs.RecordMerges.{item_given, front_given, shelf_split}
 use Rattle.shelf_records.specs.RecordUses.{new_item, new_shelf, rests_of, rests_used}

@@ -11,8 +11,7 @@ ghost use Rattle.shelf_store.specs.Private.RecordsGrown.{CanAppend};
 use crate::growing::Made;
 use crate::growing::inserting::{NewShelf, insert_shelf};
 use etagere_base::Frame;
-use etagere_links::{Chain, next_of};
-use shelf_records::{LinkedShelf, Records};
+use shelf_records::{Chain, LinkedShelf, Records, next_of};
 
 /// Appends the columns of a frame from this one on, each with an empty shelf.
 pub fn append_columns(records: &mut Records, made: &mut Made, frame: &Frame, first: u32)

@@ -8,8 +8,7 @@ ghost use Rattle.shelf_store.specs.Private.RecordsGrown as spec;
 
 use crate::growing::Needed;
 use etagere_base::Frame;
-use etagere_links::{Chain, next_of};
-use shelf_records::{LinkedItem, LinkedShelf, Records, fields};
+use shelf_records::{Chain, LinkedItem, LinkedShelf, Records, fields, next_of};
 
 /// How many records a growth to a frame needs.
 pub fn needed_for(frame: &Frame, grown: &Frame, records: &Records) -> Needed

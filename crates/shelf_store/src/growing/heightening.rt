@@ -9,8 +9,7 @@ ghost use Rattle.shelf_store.specs.Private.RecordsGrown.{CanHeighten, CanHeighte
 use crate::growing::Made;
 use crate::growing::counting::ends_column;
 use crate::growing::inserting::{NewShelf, insert_shelf};
-use etagere_links::{Chain, next_of};
-use shelf_records::{LinkedShelf, Records, fields};
+use shelf_records::{Chain, LinkedShelf, Records, fields, next_of};
 
 /// Adds a height at the end of each column.
 pub fn heighten_columns(records: &mut Records, made: &mut Made, width: u16, height: u16)

@@ -9,8 +9,7 @@ ghost use Rattle.shelf_store.specs.Private.RecordsGrown.{CanWiden, CanWidenAll};
 use crate::growing::Made;
 use crate::growing::counting::last_item;
 use crate::growing::inserting::use_item;
-use etagere_links::{Chain, next_of};
-use shelf_records::{LinkedShelf, Records, fields};
+use shelf_records::{Chain, LinkedShelf, Records, fields, next_of};
 
 /// Adds a width at the end of each shelf, which is at this place.
 pub fn widen_shelves(records: &mut Records, made: &mut Made, place: u16, width: u16)

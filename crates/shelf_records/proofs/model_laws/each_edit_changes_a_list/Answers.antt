@@ -1,13 +1,14 @@
 use Rattle.std.proofs.Common.{◌≡◌, ℕ, Option, None, List, ◌∷◌, ◌++◌, refl, subst, sym}
 use Rattle.std.specs.Prelude.{option_and_then}
-use Rattle.etagere_links.specs.Edits.{first_without, link_at, unlinked}
-use Rattle.etagere_links.specs.Chains.{IsChainIn, IsPileIn}
-use Rattle.etagere_links.specs.Families.{Family, IsFamily}
+use Rattle.etagere_links.specs.Edits.{link_at}
+use Rattle.shelf_records.specs.ListEdits.{first_without, unlinked}
+use Rattle.shelf_records.specs.Chains.{IsChainIn, IsPileIn}
+use Rattle.shelf_records.specs.Families.{Family, IsFamily}
 use Rattle.shelf_records.specs.Laws.{EditsAList}
-use Rattle.etagere_links.specs.Lists.{first_or, last_or}
-use Rattle.etagere_links.proofs.Chains.{Leads-start, next-is, previous-is}
+use Rattle.shelf_records.specs.ListEnds.{first_or, last_or}
+use Rattle.shelf_records.proofs.Chains.{Leads-start, next-is, previous-is}
 use Rattle.shelf_records.proofs.Families.{free_list-laws, item_chain-laws, shelf_chain-laws}
-use Rattle.etagere_links.proofs.RecordLists.{inserted_after-spells, inserted_front-spells, made_unused-spells, unlinked-spells, without-first}
+use Rattle.shelf_records.proofs.RecordLists.{inserted_after-spells, inserted_front-spells, made_unused-spells, unlinked-spells, without-first}
 use Rattle.shelf_records.proofs.model_laws.each_edit_changes_a_list.Goals as goal
 
 -- the link to the first of a list, where one was taken out

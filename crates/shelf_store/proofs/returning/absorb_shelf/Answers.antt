@@ -1,6 +1,6 @@
 use Rattle.std.proofs.Common.{◌≡◌, ℕ, ◌<◌, false, None, Some, List, ap, arith, get_or, length, refl, sym, ◌∙◌}
 use Rattle.etagere_links.specs.Edits.{field_at}
-use Rattle.etagere_links.specs.Neighbours.{HasNeighbours}
+use Rattle.shelf_records.specs.Neighbours.{HasNeighbours}
 use Rattle.etagere_links.proofs.FieldChanges.{field_at-within}
 use Rattle.shelf_records.specs.AtlasRecords.{height_of}
 use Rattle.shelf_records.specs.declared.records.LinkedShelf.{LinkedShelf}

@@ -1,6 +1,6 @@
 use Rattle.std.proofs.Common.{ℕ, ◌<◌, Option, Some, length, ap, subst}
 use Rattle.std.specs.Prelude.{IfSome}
-use Rattle.etagere_links.specs.Neighbours.{HasNeighbours}
+use Rattle.shelf_records.specs.Neighbours.{HasNeighbours}
 use Rattle.etagere_links.proofs.RecordChanges.{length-changed_by}
 use Rattle.shelf_records.specs.declared.records.LinkedItem.{LinkedItem}
 use Rattle.shelf_records.specs.RecordLists.{Records}

@@ -2,7 +2,8 @@ use Rattle.std.proofs.Common.{◌≡◌, ℕ, ◌<◌, Option, List, length, ap,
 use Rattle.std.proofs.lemmas.List.{with_items_is}
 use Rattle.shelf_records.specs.declared.records.LinkedItem.{LinkedItem}
 use Rattle.shelf_records.specs.declared.records.LinkedShelf.{LinkedShelf}
-use Rattle.etagere_links.specs.Edits.{link_at, first_without}
+use Rattle.etagere_links.specs.Edits.{link_at}
+use Rattle.shelf_records.specs.ListEdits.{first_without}
 use Rattle.shelf_records.specs.RecordLists.{Records}
 use Rattle.shelf_records.specs.RecordMerges.{allocated_absorbed}
 use Rattle.shelf_records.specs.Records.{item_chain}

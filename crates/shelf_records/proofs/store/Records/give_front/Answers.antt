@@ -2,9 +2,10 @@ use Rattle.std.proofs.Common.{◌≡◌, ℕ, ◌<◌, Option, Some, List, lengt
 use Rattle.std.proofs.lemmas.List.{with_items_is}
 use Rattle.shelf_records.specs.declared.records.LinkedItem.{LinkedItem}
 use Rattle.shelf_records.specs.declared.records.LinkedShelf.{LinkedShelf}
-use Rattle.etagere_links.specs.Edits.{link_at, linked_between, first_without}
-use Rattle.etagere_links.specs.Neighbours.{HasNeighbours}
-use Rattle.etagere_links.proofs.RecordFrames.{length-linked_between}
+use Rattle.etagere_links.specs.Edits.{link_at}
+use Rattle.shelf_records.specs.ListEdits.{linked_between, first_without}
+use Rattle.shelf_records.specs.Neighbours.{HasNeighbours}
+use Rattle.shelf_records.proofs.RecordFrames.{length-linked_between}
 use Rattle.shelf_records.specs.RecordLists.{Records}
 use Rattle.shelf_records.specs.RecordMerges.{front_given}
 use Rattle.shelf_records.specs.Records.{free_list, item_chain}

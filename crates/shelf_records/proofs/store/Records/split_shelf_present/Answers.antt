@@ -4,7 +4,8 @@ use Rattle.std.specs.Vec.{with_item, with_items}
 use Rattle.shelf_records.specs.declared.records.LinkedItem.{LinkedItem}
 use Rattle.shelf_records.specs.declared.records.LinkedShelf.{LinkedShelf}
 use Rattle.etagere_links.proofs.EditLemmas.{set-changed}
-use Rattle.etagere_links.specs.Edits.{changed_by, link_at, linked_between}
+use Rattle.etagere_links.specs.Edits.{changed_by, link_at}
+use Rattle.shelf_records.specs.ListEdits.{linked_between}
 use Rattle.shelf_records.specs.RecordLists.{Records}
 use Rattle.shelf_records.specs.RecordMerges.{shelf_split}
 use Rattle.shelf_records.specs.Records.{shelf_chain}

@@ -1,6 +1,6 @@
 use Rattle.std.proofs.Common.{None}
 use Rattle.etagere_base.proofs.DecidingLemmas.{IsLeft}
-use Rattle.etagere_links.specs.Chains.{LeadsBack}
+use Rattle.shelf_records.specs.Chains.{LeadsBack}
 use Rattle.etagere_links.specs.Edits.{link_at}
 use Rattle.shelf_restoring.proofs.judging.linking.links_back.Given as goal
 

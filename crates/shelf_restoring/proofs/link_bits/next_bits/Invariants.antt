@@ -2,7 +2,7 @@ use Rattle.std.proofs.Common.{◌≡◌, ℕ, ◌<◌, ◌≤◌, length, map, t
 use Rattle.std.specs.Prelude.{vec_capacity}
 use Rattle.etagere_links.specs.Edits.{link_at}
 use Rattle.etagere_links.specs.Links.{bits_of, link_of}
-use Rattle.etagere_links.proofs.lists.next_bits.Given as goal
+use Rattle.shelf_restoring.proofs.link_bits.next_bits.Given as goal
 
 abbrev pub invariant-loop-number : goal.invariant-loop-number
 invariant-loop-number g l = record {

@@ -3,9 +3,9 @@
 //! Definitions: `Families`. A record type that gets lists implements `Linked` once for each.
 
 ghost use Rattle.std.specs.Prelude.{◌≡◌};
-ghost use Rattle.etagere_links.specs.Families.{Family};
+ghost use Rattle.shelf_records.specs.Families.{Family};
 
-use crate::links::Link;
+use etagere_links::Link;
 
 /// The list in which every record that is in use stands.
 pub struct Chain;

@@ -1,15 +1,18 @@
 -- Lists of records: taking out, putting in, making unused and taking change one list as a list.
 use Rattle.std.proofs.Common.{◌≡◌, ◌≢◌, ℕ, ◌<◌, ◌≤◌, Option, None, Some, List, [], ◌∷◌, ◌++◌, length, refl, arith, subst, append_assoc, ◌∙◌}
-use Rattle.etagere_links.specs.Chains.{Leads, IsChainIn, IsPileIn}
-use Rattle.etagere_links.specs.Edits.{changed_by, link_at, unlinked, first_without, linked_between, made_unused}
-use Rattle.etagere_links.specs.Families.{Family, IsFamily}
+use Rattle.etagere_links.specs.Chains.{Leads}
+use Rattle.shelf_records.specs.Chains.{IsChainIn, IsPileIn}
+use Rattle.etagere_links.specs.Edits.{changed_by, link_at}
+use Rattle.shelf_records.specs.ListEdits.{unlinked, first_without, linked_between, made_unused}
+use Rattle.shelf_records.specs.Families.{Family, IsFamily}
 use Rattle.etagere_base.specs.Lists.{times}
-use Rattle.etagere_links.specs.Lists.{first_or, last_or}
-use Rattle.etagere_links.proofs.Chains.{Leads-frame, Leads-start, next-is, previous-is}
-use Rattle.etagere_links.proofs.ChainEdits.{unlink-forward, unlink-backward, insert-forward, insert-backward}
+use Rattle.shelf_records.specs.ListEnds.{first_or, last_or}
+use Rattle.etagere_links.proofs.Chains.{Leads-frame}
+use Rattle.shelf_records.proofs.Chains.{Leads-start, next-is, previous-is}
+use Rattle.shelf_records.proofs.ChainEdits.{unlink-forward, unlink-backward, insert-forward, insert-backward}
 use Rattle.etagere_links.proofs.RecordChanges.{length-changed_by, map-changed_by, link_at-changed, link_at-other, link_at-same}
 use Rattle.etagere_base.proofs.TimesLemmas.{times-append}
-use Rattle.etagere_links.proofs.ListEnds.{first-append, first-stands, last-append, last-stands-in}
+use Rattle.shelf_records.proofs.ListEnds.{first-append, first-stands, last-append, last-stands-in}
 
 -- the next link of a record whose next link was changed
 next-changed : {T : Type 0} (family : Family T) → IsFamily family → (xs : List T) (link value : Option ℕ) (k : ℕ) → link ≡ Some k → k < length xs → link_at family.next (changed_by link (family.with_next value) xs) k ≡ value

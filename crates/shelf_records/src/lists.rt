@@ -1,21 +1,20 @@
 //! Lists of records linked by number: inserting and taking out. A link that names no record changes
 //! nothing. What ends in `present` needs the records there that it changes, and tests no range.
 //!
-//! Definitions: `Edits`, and `Chains` for what they mean. One body serves every list of `Linked`.
+//! Definitions: `ListEdits`, and `Chains` for what they mean. One body serves every list of `Linked`.
 
-ghost use Rattle.std.specs.Prelude.{◌≡◌, ◌<◌, IfSome, IfOk, OnOk, length, map, option_and_then};
-ghost use Rattle.etagere_links.specs.Links.{no_link, bits_of};
-ghost use Rattle.etagere_links.specs.Edits.{AreFitting};
-ghost use Rattle.etagere_links.specs.Edits as spec;
-ghost use Rattle.etagere_links.specs.Neighbours.{HasNeighbours, NamesOneOf};
+ghost use Rattle.std.specs.Prelude.{◌≡◌, ◌<◌, IfSome, length, option_and_then};
+ghost use Rattle.etagere_links.specs.Links.{no_link};
+ghost use Rattle.etagere_links.specs.Edits.{changed_by, link_at};
+ghost use Rattle.shelf_records.specs.ListEdits as spec;
+ghost use Rattle.shelf_records.specs.Neighbours.{HasNeighbours, NamesOneOf};
 
 use crate::chained::Linked;
-use crate::links::Link;
-use std::alloc::{AllocError, Global};
+use etagere_links::Link;
 
 /// The link to the record after the one of this number; none where there is no such record.
 pub fn next_of<List, T: Linked<List>>(records: &[T], number: usize) -> Link
-    ensures { result ≡ spec.link_at T.family.next records.now number }
+    ensures { result ≡ link_at T.family.next records.now number }
 {
     if number < records.len() {
         records[number].next()
@@ -26,7 +25,7 @@ pub fn next_of<List, T: Linked<List>>(records: &[T], number: usize) -> Link
 
 /// The link to the record before the one of this number; none where there is no such record.
 pub fn previous_of<List, T: Linked<List>>(records: &[T], number: usize) -> Link
-    ensures { result ≡ spec.link_at T.family.previous records.now number }
+    ensures { result ≡ link_at T.family.previous records.now number }
 {
     if number < records.len() {
         records[number].previous()
@@ -35,27 +34,9 @@ pub fn previous_of<List, T: Linked<List>>(records: &[T], number: usize) -> Link
     }
 }
 
-/// The bits of the links to the next one, of all records in order of their numbers: what a walk follows.
-///
-/// Takes two bytes of memory for each record. The error comes only where there was no memory.
-pub fn next_bits<List, T: Linked<List>>(
-    alloc: Global,
-    records: &[T],
-) -> Result<Vec<u16>, AllocError>
-    ensures bits { IfOk result
-        (λ bits. bits.items ≡ map (λ here. bits_of (T.family.next here)) records.now) }
-    ensures fit { OnOk result (AreFitting T.family.next records.now) }
-{
-    let mut bits = Vec::with_capacity(alloc, records.len())?;
-    for number in 0..records.len() {
-        bits.push_reserved(next_of::<List, T>(records, number).bits());
-    }
-    Ok(bits)
-}
-
 /// Changes the link to the next one in the record that `from` names.
 fn set_next_of<List, T: Linked<List>>(records: &mut [T], from: Link, next: Link)
-    ensures { records.new ≡ spec.changed_by from (T.family.with_next next) records.old }
+    ensures { records.new ≡ changed_by from (T.family.with_next next) records.old }
 {
     let Some(number) = from.number() else {
         return;
@@ -67,7 +48,7 @@ fn set_next_of<List, T: Linked<List>>(records: &mut [T], from: Link, next: Link)
 
 /// Changes the link to the previous one in the record that `from` names.
 fn set_previous_of<List, T: Linked<List>>(records: &mut [T], from: Link, previous: Link)
-    ensures { records.new ≡ spec.changed_by from (T.family.with_previous previous) records.old }
+    ensures { records.new ≡ changed_by from (T.family.with_previous previous) records.old }
 {
     let Some(number) = from.number() else {
         return;
@@ -89,7 +70,7 @@ fn set_first_without(first: &mut Link, previous: Link, next: Link)
 /// Changes the link to the next one in the record of this number, which is there.
 fn set_next_at<List, T: Linked<List>>(records: &mut [T], number: usize, next: Link)
     requires { number < length records.old }
-    ensures { records.new ≡ spec.changed_by (Some number) (T.family.with_next next) records.old }
+    ensures { records.new ≡ changed_by (Some number) (T.family.with_next next) records.old }
 {
     records[number].set_next(next);
 }
@@ -98,7 +79,7 @@ fn set_next_at<List, T: Linked<List>>(records: &mut [T], number: usize, next: Li
 fn set_previous_at<List, T: Linked<List>>(records: &mut [T], number: usize, previous: Link)
     requires { number < length records.old }
     ensures { records.new
-        ≡ spec.changed_by (Some number) (T.family.with_previous previous) records.old }
+        ≡ changed_by (Some number) (T.family.with_previous previous) records.old }
 {
     records[number].set_previous(previous);
 }
@@ -106,7 +87,7 @@ fn set_previous_at<List, T: Linked<List>>(records: &mut [T], number: usize, prev
 /// Changes the link to the next one in the record that `from` names, if any, which is there.
 fn set_next_present<List, T: Linked<List>>(records: &mut [T], from: Link, next: Link)
     requires { NamesOneOf records.old from }
-    ensures { records.new ≡ spec.changed_by from (T.family.with_next next) records.old }
+    ensures { records.new ≡ changed_by from (T.family.with_next next) records.old }
 {
     if let Some(number) = from.number() {
         records[number].set_next(next);
@@ -116,7 +97,7 @@ fn set_next_present<List, T: Linked<List>>(records: &mut [T], from: Link, next: 
 /// Changes the link to the previous one in the record that `from` names, if any, which is there.
 pub fn set_previous_present<List, T: Linked<List>>(records: &mut [T], from: Link, previous: Link)
     requires { NamesOneOf records.old from }
-    ensures { records.new ≡ spec.changed_by from (T.family.with_previous previous) records.old }
+    ensures { records.new ≡ changed_by from (T.family.with_previous previous) records.old }
 {
     if let Some(number) = from.number() {
         records[number].set_previous(previous);
@@ -130,8 +111,8 @@ pub fn unlink_present<List, T: Linked<List>>(records: &mut [T], first: &mut Link
     ensures records { records.new ≡ spec.unlinked T.family number records.old }
     ensures first { first.new
         ≡ spec.first_without
-        (spec.link_at T.family.previous records.old number)
-        (spec.link_at T.family.next records.old number)
+        (link_at T.family.previous records.old number)
+        (link_at T.family.next records.old number)
         first.old }
 {
     let previous = records[number].previous();
@@ -159,7 +140,7 @@ pub fn insert_after<List, T: Linked<List>>(records: &mut [T], previous: usize, n
     requires number { number < no_link }
     ensures { records.new
         ≡ spec.linked_between T.family (Some previous)
-        (spec.link_at T.family.next records.old previous)
+        (link_at T.family.next records.old previous)
         number records.old }
 {
     let next = next_of::<List, T>(records, previous);
@@ -175,10 +156,10 @@ pub fn insert_after_present<List, T: Linked<List>>(
     requires here { number < length records.old }
     requires small { (previous < no_link) × (number < no_link) }
     requires previous { previous < length records.old }
-    requires next { NamesOneOf records.old (spec.link_at T.family.next records.old previous) }
+    requires next { NamesOneOf records.old (link_at T.family.next records.old previous) }
     ensures { records.new
         ≡ spec.linked_between T.family (Some previous)
-        (spec.link_at T.family.next records.old previous)
+        (link_at T.family.next records.old previous)
         number records.old }
 {
     let next = records[previous].next();
@@ -215,7 +196,7 @@ pub fn make_unused_present<List, T: Linked<List>>(records: &mut [T], top: &mut L
 /// Takes the unused record that `top` names, the one that became unused last; none where none is unused.
 pub fn take<List, T: Linked<List>>(records: &[T], top: &mut Link) -> Option<usize>
     ensures number { result ≡ top.old }
-    ensures top { top.new ≡ option_and_then (spec.link_at T.family.next records.now) top.old }
+    ensures top { top.new ≡ option_and_then (link_at T.family.next records.now) top.old }
     ensures small { IfSome result (λ number. number < no_link) }
 {
     let number = top.number()?;

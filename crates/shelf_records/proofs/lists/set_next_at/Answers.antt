@@ -1,6 +1,6 @@
 use Rattle.std.proofs.Common.{Some, refl}
 use Rattle.etagere_links.proofs.EditLemmas.{set-changed_by}
-use Rattle.etagere_links.proofs.lists.set_next_at.Goals as goal
+use Rattle.shelf_records.proofs.lists.set_next_at.Goals as goal
 
 pub returns : goal.returns
 returns g c =

@@ -1,7 +1,7 @@
 -- Records that a link reaches: a link of untrusted records may name none of them.
 use Rattle.std.specs.Prelude.{◌≡◌, ℕ, ◌<◌, Option, Some, List, length}
 use Rattle.etagere_links.specs.Edits.{link_at}
-use Rattle.etagere_links.specs.Families.{Family}
+use Rattle.shelf_records.specs.Families.{Family}
 
 -- a link names one of these records, if any
 abbrev pub NamesOneOf : {T : Type 0} → List T → Option ℕ → Type 0

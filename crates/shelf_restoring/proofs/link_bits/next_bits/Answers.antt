@@ -1,8 +1,8 @@
 use Rattle.std.proofs.Common.{◌≡◌, ◌∙◌, ap, sym, List, ℕ, ◌++◌, ◌∷◌, [], arith, below_more}
 use Rattle.etagere_links.specs.Links.{bits_of, link_of}
 use Rattle.etagere_links.specs.Edits.{link_at}
-use Rattle.etagere_links.proofs.LinkBits.{bits-more, bits-all, fitting-all}
-use Rattle.etagere_links.proofs.lists.next_bits.Goals as goal
+use Rattle.shelf_restoring.proofs.LinkBits.{bits-more, bits-all, fitting-all}
+use Rattle.shelf_restoring.proofs.link_bits.next_bits.Goals as goal
 
 pub loop-number-preserved : goal.loop-number-preserved
 loop-number-preserved g c =

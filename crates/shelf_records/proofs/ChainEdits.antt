@@ -1,11 +1,14 @@
 -- A list that links spell, after a member was taken out or put in: only the links of its neighbours change.
 use Rattle.std.proofs.Common.{◌≡◌, ◌≢◌, ℕ, ◌≤◌, Option, None, Some, List, [], ◌∷◌, ◌++◌, refl, arith, ◌∙◌}
-use Rattle.etagere_links.specs.Chains.{Leads, LeadsBack}
+use Rattle.etagere_links.specs.Chains.{Leads}
+use Rattle.shelf_records.specs.Chains.{LeadsBack}
 use Rattle.etagere_base.specs.Lists.{times}
-use Rattle.etagere_links.specs.Lists.{first_or, last_or}
+use Rattle.shelf_records.specs.ListEnds.{first_or, last_or}
 use Rattle.etagere_base.proofs.TimesLemmas.{times-append}
-use Rattle.etagere_links.proofs.ListEnds.{times-here, last-stands, first-stands}
-use Rattle.etagere_links.proofs.Chains.{Leads-frame, LeadsBack-frame, Leads-back}
+use Rattle.etagere_links.proofs.ListEnds.{times-here}
+use Rattle.shelf_records.proofs.ListEnds.{last-stands, first-stands}
+use Rattle.etagere_links.proofs.Chains.{Leads-frame}
+use Rattle.shelf_records.proofs.Chains.{LeadsBack-frame, Leads-back}
 
 -- two numbers differ where one stands in a list, and the other in front of it and no more
 differ : (x k : ℕ) (xs : List ℕ) → times x (x ∷ xs) ≤ 1 → 1 ≤ times k xs → x ≢ k

@@ -1,15 +1,16 @@
 -- What stays of records when one is taken out of a list, put into one or made unused.
 use Rattle.std.proofs.Common.{◌≡◌, ◌≢◌, ℕ, Option, None, Some, List, ◌∷◌, ◌++◌, length, map, arith, ◌∙◌}
 use Rattle.std.specs.Prelude.{slice_get}
-use Rattle.etagere_links.specs.Chains.{IsChainIn}
-use Rattle.etagere_links.specs.Edits.{changed_by, link_at, unlinked, linked_between, made_unused}
-use Rattle.etagere_links.specs.Families.{Family, IsUnchanged}
+use Rattle.shelf_records.specs.Chains.{IsChainIn}
+use Rattle.etagere_links.specs.Edits.{changed_by, link_at}
+use Rattle.shelf_records.specs.ListEdits.{unlinked, linked_between, made_unused}
+use Rattle.shelf_records.specs.Families.{Family, IsUnchanged}
 use Rattle.etagere_base.specs.Lists.{times}
-use Rattle.etagere_links.specs.Lists.{first_or, last_or}
-use Rattle.etagere_links.proofs.Chains.{next-is, previous-is}
+use Rattle.shelf_records.specs.ListEnds.{first_or, last_or}
+use Rattle.shelf_records.proofs.Chains.{next-is, previous-is}
 use Rattle.etagere_links.proofs.RecordChanges.{length-changed_by, map-changed_by, get-changed_by-other}
 use Rattle.etagere_base.proofs.TimesLemmas.{times-append}
-use Rattle.etagere_links.proofs.ListEnds.{first-stands, last-stands-in}
+use Rattle.shelf_records.proofs.ListEnds.{first-stands, last-stands-in}
 
 -- what the links of a list are no part of stays when a record is taken out of it
 pub map-unlinked : {T X : Type 0} (family : Family T) (f : T → X) → IsUnchanged family f → (records : List T) (at : ℕ) → map f (unlinked family at records) ≡ map f records
