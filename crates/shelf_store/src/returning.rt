@@ -13,6 +13,7 @@ ghost use Rattle.shelf_heights.specs.Private.ByHeight.{AreInOrder, numbers_by_he
 ghost use Rattle.shelf_notes.specs.Private.Pending.{is_noted};
 ghost use Rattle.shelf_store.specs.Private.ReturnedNotes as noting;
 ghost use Rattle.shelf_store.specs.Private.ReturnedNotes.{CanMergeAllNotes, CanMergeNamedNotes, CanMergeNotes, CanReturnByHeight};
+ghost use Rattle.etagere_links.specs.Edits.{link_at};
 ghost use Rattle.etagere_links.specs.Links.{no_link};
 ghost use Rattle.shelf_records.specs.Neighbours.{HasNeighbours, NamesOneOf};
 ghost use Rattle.shelf_records.specs.Records.{shelf_chain};
@@ -21,7 +22,10 @@ use etagere_links::Link;
 use shelf_heights::by_height::ShelvesByHeight;
 use shelf_heights::heights::raise;
 use shelf_notes::pending::PendingShelves;
-use shelf_records::{Chain, LinkedItem, LinkedShelf, Records, previous_of};
+use shelf_records::{LinkedItem, LinkedShelf, Records};
+
+/// The bits of a link that names no record, as a number.
+const NO_NUMBER: usize = 65535;
 
 /// The item that remains where one was freed, and how many item records became unused.
 #[derive(Drop)]
@@ -194,8 +198,16 @@ fn merge_shelves(records: &mut Records, pending: &mut PendingShelves, shelf: usi
     ensures room { pending.new.room ≡ pending.old.room }
 {
     let one = merge_shelf(records, pending, shelf);
-    let previous = previous_of::<Chain, LinkedShelf>(records.shelves(), shelf);
+    let previous = previous_link(records.shelves(), shelf);
     one + merge_named_shelf(records, pending, previous)
+}
+
+/// The link to the shelf before one that is there.
+fn previous_link(shelves: &[LinkedShelf], shelf: usize) -> Link
+    requires { shelf < length shelves.now }
+    ensures { result ≡ link_at shelf_chain.previous shelves.now shelf }
+{
+    shelves[shelf].prev
 }
 
 /// Merges the shelf that a link names with the next one, where both are empty and stand in one column.
@@ -253,9 +265,11 @@ fn absorb_shelf(
     ensures room { pending.new.room ≡ pending.old.room }
 {
     let absorbed = &records.shelves()[next];
-    let Some(item) = absorbed.first_item.number() else {
+    // By its bits, since a number that may be none takes more instructions.
+    let item = usize::from(absorbed.first_item.bits());
+    if item == NO_NUMBER {
         return 0;
-    };
+    }
     let height = records.shelves()[shelf].height + absorbed.height;
     records.absorb_shelf(shelf, next, item, height);
     pending.note(next, false);

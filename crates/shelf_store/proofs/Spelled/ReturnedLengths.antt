@@ -32,7 +32,7 @@ freed-lengths shelf number None records = record { items = simp length-changed_b
 freed-lengths shelf number (Some previous) records = record { items = simp length-changed_by refl; shelves = simp length-changed_by refl }
 
 -- a shelf absorbs the next one
-shelf-next-lengths : (shelf : ℕ) (next : Option ℕ) (records : Records) → SameLengths records (shelf_next_absorbed shelf next records).records
+pub shelf-next-lengths : (shelf : ℕ) (next : Option ℕ) (records : Records) → SameLengths records (shelf_next_absorbed shelf next records).records
 shelf-next-lengths shelf None records = record { items = refl; shelves = refl }
 shelf-next-lengths shelf (Some next) records = of-item (first_item_of records.shelves next)
   where
