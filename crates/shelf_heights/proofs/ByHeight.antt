@@ -1,5 +1,6 @@
 -- The shelves in use by height: how the list is searched and changed.
 pub mod Edited
+pub mod FreeBounds
 pub mod LeftOver
 pub mod MovedLists
 pub mod PairedShelves

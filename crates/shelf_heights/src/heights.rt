@@ -432,32 +432,28 @@ pub fn put_in(
 }
 
 /// Moves the shelf at this position to where it stands in the order by the records as they are now, in which its height
-/// may have changed, and gives its position.
+/// may have changed, and gives it this bound.
 pub fn settle(
     shelves: &[LinkedShelf],
     by_height: &mut ShelvesByHeight,
-    shelf: usize,
+    settled: BoundedShelf,
     index: usize,
-) -> usize
+)
     requires index { index < length by_height.old.items }
-    requires shelf { (spec.bounded_at by_height.old.items index).shelf ≡ shelf }
-    requires once { times shelf (spec.numbers_by_height by_height.old.items) ≤ 1 }
-    requires order { AreInOrder shelves.now (spec.taken_out shelf by_height.old.items) }
-    requires within { shelf < length shelves.now }
+    requires shelf { (spec.bounded_at by_height.old.items index).shelf ≡ settled.shelf }
+    requires once { times settled.shelf (spec.numbers_by_height by_height.old.items) ≤ 1 }
+    requires order { AreInOrder shelves.now (spec.taken_out settled.shelf by_height.old.items) }
+    requires within { settled.shelf < length shelves.now }
     ensures by_height { by_height.new.items
-        ≡ spec.put_in shelves.now
-        (record { widest = spec.bound_of shelf by_height.old.items; shelf = shelf })
-        (spec.taken_out shelf by_height.old.items) }
-    ensures within { result < length by_height.new.items }
-    ensures stands { (spec.bounded_at by_height.new.items result).shelf ≡ shelf }
+        ≡ spec.put_in shelves.now settled (spec.taken_out settled.shelf by_height.old.items) }
     ensures capacity { by_height.new.capacity ≡ by_height.old.capacity }
-    ensures len { length by_height.new.items ≡ length by_height.old.items }
 {
+    by_height.set(index, settled);
+    let shelf = usize::from(settled.shelf);
     let to = start_beside(shelves, by_height, shelf, index);
     if to != index {
         move_to(by_height, shelf, index, to);
     }
-    to
 }
 
 /// Moves the shelf at one position to another one, and keeps that. Never inlined, so that a shelf that stays costs no call.
@@ -485,7 +481,7 @@ pub fn raise(shelves: &[LinkedShelf], by_height: &mut ShelvesByHeight, shelf: us
 }
 
 /// Raises the bound of the shelf at this position to this width, where it is less.
-pub fn raise_at(by_height: &mut ShelvesByHeight, index: usize, width: u16)
+fn raise_at(by_height: &mut ShelvesByHeight, index: usize, width: u16)
     requires index { index < length by_height.old.items }
     requires once { times (spec.bounded_at by_height.old.items index).shelf
         (spec.numbers_by_height by_height.old.items) ≤ 1 }

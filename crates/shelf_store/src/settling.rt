@@ -4,21 +4,24 @@
 //! begin elsewhere by now; then those in use go where their records put them, one after another. Where many have changed,
 //! all shelves in use are sorted anew. Nothing here changes the records, and but for `reserve_shelves` and `settled_notes` takes memory.
 
-ghost use Rattle.std.specs.Prelude.{◌≡◌, ℕ, ◌+◌, ◌<◌, ◌≤◌, IfOk, OnErr, OnOk, false, length, true};
+ghost use Rattle.std.specs.Prelude.{◌≡◌, ℕ, ◌+◌, ◌<◌, ◌≤◌, IfOk, IfSome, OnErr, OnOk, false, length, true};
+ghost use Rattle.std.specs.List.{AllByRecursion};
 ghost use Rattle.shelf_records.specs.RecordUses.{missing};
+ghost use Rattle.shelf_records.specs.AtlasRecords.{item_at};
+ghost use Rattle.shelf_records.specs.RecordLists.{IsLinked, free_walk, shelf_walk, walked_lists};
 ghost use Rattle.shelf_records.specs.Records.{shelf_chain};
 ghost use Rattle.shelf_heights.specs.Private.ByHeight.{AreByHeight, AreInOrder, chain_order, numbers_by_height};
 ghost use Rattle.etagere_base.specs.Lists.{times};
 ghost use Rattle.etagere_links.specs.Links.{no_link};
 ghost use Rattle.shelf_notes.specs.Private.Pending.{is_in_use, is_listed, is_noted};
-ghost use Rattle.shelf_records.specs.Private.Kept.{AreKept};
-ghost use Rattle.shelf_store.specs.Private.Settling.{AreByHeightButNoted, AreSettled, BeginAsListed, BeginsAsListed, Follows, IsBounded, IsSettled};
+ghost use Rattle.shelf_records.specs.Private.Kept.{AreKept, bare};
+ghost use Rattle.shelf_store.specs.Private.Settling.{AreByHeightButNoted, AreSettled, BeginAsListed, BeginsAsListed, Follows, IsBoundIn, IsBounded, IsSettled};
 
 use crate::starting::{FIRST_ROOM, newly_bounded, sort_shelves};
 use etagere_base::Frame;
 use etagere_links::Link;
-use shelf_heights::by_height::ShelvesByHeight;
-use shelf_heights::heights::{chain_order_of, position_of, put_in, raise_at, settle, take_out};
+use shelf_heights::by_height::{BoundedShelf, ShelvesByHeight};
+use shelf_heights::heights::{bounded, chain_order_of, position_of, put_in, settle, take_out};
 use shelf_notes::pending::{IN_USE, MOST_SEARCHES, PendingShelves, UNKNOWN};
 use shelf_records::{LinkedShelf, Records};
 use std::alloc::{AllocError, Global};
@@ -405,8 +408,7 @@ fn settle_one(
     }
 }
 
-/// Moves a shelf that has changed to where its record puts it. An empty one may be among those, so its bound becomes the width
-/// of its column.
+/// Moves a shelf that has changed to where its record puts it, with the bound that its free items have now.
 fn move_listed(
     frame: &Frame,
     records: &Records,
@@ -431,8 +433,43 @@ fn move_listed(
 {
     let index = position_of(pending.kept(), by_height, shelf);
     pending.list(shelf, records.shelves()[shelf]);
-    let index = settle(pending.kept(), by_height, shelf, index);
-    raise_at(by_height, index, frame.column_width as u16);
+    let one = bounded_by_items(frame, records, shelf);
+    settle(pending.kept(), by_height, one, index);
+}
+
+/// A shelf in use with a bound: the width of its only free item, or 0 where it has none. Where it has more, they aren't
+/// gone through, and the bound is the width of its column.
+fn bounded_by_items(frame: &Frame, records: &Records, shelf: usize) -> BoundedShelf
+    requires kept { AreKept frame.now records.now }
+    requires stands { 1 ≤ times shelf (shelf_walk records.now).met }
+    requires within { shelf < length records.now.shelves }
+    requires few { length records.now.shelves ≤ no_link }
+    ensures shelf { result.shelf ≡ shelf }
+    ensures bounded { IsBoundIn (bare frame.now records.now) (walked_lists records.now).entries result }
+{
+    match width_of_only(records, shelf) {
+        Some(widest) => bounded(shelf, widest),
+        None => newly_bounded(frame, shelf),
+    }
+}
+
+/// How wide the only free item of a shelf is, 0 where it has none; none where it has more.
+fn width_of_only(records: &Records, shelf: usize) -> Option<u16>
+    requires linked { IsLinked records.now (walked_lists records.now) }
+    requires stands { 1 ≤ times shelf (shelf_walk records.now).met }
+    requires within { shelf < length records.now.shelves }
+    ensures { IfSome result (λ widest.
+        AllByRecursion (λ item. (item_at records.now.items item).width ≤ widest)
+        (free_walk records.now shelf).met) }
+{
+    let Some(first) = records.shelves()[shelf].first_unallocated.number() else {
+        return Some(0);
+    };
+    let item = &records.items()[first];
+    match item.next_unallocated.number() {
+        Some(_) => None,
+        None => Some(item.width),
+    }
 }
 
 /// Puts a shelf that the list hasn't where its record puts it. It is looked for first behind the one before it: what is left
@@ -463,12 +500,8 @@ fn put_in_new(
     let record = records.shelves()[shelf];
     let behind = position_of_named(by_height, pending, record.prev);
     pending.list(shelf, record);
-    put_in(
-        pending.kept(),
-        by_height,
-        newly_bounded(frame, shelf),
-        behind,
-    );
+    let one = bounded_by_items(frame, records, shelf);
+    put_in(pending.kept(), by_height, one, behind);
 }
 
 /// Where the shelf stands that a link names, if the list has it; else the front.

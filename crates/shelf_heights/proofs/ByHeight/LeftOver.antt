@@ -53,7 +53,7 @@ over-insert (suc start) [] one within = absurd (omega (arith, within))
 over-insert (suc start) (x ∷ xs) one within = over-insert start xs one (omega (arith, within))
 
 -- it does not matter what stands where one is taken out
-remove-set : (index : ℕ) (xs : List BoundedShelf) (one : BoundedShelf) → remove (set xs index one) index ≡ remove xs index
+pub remove-set : (index : ℕ) (xs : List BoundedShelf) (one : BoundedShelf) → remove (set xs index one) index ≡ remove xs index
 remove-set index [] one = refl
 remove-set zero (x ∷ xs) one = refl
 remove-set (suc index) (x ∷ xs) one = ap (λ (l : List BoundedShelf). x ∷ l) (remove-set index xs one)

@@ -1,61 +1,26 @@
 -- Shelves by height of kept records can be searched, and stay by height where a search lets their bounds fall.
-use Rattle.std.proofs.Common.{◌≡◌, ℕ, ◌+◌, ◌-◌, ◌<◌, ◌≤◌, Bool, true, false, List, [], ◌∷◌, ap, arith, filter, map, not, refl, sym, ◌∙◌, subst}
+use Rattle.std.proofs.Common.{◌≡◌, ℕ, ◌+◌, ◌-◌, ◌<◌, ◌≤◌, true, false, List, [], ◌∷◌, ap, arith, map, refl, sym, ◌∙◌, subst}
 use Rattle.etagere_base.specs.declared.frames.Frame.{Frame}
 use Rattle.std.specs.List.{AllByRecursion}
 use Rattle.etagere_base.specs.Lists.{times}
-use Rattle.etagere_base.proofs.EachLemmas.{Each-all, Each-weaken}
-use Rattle.shelf_records.specs.declared.records.LinkedItem.{LinkedItem}
+use Rattle.etagere_base.proofs.EachLemmas.{Each-weaken}
 use Rattle.shelf_records.specs.RecordLists.{Entry, Records, shelf_walk, walked_entry}
 use Rattle.shelf_records.proofs.AllLists.LinkedWalks.{walked-numbers}
-use Rattle.shelf_records.specs.AtlasRecords.{is_allocated_at, is_empty_at, item_at, spelled_shelf}
+use Rattle.shelf_records.specs.AtlasRecords.{is_empty_at, item_at, spelled_shelf}
 use Rattle.shelf_model.specs.Listing.{RiseFrom}
 use Rattle.shelf_heights.specs.Private.ByHeight.{AreBounds, AreByHeight, IsBound, order_of, numbers_by_height}
 use Rattle.shelf_records.specs.Private.Kept.{AreKept, atlas_of, bare}
-use Rattle.shelf_records.proofs.Spelled.Witnessed.{HasFlag, IsPlaced}
+use Rattle.shelf_records.proofs.Spelled.Witnessed.{HasFlag}
 use Rattle.shelf_search.specs.Private.Opening.{AreSearchable, AreWhole, IsSearchable}
 use Rattle.shelf_model.specs.State.{Item, is_free, is_one_free, total_width}
 use Rattle.shelf_model.specs.Valid.{IsItem, IsShelf}
 use Rattle.shelf_heights.specs.declared.by_height.BoundedShelf.{BoundedShelf}
+use Rattle.shelf_heights.proofs.ByHeight.FreeBounds.{bound-listed, free-bound, listed, listed-bound}
 use Rattle.shelf_heights.proofs.ByHeight.PlacesRise.{LiesWithin, kept-within}
-use Rattle.shelf_records.proofs.Judged.FreeLists.{times-failed, times-passed}
 use Rattle.shelf_records.proofs.Recorded.Members.{Each-member, Each-times}
 use Rattle.shelf_records.proofs.AllLists.LinkedParts.{shelf-within}
-use Rattle.shelf_records.proofs.Spelled.SpelledPlaces.{free-spelled}
 use Rattle.shelf_records.proofs.Spelled.Witnesses.{Each-unmap}
 use Rattle.shelf_records.proofs.Spelled.StandsKept.{witnesses}
-
--- a fact of each element is one of its image
-Each-map : {X Y : Type 0} (P : Y → Type 0) (f : X → Y) (xs : List X) → AllByRecursion (λ (x : X). P (f x)) xs → AllByRecursion P (map f xs)
-Each-map P f [] each = tt
-Each-map P f (x ∷ xs) each = (each.0, Each-map P f xs each.1)
-
--- where a list has those of some items that are free, a bound on its widths is one on those of the free items
-module _ (items : List LinkedItem) (members free : List ℕ) (lists : (item : ℕ) → times item free ≡ times item (filter (λ member. not (is_allocated_at items member)) members)) where
-  -- one in the list is an item, and free
-  listed-free : (k : ℕ) → 1 ≤ times k free → (1 ≤ times k members) × (is_free (item_at items k) ≡ true)
-  listed-free k stands = by_test (not (is_allocated_at items k)) refl
-    where
-      by_test : (b : Bool) → not (is_allocated_at items k) ≡ b → (1 ≤ times k members) × (is_free (item_at items k) ≡ true)
-      by_test true e = (omega (arith, stands, lists k, times-passed (λ member. not (is_allocated_at items member)) k members e), free-spelled items k ∙ e)
-      by_test false e = absurd (omega (arith, stands, lists k, times-failed (λ member. not (is_allocated_at items member)) k members e))
-
-  -- an item that is free is in the list
-  free-listed : (k : ℕ) → 1 ≤ times k members → is_free (item_at items k) ≡ true → 1 ≤ times k free
-  free-listed k stands is =
-      omega (arith, stands, lists k, times-passed (λ member. not (is_allocated_at items member)) k members (sym (free-spelled items k) ∙ is))
-
-  pub bound-listed : (widest : ℕ) → AllByRecursion (λ (item : Item). is_free item ≡ true → item.width ≤ widest) (map (item_at items) members) → AllByRecursion (λ item. (item_at items item).width ≤ widest) free
-  bound-listed widest bound =
-      Each-times (λ item. (item_at items item).width ≤ widest) free
-      (λ k stands.
-      let here = listed-free k stands in
-      Each-member (λ item. is_free (item_at items item) ≡ true → (item_at items item).width ≤ widest) members k (Each-unmap (λ (item : Item). is_free item ≡ true → item.width ≤ widest) (item_at items) members bound) here.0 here.1)
-
-  pub listed-bound : (widest : ℕ) → AllByRecursion (λ item. (item_at items item).width ≤ widest) free → AllByRecursion (λ (item : Item). is_free item ≡ true → item.width ≤ widest) (map (item_at items) members)
-  listed-bound widest bound =
-      Each-map (λ (item : Item). is_free item ≡ true → item.width ≤ widest) (item_at items) members
-      (Each-times (λ item. is_free (item_at items item) ≡ true → (item_at items item).width ≤ widest) members
-      (λ k stands is. Each-member (λ item. (item_at items item).width ≤ widest) free k bound (free-listed k stands is)))
 
 -- one free item is as wide as all items; of more than one, none is
 one_free-bound : (items : List Item) (bound : ℕ) → is_one_free items ≡ true → AllByRecursion (λ (item : Item). is_free item ≡ true → item.width ≤ bound) items → total_width items ≤ bound
@@ -81,12 +46,6 @@ module _ (frame : Frame) (records : Records) (kept : AreKept frame records) wher
   abbrev in_use : List ℕ
   in_use = (shelf_walk records).met
 
-  -- the free list of a shelf in use has those of its items that are free
-  listed : (shelf : ℕ) → 1 ≤ times shelf in_use → (item : ℕ)
-      → times item (walked_entry records shelf).free_list ≡ times item (filter (λ member. not (is_allocated_at records.items member)) (walked_entry records shelf).items)
-  listed shelf stands item =
-      (Each-member (λ n. IsPlaced (atlas_of frame records) (walked_entry records n)) in_use shelf (Each-unmap (IsPlaced (atlas_of frame records)) (walked_entry records) in_use (witnesses kept).placed) stands).free_list item
-
   -- a shelf in use with a bound can be searched
   one-searchable : (one : BoundedShelf) → 1 ≤ times one.shelf in_use
       → AllByRecursion (λ (entry : Entry). entry.number ≡ one.shelf → IsBound one.widest (spelled_shelf (bare frame records) entry)) (map (walked_entry records) in_use) → IsSearchable records one
@@ -101,19 +60,8 @@ module _ (frame : Frame) (records : Records) (kept : AreKept frame records) wher
         within = shelf-within records one.shelf (witnesses kept).linked stands;
         low = lies.low;
         place = omega (arith, lies.along, lies.across);
-        bound = bound-listed records.items entry.items entry.free_list (listed one.shelf stands) one.widest bound;
+        bound = bound-listed records.items entry.items entry.free_list (listed frame records kept one.shelf stands) one.widest bound;
       }
-
-  -- what can be searched has a bound
-  searchable-one : (one : BoundedShelf) → IsSearchable records one
-      → AllByRecursion (λ (entry : Entry). entry.number ≡ one.shelf → IsBound one.widest (spelled_shelf (bare frame records) entry)) (map (walked_entry records) in_use)
-  searchable-one one searchable =
-      let entry : Entry = walked_entry records one.shelf in
-      let bound : IsBound one.widest (spelled_shelf (bare frame records) entry) =
-      listed-bound records.items entry.items entry.free_list (listed one.shelf searchable.stands) one.widest searchable.bound in
-      Each-map (λ (entry : Entry). entry.number ≡ one.shelf → IsBound one.widest (spelled_shelf (bare frame records) entry)) (walked_entry records) in_use
-      (Each-all (λ n. n ≡ one.shelf → IsBound one.widest (spelled_shelf (bare frame records) (walked_entry records n)))
-      (λ n is. subst (λ k. IsBound one.widest (spelled_shelf (bare frame records) (walked_entry records k))) (sym is) bound) in_use)
 
   -- a shelf in use is empty where its one item is as wide as the column
   pub kept-whole : AreWhole records frame.column_width
@@ -128,11 +76,11 @@ module _ (frame : Frame) (records : Records) (kept : AreKept frame records) wher
       (Each-unmap (IsShelf frame) (spelled_shelf (bare frame records)) (map (walked_entry records) in_use) (witnesses kept).valid.shelves)) stands in
       record {
         empty = λ is bound each.
-            omega (arith, valid.width, one_free-bound own bound (sym flag ∙ is) (listed-bound records.items entry.items entry.free_list (listed shelf stands) bound each));
+            omega (arith, valid.width, one_free-bound own bound (sym flag ∙ is) (listed-bound records.items entry.items entry.free_list (listed frame records kept shelf stands) bound each));
         other = λ is.
             Each-weaken (λ item. (item_at records.items item).width ≤ frame.column_width - 1) (λ item. (item_at records.items item).width < frame.column_width) entry.free_list
             (λ item low. omega (arith, low, (witnesses kept).valid.frame.column_width))
-            (bound-listed records.items entry.items entry.free_list (listed shelf stands) (frame.column_width - 1)
+            (bound-listed records.items entry.items entry.free_list (listed frame records kept shelf stands) (frame.column_width - 1)
             (Each-weaken (λ (item : Item). is_free item ≡ true → item.width + 1 ≤ total_width own) (λ (item : Item). is_free item ≡ true → item.width ≤ frame.column_width - 1) own
             (λ item part free. omega (arith, part free, valid.width))
             (part-bound own (sym flag ∙ is) (Each-weaken (IsItem frame) (λ (item : Item). 1 ≤ item.width) own (λ item is. is.width) valid.items))));
@@ -156,5 +104,5 @@ module _ (frame : Frame) (records : Records) (kept : AreKept frame records) wher
         rising = subst (λ (ns : List ℕ). RiseFrom 0 (map (order_of records.shelves) ns)) (sym same) are.rising;
         bounds = Each-weaken (IsSearchable records)
             (λ (one : BoundedShelf). AllByRecursion (λ (entry : Entry). entry.number ≡ one.shelf → IsBound one.widest (spelled_shelf (bare frame records) entry)) (map (walked_entry records) in_use))
-            new searchable-one searchable;
+            new (λ one searchable. free-bound frame records kept one.shelf one.widest searchable.stands searchable.bound) searchable;
       }

@@ -28,7 +28,7 @@ use Rattle.shelf_search.specs.declared.tallying.Tally.{Tally}
 use Rattle.shelf_search.specs.Private.Asking.{free_of, is_as_wide_at, tally_of, widest_at}
 use Rattle.shelf_search.specs.Private.Opening.{widest_of}
 use Rattle.shelf_search.specs.Private.Searching.{chosen_at}
-use Rattle.shelf_search.proofs.ByHeight.SearchableShelves.{bound-listed, listed-bound}
+use Rattle.shelf_heights.proofs.ByHeight.FreeBounds.{bound-listed, listed-bound}
 use Rattle.shelf_search.proofs.Searched.FoundPlacements.{chosen-located, located-parts, located-splits}
 use Rattle.shelf_records.proofs.Spelled.KeptShelves.{IsSearched, kept-searched}
 use Rattle.shelf_search.proofs.ByHeight.SearchedOnes.{bounds-widest}

@@ -1,5 +1,5 @@
 -- Where the search along a free list has come to, step by step, and what the best candidate is of.
-use Rattle.std.proofs.Common.{◌≡◌, ℕ, zero, suc, ◌+◌, ◌<◌, ◌≤◌, Bool, true, false, cond, Option, None, Some, option_map, List, [], ◌∷◌, ◌++◌, append_assoc, length, get_or, map, refl, ap, arith, sym, ◌∙◌, subst}
+use Rattle.std.proofs.Common.{◌≡◌, ℕ, ◌+◌, ◌<◌, ◌≤◌, Bool, true, false, cond, Option, None, Some, option_map, List, [], ◌∷◌, ◌++◌, append_assoc, length, get_or, map, refl, ap, arith, sym, ◌∙◌, subst}
 use Rattle.std.proofs.lemmas.Bool.Decides.{nat_tests}
 use Rattle.std.specs.Option.{option_map_or}
 use Rattle.std.specs.Prelude.{◌/◌, ◌||◌, find, max, nat_le, nat_lt}
@@ -8,19 +8,17 @@ use Rattle.etagere_base.specs.declared.frames.Frame.{Frame}
 use Rattle.etagere_base.specs.declared.sides.Sides.{Sides}
 use Rattle.etagere_base.proofs.TimesLemmas.{find-stands}
 use Rattle.shelf_records.specs.declared.records.LinkedItem.{LinkedItem}
-use Rattle.etagere_links.specs.Edits.{link_at}
 use Rattle.shelf_records.specs.RecordLists.{IsLinked, Records, first_free_of, free_walk, shelf_walk, walked_lists}
 use Rattle.shelf_records.specs.Records.{free_list}
 use Rattle.etagere_links.proofs.ListEnds.{times-here}
-use Rattle.shelf_records.specs.AtlasRecords.{height_of, is_empty_at, item_at, spelled_item}
+use Rattle.shelf_records.specs.AtlasRecords.{height_of, is_empty_at, item_at}
 use Rattle.shelf_search.specs.Private.Opening.{searched, widest_of}
 use Rattle.shelf_search.specs.Private.Searching.{best_candidate, better, chosen_at, first_wide, lower, lowest, offered, placement_at, rank_of, ranks_lower}
 use Rattle.shelf_model.specs.Choice.{shelf_height}
-use Rattle.shelf_model.specs.State.{Item}
 use Rattle.shelf_search.specs.declared.choosing.Candidate.{Candidate}
 use Rattle.shelf_search.specs.declared.choosing.Searched.TheVariants.{Found, Widest}
 use Rattle.shelf_search.proofs.Searched.PassedShelves.{lowest-settled}
-use Rattle.shelf_records.proofs.Recorded.RecordsOfIds.{field_at-read}
+use Rattle.shelf_heights.proofs.ByHeight.FreeBounds.{next-read, width-read}
 use Rattle.shelf_records.proofs.AllLists.Following.{IsLeft, IsStep, count_from, none-left, step-left, step-nearer}
 use Rattle.shelf_records.proofs.AllLists.LinkedParts.{free-left, free-once, free-within, shelf-within}
 
@@ -68,11 +66,6 @@ free-ends records width shelf widest at search ends =
 pub free-here : (records : Records) (width shelf widest : ℕ) (at : Option ℕ) (number : ℕ) → SearchesFree records width shelf widest at → at ≡ Some number → number < length records.items
 free-here records width shelf widest at number search is = (step-left free_list.next records.items at number search.steps search.rest search.left is).here
 
--- how wide the record at hand is
-width-read : (records : Records) (number : ℕ) (item : LinkedItem) → number < length records.items → item ≡ get_or records.items number item → (item_at records.items number).width ≡ item.width
-width-read records number item within read =
-    ap (λ (i : Item). i.width) (field_at-read (spelled_item number) (record { width = 0; id = None }) records.items number item within read)
-
 -- a wide one is found
 pub free-found : (records : Records) (width shelf widest : ℕ) (at : Option ℕ) (number : ℕ) (item : LinkedItem) → SearchesFree records width shelf widest at → at ≡ Some number → item ≡ get_or records.items number item → width ≤ item.width → Found number ≡ searched records width shelf
 free-found records width shelf widest at number item search is read wide =
@@ -81,12 +74,6 @@ free-found records width shelf widest at number item search is read wide =
     let first : Some number ≡ first_wide records width shelf =
     sym (ap (find (is_wide records width)) step.whole ∙ ap (λ b. cond b (Some number) (find (is_wide records width) step.others)) passes) ∙ search.found in
     ap (λ o. option_map_or Found o (Widest (widest_of records.items (free_walk records shelf).met))) first
-
--- where the record at hand leads
-next-read : (items : List LinkedItem) (number : ℕ) (item : LinkedItem) → number < length items → item ≡ get_or items number item → link_at free_list.next items number ≡ item.next_unallocated
-next-read [] number item within read = absurd (omega arith)
-next-read (x ∷ xs) zero item within read = ap (λ (i : LinkedItem). i.next_unallocated) (sym read)
-next-read (x ∷ xs) (suc number) item within read = next-read xs number item (omega arith) read
 
 -- one that is not is passed
 pub free-passed : (records : Records) (width shelf widest wider : ℕ) (at next : Option ℕ) (number : ℕ) (item : LinkedItem) → SearchesFree records width shelf widest at → at ≡ Some number → item ≡ get_or records.items number item → item.width < width → wider ≡ max widest item.width → next ≡ item.next_unallocated → SearchesFree records width shelf wider next

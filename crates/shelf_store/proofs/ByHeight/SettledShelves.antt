@@ -14,16 +14,15 @@ use Rattle.shelf_records.specs.AtlasRecords.{height_of}
 use Rattle.shelf_records.specs.RecordLists.{Records, shelf_numbers, shelf_walk, walked_lists}
 use Rattle.shelf_records.specs.Private.Kept.{AreKept, bare}
 use Rattle.shelf_records.specs.declared.records.LinkedShelf.{LinkedShelf}
-use Rattle.shelf_heights.specs.Private.ByHeight.{AreByHeight, AreInOrder, chain_order, numbers_by_height, order_of, put_in, raised, taken_out}
+use Rattle.shelf_heights.specs.Private.ByHeight.{AreByHeight, AreInOrder, chain_order, numbers_by_height, order_of, put_in, taken_out}
 use Rattle.shelf_notes.specs.Private.Pending.{AreTied, Notes, forgotten, is_in_use, is_listed, is_noted, listed_as, once_where, unlisted}
 use Rattle.shelf_heights.specs.declared.by_height.BoundedShelf.{BoundedShelf}
 use Rattle.shelf_notes.specs.declared.pending.Standing.{Standing}
-use Rattle.shelf_heights.proofs.ByHeight.Edited.{Each-put_in, Each-raised, Each-taken_out, bounded_as, by_height-in_order, in_order-among, in_order-put_in, in_order-raised, in_order-taken_out, numbers-raised, numbers-taken_out, times-put_in}
+use Rattle.shelf_heights.proofs.ByHeight.Edited.{Each-put_in, Each-taken_out, by_height-in_order, in_order-among, in_order-put_in, in_order-taken_out, numbers-taken_out, times-put_in}
 use Rattle.shelf_heights.proofs.ByHeight.Positions.{stands-within}
 use Rattle.shelf_notes.proofs.Noted.{once-false, once-true}
 use Rattle.shelf_notes.proofs.NotedShelves.{forgotten-in_use, forgotten-known, forgotten-listed, forgotten-other, listed-in_use, listed-known, listed-noted, listed-other, listed-so, unlisted-in_use, unlisted-known, unlisted-noted, unlisted-other, unlisted-so}
 use Rattle.shelf_records.proofs.Judged.EqualTimes.{length-fewer}
-use Rattle.shelf_store.proofs.ByHeight.NewByHeight.{wide-bound}
 use Rattle.shelf_store.proofs.ByHeight.RoomByHeight.{shelves-count}
 use Rattle.shelf_store.proofs.ByHeight.SplitByHeight.{used-once}
 use Rattle.shelf_store.proofs.ByHeight.SplitOrders.{StandsSame, order-stands, orders-apart}
@@ -97,7 +96,7 @@ module _ (frame : Frame) (records : Records) (notes : Notes) (by_height : List B
   pub in_use-there : (k : ℕ) → is_in_use notes k ≡ true → k < length records.shelves
   in_use-there k so = (used-once frame records kept).within k (omega (arith, holds.in_use k, ap once_where so))
 
-  in_use-met : (k : ℕ) → is_in_use notes k ≡ true → 1 ≤ times k (shelf_walk records).met
+  pub in_use-met : (k : ℕ) → is_in_use notes k ≡ true → 1 ≤ times k (shelf_walk records).met
   in_use-met k so = omega (arith, holds.in_use k, ap once_where so, ap (times k) (walked-numbers records (shelf_walk records).met))
 
   -- a listed shelf stands there, and has a record that was kept
@@ -297,39 +296,13 @@ module _ (frame : Frame) (records : Records) (notes : Notes) (by_height : List B
             height = λ stands. own-stands.height;
           }
 
-      -- a shelf with the width of its column for a bound is bounded, whichever the others are
-      pub put-bounded : frame.column_width ≤ one.widest → IsBounded frame records shelf (put_in after.kept one Others)
-      put-bounded wide =
+      -- a shelf with a bound is bounded, whichever the others are
+      pub put-bounded : IsBoundIn (bare frame records) (walked_lists records).entries one → IsBounded frame records shelf (put_in after.kept one Others)
+      put-bounded bound =
           Each-put_in (λ (bounded : BoundedShelf). bounded.shelf ≡ shelf → IsBoundIn (bare frame records) (walked_lists records).entries bounded) after.kept one Others
-          (λ same. wide-bound frame records one kept wide)
+          (λ same. bound)
           (Each-taken_out (λ (bounded : BoundedShelf). is_noted notes bounded.shelf ≡ false → IsBoundIn (bare frame records) (walked_lists records).entries bounded)
           (λ (bounded : BoundedShelf). bounded.shelf ≡ shelf → IsBoundIn (bare frame records) (walked_lists records).entries bounded) shelf by_height (λ bounded other bounds same. absurd (other same)) holds.bounds)
-
-    -- the bound of a shelf that has changed was raised
-    pub raised-holds : (width : ℕ) → AreByHeightButNoted frame records notes (raised shelf width by_height)
-    raised-holds width =
-        record {
-          listed = λ k. ap (times k) (numbers-raised shelf width by_height) ∙ holds.listed k;
-          in_use = holds.in_use;
-          order = in_order-raised notes.kept shelf width by_height holds.order;
-          settled = holds.settled;
-          bounds = Each-raised Old Old shelf width by_height (λ one other bounds. bounds)
-              (λ one same bounds widest less wide unnoted. let so : is_noted notes one.shelf ≡ true = rw same noted in absurd (cc)) holds.bounds;
-          known = holds.known;
-          few = holds.few;
-        }
-      where
-        Old : BoundedShelf → Type 0
-        Old one = is_noted notes one.shelf ≡ false → IsBoundIn (bare frame records) (walked_lists records).entries one
-
-    -- to the width of its column
-    pub raised-bounded : (width : ℕ) → frame.column_width ≤ width → IsBounded frame records shelf (raised shelf width by_height)
-    raised-bounded width column =
-        Each-raised (λ (one : BoundedShelf). is_noted notes one.shelf ≡ false → IsBoundIn (bare frame records) (walked_lists records).entries one)
-        (λ (one : BoundedShelf). one.shelf ≡ shelf → IsBoundIn (bare frame records) (walked_lists records).entries one) shelf width by_height
-        (λ one other bounds same. absurd (other same))
-        (λ one same bounds widest less wide named. wide-bound frame records (bounded_as one.shelf widest) kept (omega (arith, column, wide)))
-        holds.bounds
 
     -- there is room for one that is put in, where each that is listed is in use
     pub put-room : is_in_use notes shelf ≡ true → is_listed notes shelf ≡ false → BeginAsListed records.shelves notes → length by_height < length records.shelves

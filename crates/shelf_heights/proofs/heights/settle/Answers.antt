@@ -1,58 +1,56 @@
-use Rattle.std.proofs.Common.{◌≡◌, List, ap, arith, length, subst, sym, ◌∙◌}
-use Rattle.std.proofs.lemmas.List.Edits.{get_or-insert_at, length-insert}
+use Rattle.std.proofs.Common.{◌≡◌, ◌≤◌, ◌<◌, ℕ, List, ap, arith, drop, get_or-set_same, length, length-set, set, subst, sym, take, ◌∙◌}
 use Rattle.std.specs.Prelude.{insert, remove}
-use Rattle.shelf_heights.specs.Private.ByHeight.{AreInOrder, bound_of, bounded_at, put_in}
+use Rattle.std.specs.List.{AllByRecursion}
+use Rattle.etagere_base.specs.Lists.{times}
+use Rattle.shelf_heights.specs.Private.ByHeight.{AreInOrder, bounded_at, numbers_by_height, order_of, put_in, taken_out}
 use Rattle.shelf_heights.specs.declared.by_height.BoundedShelf.{BoundedShelf}
-use Rattle.shelf_heights.proofs.ByHeight.Edited.{bounded_as}
-use Rattle.shelf_heights.proofs.ByHeight.Positions.{StandsAt, put-back, put_in-at, stands-there}
+use Rattle.shelf_heights.proofs.ByHeight.LeftOver.{remove-set}
+use Rattle.shelf_heights.proofs.ByHeight.Positions.{put-back, put_in-at, stands-there}
 use Rattle.shelf_heights.proofs.heights.settle.Goals as goal
+use Rattle.shelf_heights.proofs.heights.settle.Goals.{After-from-shelf, After-start_beside-to}
+
+-- the other shelves, once this one has its bound
+others : (by_height new : List BoundedShelf) (one : BoundedShelf) (index : ℕ) → new ≡ set by_height index one → times one.shelf (numbers_by_height by_height) ≤ 1
+    → index < length by_height → (bounded_at by_height index).shelf ≡ one.shelf → remove new index ≡ taken_out one.shelf by_height
+others by_height new one index is once within named =
+    ap (λ (l : List BoundedShelf). remove l index) is
+    ∙ remove-set index by_height one
+    ∙ (stands-there one.shelf index by_height once within named).taken
+
+-- it stands at the position
+here : (c : After-from-shelf) → bounded_at c.set.new.self.items c.args.index ≡ c.args.settled
+here c =
+    ap (λ (l : List BoundedShelf). bounded_at l c.args.index) c.set.ensures.items
+    ∙ get_or-set_same c.args.by_height.now.items c.args.index c.args.settled (record { widest = 0; shelf = 0 }) c.requires.index
+
+-- where it is put in among the others
+placed : (c : After-start_beside-to) → insert (remove c.set.new.self.items c.args.index) c.start_beside-to.result c.args.settled
+    ≡ put_in c.args.shelves.now c.args.settled (taken_out c.args.settled.shelf c.args.by_height.now.items)
+placed c =
+    let left = remove c.set.new.self.items c.args.index in
+    let to = c.start_beside-to.result in
+    put_in-at c.args.shelves.now c.args.settled to left c.start_beside-to.ensures.within
+    (subst (λ n. AllByRecursion (λ (one : BoundedShelf). order_of c.args.shelves.now one.shelf < order_of c.args.shelves.now n) (take to left)) c.from-shelf.ensures c.start_beside-to.ensures.before)
+    (subst (λ n. AllByRecursion (λ (one : BoundedShelf). order_of c.args.shelves.now n ≤ order_of c.args.shelves.now one.shelf) (drop to left)) c.from-shelf.ensures c.start_beside-to.ensures.after)
+    ∙ ap (put_in c.args.shelves.now c.args.settled) (others c.args.by_height.now.items c.set.new.self.items c.args.settled c.args.index c.set.ensures.items c.requires.once c.requires.index c.requires.shelf)
 
 pub start_beside-to-requires-clause-order : goal.start_beside-to-requires-clause-order
 start_beside-to-requires-clause-order c =
-    let at : StandsAt c.args.shelf c.args.index c.args.by_height.now.items = stands-there c.args.shelf c.args.index c.args.by_height.now.items c.requires.once c.requires.index c.requires.shelf in
-    subst (AreInOrder c.args.shelves.now) (sym at.taken) c.requires.order
+    subst (AreInOrder c.args.shelves.now) (sym (others c.args.by_height.now.items c.set.new.self.items c.args.settled c.args.index c.set.ensures.items c.requires.once c.requires.index c.requires.shelf)) c.requires.order
 
 pub returns-then-to-index-clause-by_height : goal.returns-then-to-index-clause-by_height
 returns-then-to-index-clause-by_height c =
-    let by_height = c.args.by_height.now.items in
-    let at : StandsAt c.args.shelf c.args.index by_height = stands-there c.args.shelf c.args.index by_height c.requires.once c.requires.index c.requires.shelf in
-    let one : BoundedShelf = bounded_as c.args.shelf (bound_of c.args.shelf by_height) in
-    let to = c.start_beside-to.result in
+    let at = goal.at.returns-then-to-index-clause-by_height c in
     c.move_to.ensures.items
-    ∙ ap (λ (other : BoundedShelf). insert (remove by_height c.args.index) to other) (at.read (record { widest = 0; shelf = 0 }))
-    ∙ put_in-at c.args.shelves.now one to (remove by_height c.args.index) c.start_beside-to.ensures.within c.start_beside-to.ensures.before c.start_beside-to.ensures.after
-    ∙ ap (put_in c.args.shelves.now one) at.taken
+    ∙ ap (insert (remove c.set.new.self.items c.args.index) c.start_beside-to.result) (here at.After-from-shelf)
+    ∙ placed at.After-start_beside-to
 
 pub returns-else-to-index-clause-by_height : goal.returns-else-to-index-clause-by_height
 returns-else-to-index-clause-by_height c =
-    let by_height = c.args.by_height.now.items in
-    let none : BoundedShelf = record { widest = 0; shelf = 0 } in
-    let at : StandsAt c.args.shelf c.args.index by_height = stands-there c.args.shelf c.args.index by_height c.requires.once c.requires.index c.requires.shelf in
-    let one : BoundedShelf = bounded_as c.args.shelf (bound_of c.args.shelf by_height) in
-    let to = c.start_beside-to.result in
-    let stays : c.args.index ≡ to = omega (arith, c.if-to-index.false) in
-    put-back c.args.index by_height none c.requires.index
-    ∙ ap (λ (other : BoundedShelf). insert (remove by_height c.args.index) c.args.index other) (at.read none)
-    ∙ ap (λ n. insert (remove by_height c.args.index) n one) stays
-    ∙ put_in-at c.args.shelves.now one to (remove by_height c.args.index) c.start_beside-to.ensures.within c.start_beside-to.ensures.before c.start_beside-to.ensures.after
-    ∙ ap (put_in c.args.shelves.now one) at.taken
-
-pub returns-then-to-index-clause-within : goal.returns-then-to-index-clause-within
-returns-then-to-index-clause-within c =
-    let by_height = c.args.by_height.now.items in
-    let others = remove by_height c.args.index in
-    omega (
-      arith,
-      ap length c.move_to.ensures.items,
-      length-insert others c.start_beside-to.result (bounded_at by_height c.args.index) c.start_beside-to.ensures.within,
-      c.start_beside-to.ensures.within,
-    )
-
-pub returns-then-to-index-clause-stands : goal.returns-then-to-index-clause-stands
-returns-then-to-index-clause-stands c =
-    let by_height = c.args.by_height.now.items in
-    let others = remove by_height c.args.index in
-    let to = c.start_beside-to.result in
-    ap (λ (l : List BoundedShelf). (bounded_at l to).shelf) c.move_to.ensures.items
-    ∙ ap (λ (one : BoundedShelf). one.shelf) (get_or-insert_at others to (bounded_at by_height c.args.index) (record { widest = 0; shelf = 0 }) c.start_beside-to.ensures.within)
-    ∙ c.requires.shelf
+    let at = goal.at.returns-else-to-index-clause-by_height c in
+    let new = c.set.new.self.items in
+    let within : c.args.index < length new = omega (arith, ap length c.set.ensures.items, length-set c.args.by_height.now.items c.args.index c.args.settled, c.requires.index) in
+    put-back c.args.index new (record { widest = 0; shelf = 0 }) within
+    ∙ ap (insert (remove new c.args.index) c.args.index) (here at.After-from-shelf)
+    ∙ ap (λ n. insert (remove new c.args.index) n c.args.settled) (sym c.if-to-index.false)
+    ∙ placed at.After-start_beside-to
