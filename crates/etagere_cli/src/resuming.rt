@@ -3,7 +3,8 @@
 use crate::input::snapshot_text;
 use etagere::{Allocation, AtlasSnapshot};
 use run_scripts::commands::Reply;
-use run_scripts::reply_text::{Line, line_of};
+use run_scripts::reply_text::line_of;
+use run_scripts::short_text::ShortText;
 use saved_json::{Saved, read_saved};
 use std::alloc::{AllocError, Global};
 use tool_answers::bad_lines::commands_in;
@@ -85,7 +86,7 @@ fn push_allocation(
 }
 
 fn push_replies(bytes: &mut Vec<u8>, replies: &[Reply]) -> Result<(), AllocError> {
-    let mut line = Line::new();
+    let mut line = ShortText::new();
     for reply in replies {
         bytes.extend_from_slice(line_of(reply, &mut line))?;
     }

@@ -22,8 +22,9 @@ use etagere::{AllocatorOptions, AtlasAllocator, Size};
 use etagere_bucketed::BucketedAtlasAllocator;
 use run_scripts::commands::{AtlasCommand, BucketedCommand};
 use run_scripts::faults::StreamFault;
-use run_scripts::reply_text::{Line, line_of};
+use run_scripts::reply_text::line_of;
 use run_scripts::sending::send_line;
+use run_scripts::short_text::ShortText;
 use std::alloc::Global;
 use std::io::{ErrorKind, Write};
 
@@ -114,7 +115,7 @@ pub fn stream_all<A: Answering, W: Write>(
         commands.now atlas.new (W.contents writer.old) (W.contents writer.new)) }
 {
     let mut ledger = ledger;
-    let mut line = Line::new();
+    let mut line = ShortText::new();
     for position in 0..commands.len() {
         let reply = answer_next(atlas, &mut ledger, commands[position]);
         send_line(line_of(&reply, &mut line), writer)?;

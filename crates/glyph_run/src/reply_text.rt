@@ -14,11 +14,15 @@ use crate::commands::GlyphReply;
 use etagere::Rectangle;
 use itoa::Buffer;
 use pictures::send;
-use run_scripts::reply_text::Line;
+use run_scripts::short_text::ShortText;
 use std::io::{self, Write};
 
 /// Writes the line of a reply. What is of a short length is made in `line`.
-pub fn send_line<W: Write>(reply: &GlyphReply, line: &mut Line, writer: &mut W) -> io::Result<()>
+pub fn send_line<W: Write>(
+    reply: &GlyphReply,
+    line: &mut ShortText,
+    writer: &mut W,
+) -> io::Result<()>
     ensures whole { OnOk result (Appends (W.contents writer.old) (W.contents writer.new) (spec.line_of reply.now)) }
     ensures part { OnErr result
         (AppendsPart (W.contents writer.old) (W.contents writer.new) (spec.line_of reply.now)) }
@@ -28,7 +32,7 @@ pub fn send_line<W: Write>(reply: &GlyphReply, line: &mut Line, writer: &mut W) 
 }
 
 /// What a reply says, before the keys that were evicted. It is made in `line`, where it isn't always the same.
-fn words_of<'a>(reply: &GlyphReply, line: &'a mut Line) -> &'a [u8]
+fn words_of<'a>(reply: &GlyphReply, line: &'a mut ShortText) -> &'a [u8]
     ensures { result.now ≡ spec.words_of reply.now }
 {
     match reply {
@@ -45,7 +49,7 @@ fn words_of<'a>(reply: &GlyphReply, line: &'a mut Line) -> &'a [u8]
 }
 
 /// A word and the corners of a rectangle, made in `line`.
-fn with_corners<'a>(word: &str, rectangle: &Rectangle, line: &'a mut Line) -> &'a [u8]
+fn with_corners<'a>(word: &str, rectangle: &Rectangle, line: &'a mut ShortText) -> &'a [u8]
     requires { length word.now ≤ 8 }
     ensures { result.now ≡ word.now ++ corners_text rectangle.now }
 {
@@ -107,7 +111,7 @@ fn send_key<W: Write>(key: u64, writer: &mut W) -> io::Result<()>
     ensures part { OnErr result (AppendsPart (W.contents writer.old) (W.contents writer.new) (key_text key)) }
 {
     let mut digits = Buffer::new();
-    let mut line = Line::new();
+    let mut line = ShortText::new();
     line.begin(" ");
     line.push(digits.format(key));
     send(line.as_bytes(), writer)

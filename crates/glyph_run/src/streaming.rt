@@ -17,7 +17,7 @@ use crate::reply_text::send_line;
 use etagere::{AllocatorOptions, Size};
 use glyph_shelf::GlyphCache;
 use run_scripts::faults::StreamFault;
-use run_scripts::reply_text::Line;
+use run_scripts::short_text::ShortText;
 use std::alloc::Global;
 use std::io::{self, Write};
 use std::num::NonZeroUsize;
@@ -63,7 +63,7 @@ fn stream_all<W: Write>(
     ensures stopped { OnErr result (StopsAt cache.old.atlas.frame cache.old.capacity commands.now cache.new
         (W.contents writer.old) (W.contents writer.new)) }
 {
-    let mut line = Line::new();
+    let mut line = ShortText::new();
     for position in 0..commands.len() {
         let reply = answer(cache, commands[position]);
         send_line(&reply, &mut line, writer)?;

@@ -6,8 +6,9 @@ use etagere_run::{
     Reply, RunFault, StreamFault, run_atlas, run_bucketed, stream_atlas, stream_bucketed,
 };
 use run_scripts::reading::read_all;
-use run_scripts::reply_text::{Line, line_of};
+use run_scripts::reply_text::line_of;
 use run_scripts::script::{Commands, Script, read_script};
+use run_scripts::short_text::ShortText;
 use std::io::{self, Write};
 
 /// Runs the script of standard input as a whole.
@@ -77,7 +78,7 @@ fn say_options(rt: &impl Print, fault: OptionsFault) -> Result<()> {
 
 /// Writes the lines of the replies of a run.
 fn say_all(rt: &impl Print, replies: &[Reply]) -> io::Result<()> {
-    let mut line = Line::new();
+    let mut line = ShortText::new();
     let mut writer = io::writer(rt);
     for reply in replies {
         writer.write_all(line_of(reply, &mut line))?;

@@ -6,7 +6,7 @@ pub mod FirstFaults
 pub mod HeaderLine
 pub mod LastWord
 pub mod LetteredCommands
-pub mod LineLengths
+pub mod LinePieces
 pub mod LineSending
 pub mod Pieces
 pub mod PlainLines

@@ -14,5 +14,5 @@ pub mod reading;
 pub mod reply_text;
 pub mod script;
 pub mod sending;
-mod short_text;
+pub mod short_text;
 pub mod words;

@@ -2,7 +2,7 @@
 //!
 //! Definition: `ReplyText`. A new reply needs its words there and here, and room in the buffer.
 
-ghost use Rattle.std.specs.Prelude.{◌≡◌, ◌≤◌, ◌+◌, ◌++◌, ◌∷◌, [], decimal, length};
+ghost use Rattle.std.specs.Prelude.{◌≡◌, ◌≤◌, ◌+◌, ◌++◌, ◌∷◌, length};
 ghost use Rattle.std.specs.Fmt.{signed_decimal};
 ghost use Rattle.run_scripts.specs.Lines.{space};
 ghost use Rattle.run_scripts.specs.ReplyText as spec;
@@ -11,86 +11,18 @@ ghost use Rattle.run_scripts.specs.ReplyText.{HasPlaces, IsPlace, TellsPlaces, c
 use crate::commands::Reply;
 use crate::short_text::ShortText;
 use etagere_base::{Allocation, Rectangle};
-use std::marker::Model;
 
-/// How many bytes a line has at most: `placed`, an id of 10 digits, and four places of 11 characters.
-pub const LINE_CAPACITY: usize = 66;
-
-/// A line, with its line feed once it is whole.
-#[derive(Drop)]
-pub struct Line {
-    text: ShortText,
-}
-
-impl Model for Line {
-    ghost use Rattle.std.specs.Prelude.{ℕ, List};
-
-    ghost Value = { List ℕ };
-
-    ghost view = { λ line. line.text };
-}
-
-impl Line {
-    /// A line without text.
-    pub fn new() -> Line
-        ensures { result ≡ [] }
-    {
-        Line {
-            text: ShortText::new(),
-        }
-    }
-
-    /// The bytes of the line.
-    pub fn as_bytes(&self) -> &[u8]
-        ensures { result.now ≡ self.now }
-    {
-        self.text.as_bytes()
-    }
-
-    /// Begins anew with a word.
-    pub fn begin(&mut self, word: &str)
-        requires { length word.now ≤ LINE_CAPACITY }
-        ensures { self.new ≡ word.now }
-    {
-        self.text.begin(word);
-    }
-
-    /// Adds a word.
-    pub fn push(&mut self, word: &str)
-        requires { length self.old + length word.now ≤ LINE_CAPACITY }
-        ensures { self.new ≡ self.old ++ word.now }
-    {
-        self.text.push(word);
-    }
-
-    /// Adds a byte.
-    fn push_byte(&mut self, byte: u8)
-        requires { length self.old + 1 ≤ LINE_CAPACITY }
-        ensures { self.new ≡ self.old ++ byte ∷ [] }
-    {
-        self.text.push_byte(byte);
-    }
-
-    /// Adds the decimal digits of a number. Always inlined, as `push_place` is.
-    #[inline(always)]
-    fn push_number(&mut self, number: u32)
-        requires { length self.old + 10 ≤ LINE_CAPACITY }
-        ensures text { self.new ≡ self.old ++ decimal number }
-        ensures length { length self.new ≤ length self.old + 10 }
-    {
-        self.text.push_number(number);
-    }
-
+impl ShortText {
     /// Adds a place, with a minus sign where it is negative. Always inlined: a line with a rectangle has four places.
     #[inline(always)]
     fn push_place(&mut self, place: i32)
-        requires { length self.old + 11 ≤ LINE_CAPACITY }
+        requires { length self.old + 11 ≤ 66 }
         ensures text { self.new ≡ self.old ++ signed_decimal place }
         ensures length { length self.new ≤ length self.old + 11 }
         ensures short { IsPlace place → length self.new ≤ length self.old + 5 }
     {
         if place >= 0 {
-            self.text.push_number(place as u32);
+            self.push_number(place as u32);
             return;
         }
         let mut digits = itoa::Buffer::new();
@@ -100,7 +32,7 @@ impl Line {
     /// Adds a space and a place. Always inlined, as `push_place` is.
     #[inline(always)]
     fn push_next_place(&mut self, place: i32)
-        requires { length self.old + 12 ≤ LINE_CAPACITY }
+        requires { length self.old + 12 ≤ 66 }
         ensures text { self.new ≡ self.old ++ space ∷ signed_decimal place }
         ensures length { length self.new ≤ length self.old + 12 }
         ensures short { IsPlace place → length self.new ≤ length self.old + 6 }
@@ -112,7 +44,7 @@ impl Line {
     /// Adds the corners of a rectangle. Always inlined: each line with a rectangle has them.
     #[inline(always)]
     pub fn push_corners(&mut self, rectangle: &Rectangle)
-        requires { length self.old + 47 ≤ LINE_CAPACITY }
+        requires { length self.old + 47 ≤ 66 }
         ensures text { self.new ≡ self.old ++ corners_text rectangle.now }
         ensures length { length self.new ≤ length self.old + 47 }
         ensures short { HasPlaces rectangle.now → length self.new ≤ length self.old + 23 }
@@ -127,7 +59,7 @@ impl Line {
 /// The line of a reply. It is made in `line`, where it isn't always the same. Always inlined, so that a reply is read
 /// where it was made.
 #[inline(always)]
-pub fn line_of<'a>(reply: &Reply, line: &'a mut Line) -> &'a [u8]
+pub fn line_of<'a>(reply: &Reply, line: &'a mut ShortText) -> &'a [u8]
     ensures text { result.now ≡ spec.line_of reply.now }
     ensures short { TellsPlaces reply.now → length result.now ≤ longest_line }
 {
@@ -155,7 +87,7 @@ pub fn line_of<'a>(reply: &Reply, line: &'a mut Line) -> &'a [u8]
 
 /// Writes the line of a size that was placed. Always inlined: most lines are of that kind.
 #[inline(always)]
-fn write_placed(line: &mut Line, allocation: &Allocation)
+fn write_placed(line: &mut ShortText, allocation: &Allocation)
     ensures text { line.new ≡ spec.line_of (Reply.Placed allocation.now) }
     ensures short { HasPlaces allocation.now.rectangle → length line.new ≤ longest_line }
 {
@@ -166,7 +98,7 @@ fn write_placed(line: &mut Line, allocation: &Allocation)
     line.push_byte(b'\n');
 }
 
-fn write_at(line: &mut Line, rectangle: &Rectangle, index: u32)
+fn write_at(line: &mut ShortText, rectangle: &Rectangle, index: u32)
     ensures text { line.new ≡ spec.line_of (Reply.At rectangle.now index) }
     ensures short { HasPlaces rectangle.now → length line.new ≤ longest_line }
 {
@@ -177,7 +109,7 @@ fn write_at(line: &mut Line, rectangle: &Rectangle, index: u32)
     line.push_byte(b'\n');
 }
 
-fn write_grow_refused(line: &mut Line, number: u32)
+fn write_grow_refused(line: &mut ShortText, number: u32)
     ensures text { line.new ≡ spec.line_of (Reply.GrowRefused number) }
     ensures short { length line.new ≤ longest_line }
 {

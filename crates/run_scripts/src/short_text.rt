@@ -7,7 +7,7 @@ ghost use Rattle.run_scripts.specs.DigitPairs.{pair_text};
 
 use std::marker::Model;
 
-/// How many bytes a short text has at most.
+/// How many bytes a short text has at most: `placed`, an id of 10 digits, and four places of 11 characters.
 const CAPACITY: usize = 66;
 
 /// The two digits of each number below 100, one number after another.

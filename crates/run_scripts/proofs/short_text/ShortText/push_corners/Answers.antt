@@ -1,8 +1,8 @@
 use Rattle.std.proofs.Common.{◌≡◌, ◌++◌, ◌∷◌, rules}
 use Rattle.std.specs.Fmt.{signed_decimal}
 use Rattle.run_scripts.specs.Lines.{space}
-use Rattle.run_scripts.proofs.LineLengths.{one_more}
-use Rattle.run_scripts.proofs.reply_text.Line.push_corners.Goals as goal
+use Rattle.run_scripts.proofs.LinePieces.{one_more}
+use Rattle.run_scripts.proofs.short_text.ShortText.push_corners.Goals as goal
 
 pub returns-clause-text : goal.returns-clause-text
 returns-clause-text c =
