@@ -8,6 +8,7 @@ pub mod MergedByHeight
 pub mod MetShelves
 pub mod NewByHeight
 pub mod NumberedBounds
+pub mod OnlyFree
 pub mod RoomByHeight
 pub mod SettledShelves
 pub mod SplitByHeight

@@ -5,17 +5,17 @@
 //! all shelves in use are sorted anew. Nothing here changes the records, and but for `reserve_shelves` and `settled_notes` takes memory.
 
 ghost use Rattle.std.specs.Prelude.{◌≡◌, ℕ, ◌+◌, ◌<◌, ◌≤◌, IfOk, IfSome, OnErr, OnOk, false, length, true};
-ghost use Rattle.std.specs.List.{AllByRecursion};
 ghost use Rattle.shelf_records.specs.RecordUses.{missing};
-ghost use Rattle.shelf_records.specs.AtlasRecords.{item_at};
 ghost use Rattle.shelf_records.specs.RecordLists.{IsLinked, free_walk, shelf_walk, walked_lists};
 ghost use Rattle.shelf_records.specs.Records.{shelf_chain};
+ghost use Rattle.shelf_heights.specs.Private.ByHeight as heights;
 ghost use Rattle.shelf_heights.specs.Private.ByHeight.{AreByHeight, AreInOrder, chain_order, numbers_by_height};
 ghost use Rattle.etagere_base.specs.Lists.{times};
 ghost use Rattle.etagere_links.specs.Links.{no_link};
 ghost use Rattle.shelf_notes.specs.Private.Pending.{is_in_use, is_listed, is_noted};
 ghost use Rattle.shelf_records.specs.Private.Kept.{AreKept, bare};
-ghost use Rattle.shelf_store.specs.Private.Settling.{AreByHeightButNoted, AreSettled, BeginAsListed, BeginsAsListed, Follows, IsBoundIn, IsBounded, IsSettled};
+ghost use Rattle.shelf_store.specs.Private.Settling as spec;
+ghost use Rattle.shelf_store.specs.Private.Settling.{AreByHeightButNoted, AreSettled, BeginAsListed, BeginsAsListed, Follows, IsBoundIn, IsBounded, IsSettled, bounded_anew};
 
 use crate::starting::{FIRST_ROOM, newly_bounded, sort_shelves};
 use etagere_base::Frame;
@@ -423,6 +423,9 @@ fn move_listed(
     requires noted { is_noted pending.old.notes shelf ≡ true }
     requires in_use { is_in_use pending.old.notes shelf ≡ true }
     requires listed { is_listed pending.old.notes shelf ≡ true }
+    ensures moved { by_height.new.items
+        ≡ heights.put_in pending.new.notes.kept (bounded_anew frame.now records.now shelf)
+        (heights.taken_out shelf by_height.old.items) }
     ensures by_height { AreByHeightButNoted frame.now records.now pending.new.notes by_height.new.items }
     ensures as_listed { BeginAsListed records.now.shelves pending.new.notes }
     ensures settled { IsSettled records.now.shelves pending.new.notes shelf }
@@ -444,6 +447,7 @@ fn bounded_by_items(frame: &Frame, records: &Records, shelf: usize) -> BoundedSh
     requires stands { 1 ≤ times shelf (shelf_walk records.now).met }
     requires within { shelf < length records.now.shelves }
     requires few { length records.now.shelves ≤ no_link }
+    ensures value { result ≡ bounded_anew frame.now records.now shelf }
     ensures shelf { result.shelf ≡ shelf }
     ensures bounded { IsBoundIn (bare frame.now records.now) (walked_lists records.now).entries result }
 {
@@ -458,9 +462,7 @@ fn width_of_only(records: &Records, shelf: usize) -> Option<u16>
     requires linked { IsLinked records.now (walked_lists records.now) }
     requires stands { 1 ≤ times shelf (shelf_walk records.now).met }
     requires within { shelf < length records.now.shelves }
-    ensures { IfSome result (λ widest.
-        AllByRecursion (λ item. (item_at records.now.items item).width ≤ widest)
-        (free_walk records.now shelf).met) }
+    ensures { result ≡ spec.width_of_only records.now.items (free_walk records.now shelf).met }
 {
     let Some(first) = records.shelves()[shelf].first_unallocated.number() else {
         return Some(0);
@@ -489,6 +491,9 @@ fn put_in_new(
     requires in_use { is_in_use pending.old.notes shelf ≡ true }
     requires unlisted { is_listed pending.old.notes shelf ≡ false }
     requires room { length records.now.shelves ≤ by_height.old.capacity }
+    ensures added { by_height.new.items
+        ≡ heights.put_in pending.new.notes.kept (bounded_anew frame.now records.now shelf)
+        by_height.old.items }
     ensures by_height { AreByHeightButNoted frame.now records.now pending.new.notes by_height.new.items }
     ensures as_listed { BeginAsListed records.now.shelves pending.new.notes }
     ensures settled { IsSettled records.now.shelves pending.new.notes shelf }

@@ -13,7 +13,7 @@ use Rattle.shelf_heights.specs.Private.ByHeight.{IsBound}
 use Rattle.shelf_records.specs.Private.Kept.{AreKept, atlas_of, bare}
 use Rattle.shelf_records.proofs.Spelled.Witnessed.{IsPlaced}
 use Rattle.shelf_model.specs.State.{Item, is_free}
-use Rattle.shelf_records.proofs.AllLists.Following.{none-left, step-left}
+use Rattle.shelf_records.proofs.AllLists.Following.{step-left}
 use Rattle.shelf_records.proofs.AllLists.LinkedParts.{free-left}
 use Rattle.shelf_records.proofs.Judged.FreeLists.{times-failed, times-passed}
 use Rattle.shelf_records.proofs.Recorded.RecordsOfIds.{field_at-read}
@@ -86,23 +86,6 @@ pub next-read : (items : List LinkedItem) (number : ℕ) (item : LinkedItem) →
 next-read [] number item within read = absurd (omega arith)
 next-read (x ∷ xs) zero item within read = ap (λ (i : LinkedItem). i.next_unallocated) (sym read)
 next-read (x ∷ xs) (suc number) item within read = next-read xs number item (omega arith) read
-
--- a shelf that has no free item
-pub none-free : (records : Records) (shelf widest : ℕ) → IsLinked records (walked_lists records) → 1 ≤ times shelf (shelf_walk records).met → first_free_of records.shelves shelf ≡ None
-    → AllByRecursion (λ item. (item_at records.items item).width ≤ widest) (free_walk records shelf).met
-none-free records shelf widest linked stands none =
-    let left : (free_walk records shelf).met ≡ [] =
-    none-left free_list.next records.items (first_free_of records.shelves shelf) 0 (free_walk records shelf).met (free-left records shelf linked stands) none in
-    rw left tt
-
--- one that has one free item
-pub one-free : (records : Records) (shelf number : ℕ) → IsLinked records (walked_lists records) → 1 ≤ times shelf (shelf_walk records).met → first_free_of records.shelves shelf ≡ Some number
-    → link_at free_list.next records.items number ≡ None → AllByRecursion (λ item. (item_at records.items item).width ≤ (item_at records.items number).width) (free_walk records shelf).met
-one-free records shelf number linked stands first ends =
-    let step = step-left free_list.next records.items (first_free_of records.shelves shelf) number 0 (free_walk records shelf).met (free-left records shelf linked stands) first in
-    let left : step.others ≡ [] = none-left free_list.next records.items (link_at free_list.next records.items number) 1 step.others step.left ends in
-    let all : (free_walk records shelf).met ≡ number ∷ [] = step.whole ∙ ap (λ (xs : List ℕ). number ∷ xs) left in
-    rw all (omega arith, tt)
 
 -- the record of the first free item is there
 pub first-within : (records : Records) (shelf number : ℕ) → IsLinked records (walked_lists records) → 1 ≤ times shelf (shelf_walk records).met → first_free_of records.shelves shelf ≡ Some number

@@ -1,15 +1,17 @@
 -- What holds of the notes beside the list of shelves by height while the list follows them, and once it has.
-use Rattle.std.specs.Prelude.{◌≡◌, ℕ, ◌<◌, ◌≤◌, List, false, true, length, []}
+use Rattle.std.specs.Prelude.{◌≡◌, ℕ, ◌<◌, ◌≤◌, Option, None, Some, List, false, true, length, [], ◌∷◌}
+use Rattle.std.specs.Option.{option_map_or}
 use Rattle.std.specs.List.{AllByRecursion}
 use Rattle.etagere_base.specs.Lists.{times}
 use Rattle.etagere_base.specs.declared.frames.Frame.{Frame}
+use Rattle.shelf_records.specs.declared.records.LinkedItem.{LinkedItem}
 use Rattle.shelf_records.specs.declared.records.LinkedShelf.{LinkedShelf}
 use Rattle.shelf_records.specs.Private.Kept.{bare}
-use Rattle.shelf_records.specs.RecordLists.{Entry, Records, shelf_numbers, walked_lists}
+use Rattle.shelf_records.specs.RecordLists.{Entry, Records, free_walk, shelf_numbers, walked_lists}
 use Rattle.shelf_heights.specs.Private.ByHeight.{AreInOrder, IsBound, chain_order, numbers_by_height}
 use Rattle.shelf_heights.specs.declared.by_height.BoundedShelf.{BoundedShelf}
 use Rattle.etagere_links.specs.Links.{no_link}
-use Rattle.shelf_records.specs.AtlasRecords.{AtlasRecords, height_of, spelled_shelf}
+use Rattle.shelf_records.specs.AtlasRecords.{AtlasRecords, height_of, item_at, spelled_shelf}
 use Rattle.shelf_notes.specs.Private.Pending.{Notes, is_in_use, is_listed, is_noted, once_where}
 
 -- nothing has changed since the list followed these records
@@ -31,6 +33,22 @@ pub record IsSettled (shelves : List LinkedShelf) (notes : Notes) (shelf : ℕ) 
 abbrev pub IsBoundIn : AtlasRecords → List Entry → BoundedShelf → Type 0
 IsBoundIn atlas entries one =
     AllByRecursion (λ (entry : Entry). entry.number ≡ one.shelf → IsBound one.widest (spelled_shelf atlas entry)) entries
+
+-- the width of the only item of a list, 0 where it has none; none where it has more
+abbrev pub width_of_only : List LinkedItem → List ℕ → Option ℕ
+width_of_only items [] = Some 0
+width_of_only items (item ∷ []) = Some (item_at items item).width
+width_of_only items (item ∷ other ∷ others) = None
+
+-- a shelf that has changed, bounded by the width of its only free item, or by that of its column
+abbrev pub bounded_anew : Frame → Records → ℕ → BoundedShelf
+bounded_anew frame records shelf =
+    record {
+      widest =
+          option_map_or (λ (width : ℕ). width) (width_of_only records.items (free_walk records shelf).met)
+          frame.column_width;
+      shelf = shelf;
+    }
 
 -- the list has the shelves in use in the order of their heights and places, each with a bound, but for those that have
 -- changed since it followed them

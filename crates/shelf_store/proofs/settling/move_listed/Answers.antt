@@ -91,6 +91,12 @@ settled c =
     ∙ ap (λ n. put_in c.kept-2.result.now c.bounded_by_items-one.result (taken_out n c.position_of-index.new.by_height.items)) c.bounded_by_items-one.ensures.shelf
     ∙ rw (c.kept-2.ensures, c.list.ensures.notes, c.position_of-index.ensures.same) refl
 
+pub returns-clause-moved : goal.returns-clause-moved
+returns-clause-moved c =
+    let at = goal.at.returns-clause-moved c in
+    rw c.list.ensures.notes (settled at.After-settle
+    ∙ ap (λ (one : BoundedShelf). put_in (after at.After-kept-2).kept one (taken_out c.args.shelf c.args.by_height.now.items)) c.bounded_by_items-one.ensures.value)
+
 pub returns-clause-by_height : goal.returns-clause-by_height
 returns-clause-by_height c =
     let at = goal.at.returns-clause-by_height c in
