@@ -21,18 +21,9 @@ def filled(keys):
     return [f"cache {SIDES[keys]} {SIDES[keys]} {keys}", *placed(range(keys))]
 
 
-def looked_up(keys):
-    """Looks each of these keys up."""
-    return [f"g {key}" for key in keys]
-
-
 def hits(keys):
-    """Keys that are looked up at random, behind one look at each: else the order of use, in which entries are dropped in
-    the end, would cost more with each look.
-    """
     chooser = random.Random(15)
-    order = chooser.sample(range(keys), keys)
-    return lambda _: (filled(keys) + looked_up(order), looked_up(chooser.choices(range(keys), k=ROUNDS)))
+    return lambda _: (filled(keys), [f"g {chooser.randrange(keys)}" for _ in range(ROUNDS)])
 
 
 def misses_with_room(keys):
