@@ -6,6 +6,7 @@ library while its calls went through what they don't touch, and `most` how many 
 given, as many are wanted as the crate takes, or half as many again below 400.
 """
 
+import sys
 from dataclasses import dataclass
 from typing import Callable, Optional
 
@@ -39,6 +40,14 @@ class Row:
         else:
             head, counted = filling, later
         return text(head), text(head + counted), len(counted)
+
+
+def tell_usage(text):
+    """Prints what a bench does, and ends it, where its first argument is an option: it has none but those for help."""
+    if len(sys.argv) > 1 and sys.argv[1].startswith("-"):
+        is_asked = sys.argv[1] in ("-h", "--help")
+        print(text.strip(), file=sys.stdout if is_asked else sys.stderr)
+        sys.exit(0 if is_asked else 2)
 
 
 def wanted_beside(original):
