@@ -35,7 +35,9 @@ def evictions(keys):
 
 
 def rows_of(keys, room, eviction):
-    """The rows of so many keys, with what a miss takes in the original, and what it took here before."""
+    """The rows of so many keys, with what a miss takes in the original, and what it took here before. What it took here
+    was counted with dropping the keys in the end; what it takes in the original may be, too.
+    """
     return {
         f"{keys} keys: a hit": Row(hits(keys), most=100),
         f"{keys} keys: a miss with room": Row(misses_with_room(keys), room[0], "filling", room[1], 1000),
