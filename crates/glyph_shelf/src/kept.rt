@@ -418,7 +418,7 @@ impl Kept {
         ensures frame { self.new.atlas.frame ≡ self.old.atlas.frame }
         ensures promises { KeepsCachePromises self.new }
     {
-        evicted.reserve(1)?;
+        evicted.reserve_exact(1)?;
         while let Some(last) = self.last_key() {
             evicted.push(last).unwrap();
             if let Some(rectangle) = self.enter_for_last(key, size)? {

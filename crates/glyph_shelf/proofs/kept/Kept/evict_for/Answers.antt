@@ -12,12 +12,12 @@ on_err : {A B : Type 0} (P : Type 0) (r : Result A B) → P → OnErr r P
 on_err P (Ok a) holds = tt
 on_err P (Err b) holds = holds
 
-pub returns-in_err-reserve-clause-err : goal.returns-in_err-reserve-clause-err
-returns-in_err-reserve-clause-err c =
+pub returns-in_err-reserve_exact-clause-err : goal.returns-in_err-reserve_exact-clause-err
+returns-in_err-reserve_exact-clause-err c =
     let now = c.args.self.now in
     let left : List ℕ → Type 0 = λ evicted. RanOut now c.args.size evicted now in
-    on_err (left c.reserve.new.self.items) _
-    (subst left (sym (c.reserve.ensures.items ∙ c.requires.none))
+    on_err (left c.reserve_exact.new.self.items) _
+    (subst left (sym (c.reserve_exact.ensures.items ∙ c.requires.none))
     (ran_out-first now c.args.size c.requires.promises c.requires.fits))
 
 pub returns-in_err-rectangle-clause-err : goal.returns-in_err-rectangle-clause-err
@@ -57,19 +57,19 @@ loop-last-preserved c =
     let same : c.enter_for_last.new.self ≡ (without_last c.loop-last.self) = rw c.in_default-2.is at c.in_ok-rectangle.ensures.none in
     let full : has_room (without_last c.loop-last.self) c.args.size ≡ false = sym c.in_ok-rectangle.ensures.room ∙ ap is_some c.in_default-2.is in (
       evicting-step c.args.self.now c.args.key c.args.size c.loop-last.invariant.0 c.loop-last.invariant.1
-          c.in-Some.ensures.key (c.reserve-in-Some.ensures.items ∙ longer) (same ∙ refl),
+          c.in-Some.ensures.key (c.reserve.ensures.items ∙ longer) (same ∙ refl),
       ap (λ (s : CacheState). has_room s c.args.size) same ∙ full,
-      omega (arith, c.in_ok-reserve-2.ensures.ok),
+      omega (arith, c.in_ok-reserve.ensures.ok),
     )
 
-pub returns-in_err-reserve-2-clause-err : goal.returns-in_err-reserve-2-clause-err
-returns-in_err-reserve-2-clause-err c =
+pub returns-in_err-reserve-clause-err : goal.returns-in_err-reserve-clause-err
+returns-in_err-reserve-clause-err c =
     let longer : c.push.new.self.items ≡ c.loop-last.evicted.items ++ c.in-Some.last ∷ [] = rw c.unwrap.ensures at c.push.ensures.items in
     let same : c.enter_for_last.new.self ≡ (without_last c.loop-last.self) = rw c.in_default-2.is at c.in_ok-rectangle.ensures.none in
-    on_err (RanOut c.args.self.now c.args.size c.reserve-in-Some.new.self.items c.enter_for_last.new.self) _
-    (evicting-stopped c.args.self.now c.args.key c.args.size c.reserve-in-Some.new.self.items c.enter_for_last.new.self c.requires.room
+    on_err (RanOut c.args.self.now c.args.size c.reserve.new.self.items c.enter_for_last.new.self) _
+    (evicting-stopped c.args.self.now c.args.key c.args.size c.reserve.new.self.items c.enter_for_last.new.self c.requires.room
     (evicting-step c.args.self.now c.args.key c.args.size c.loop-last.invariant.0 c.loop-last.invariant.1
-    c.in-Some.ensures.key (c.reserve-in-Some.ensures.items ∙ longer) (same ∙ refl)))
+    c.in-Some.ensures.key (c.reserve.ensures.items ∙ longer) (same ∙ refl)))
 
 pub unreachable-requires : goal.unreachable-requires
 unreachable-requires c =
@@ -92,10 +92,10 @@ returns-in-Some-2-clause-spared c =
     c.loop-last.invariant.1 c.requires.room in
     omega (arith, ap length longer, length-append c.loop-last.evicted.items (c.in-Some.last ∷ []))
 
-pub returns-in_err-reserve-2-clause-spared : goal.returns-in_err-reserve-2-clause-spared
-returns-in_err-reserve-2-clause-spared c =
+pub returns-in_err-reserve-clause-spared : goal.returns-in_err-reserve-clause-spared
+returns-in_err-reserve-clause-spared c =
     let longer : c.push.new.self.items ≡ c.loop-last.evicted.items ++ c.in-Some.last ∷ [] = rw c.unwrap.ensures at c.push.ensures.items in
     let now = c.args.self.now in
     let more = evicted-fewer now c.args.size c.loop-last.evicted.items c.loop-last.self (evictable now) c.loop-last.invariant.0.has
     c.loop-last.invariant.1 c.requires.room in
-    omega (arith, ap length (c.reserve-in-Some.ensures.items ∙ longer), length-append c.loop-last.evicted.items (c.in-Some.last ∷ []))
+    omega (arith, ap length (c.reserve.ensures.items ∙ longer), length-append c.loop-last.evicted.items (c.in-Some.last ∷ []))
