@@ -11,7 +11,7 @@ use Rattle.bucketed_records.specs.Private.Store.{is_kept_idle}
 use Rattle.bucket_index.specs.declared.blocks.Block.{Block}
 use Rattle.bucket_index.specs.declared.blocks.Blocks.{Blocks}
 use Rattle.bucket_index.specs.declared.blocks.Others.{Others}
-use Rattle.bucket_index.specs.Private.Blocks.{AreBeside, AreCounted, AreFirstKnown, AreInSteps, AreKnown, AreKnownOf, AreKnownWhere, AreOthersCounted, AreOthersKnown, AreOthersOf, IsKnown, IsKnownAt, IsKnownOf, IsPart, block_of, expecting, joined, may_be_idle, may_give, raised, with_shelf}
+use Rattle.bucket_index.specs.Private.Blocks.{AreCountedWhere, AreFirstKnown, AreInSteps, AreKnown, AreKnownIf, AreKnownOf, AreKnownWhere, AreOthers, AreOthersKnown, IsBeside, IsFollowed, IsKnown, IsKnownOf, IsPart, block_of, expecting, joined, may_be_idle, may_give, raised, with_shelf}
 
 -- a shelf is known to a block that was counted with it
 pub known-own : (kept : KeptShelf) (block : Block) → IsKnown kept (with_shelf kept block)
@@ -87,13 +87,13 @@ raise-known Before After k one blocks shelves here before known = record {
 }
 
 -- a block of a size is known anew
-pub set-of : (size k : ℕ) (fresh : Block) (blocks : List Block) (shelves : List KeptShelf)
+pub set-of : (Before After : ℕ → Type 0) (size k : ℕ) (fresh : Block) (blocks : List Block) (shelves : List KeptShelf) → ((n : ℕ) → After n → (n ≡ k → ⊥) → Before n)
     → ((number : ℕ) (kept : KeptShelf) → block_of size number ≡ block_of size k → block_of size k < length blocks → slice_get shelves number ≡ Some kept → IsKnown kept fresh)
-    → AreKnownOf (λ number. number ≡ k → ⊥) size blocks shelves → AreKnownOf (λ number. Unit {0}) size (changed_by (Some (block_of size k)) (λ _. fresh) blocks) shelves
-set-of size k fresh blocks shelves all others number kept block any at in_block =
+    → AreKnownOf Before size blocks shelves → AreKnownOf After size (changed_by (Some (block_of size k)) (λ _. fresh) blocks) shelves
+set-of Before After size k fresh blocks shelves before all others number kept block after at in_block =
     read-changed (λ _. fresh) blocks (block_of size k) (block_of size number) block in_block
     (λ z stood same is. subst (IsKnown kept) (sym is) (all number kept same (slice_get_within blocks (block_of size k) z stood) at))
-    (λ apart stood. others number kept block (λ same. apart (ap (block_of size) same)) at stood)
+    (λ apart stood. others number kept block (before number after (λ same. apart (ap (block_of size) same))) at stood)
 
 -- what is known of a shelf by its block is known by a larger one
 pub known-part : (kept : KeptShelf) (block whole : Block) → IsKnown kept block → IsPart block whole → IsKnown kept whole
@@ -160,11 +160,11 @@ busy-of size b blocks shelves known busy k kept here at = by_block (slice_get bl
         by_test false idle is = idle
 
 -- what is known of a shelf is what was known of the one of its number among others
-record IsCarried (Before : ℕ → Type 0) (xs : List KeptShelf) (number : ℕ) (kept : KeptShelf) : Type 0 where
-  was : KeptShelf
-  such : Before number
-  there : slice_get xs number ≡ Some was
-  known : (block : Block) → IsKnown was block → IsKnown kept block
+pub record IsCarried (Before : ℕ → Type 0) (xs : List KeptShelf) (number : ℕ) (kept : KeptShelf) : Type 0 where
+  pub was : KeptShelf
+  pub such : Before number
+  pub there : slice_get xs number ≡ Some was
+  pub known : (block : Block) → IsKnown was block → IsKnown kept block
 
 -- what is known of shelves is known of others
 carry-known : (Before After : ℕ → Type 0) (blocks : Blocks) (xs ys : List KeptShelf) → ((number : ℕ) (kept : KeptShelf) → After number → slice_get ys number ≡ Some kept → IsCarried Before xs number kept)
@@ -181,32 +181,33 @@ carry-known Before After blocks xs ys carried before = record {
         is.known block (known number is.was block is.such is.there in_block)
 
 -- what is known of the blocks of a shelf by others is known of them by other ones
-carry-others : (others : Others) (xs ys : List KeptShelf)
-    → ((number : ℕ) (kept : KeptShelf) → (number ≡ others.number → ⊥) → slice_get ys number ≡ Some kept → IsCarried (λ n. n ≡ others.number → ⊥) xs number kept) → AreBeside others xs → AreBeside others ys
-carry-others others xs ys carried before = record {
-  small = of_size 8 others.small before.small;
-  middle = of_size 64 others.middle before.middle;
-  large = of_size 512 others.large before.large;
+carry-others : (Before After : ℕ → Type 0) (others : Others) (xs ys : List KeptShelf)
+    → ((number : ℕ) (kept : KeptShelf) → After number → slice_get ys number ≡ Some kept → IsCarried Before xs number kept) → AreOthers Before others xs → AreOthers After others ys
+carry-others Before After others xs ys carried before some number kept after at =
+    let is = carried number kept after at in
+    let was = before some number is.was is.such is.there in
+    record {
+      small = λ other same. is.known others.small (was.small other same);
+      middle = λ other same. is.known others.middle (was.middle other same);
+      large = λ other same. is.known others.large (was.large other same);
+    }
+
+-- what is counted of shelves is counted of others
+pub carry-counted : (Before After : ℕ → Type 0) (blocks : Blocks) (xs ys : List KeptShelf)
+    → ((number : ℕ) (kept : KeptShelf) → After number → slice_get ys number ≡ Some kept → IsCarried Before xs number kept) → AreCountedWhere Before blocks xs → AreCountedWhere After blocks ys
+carry-counted Before After blocks xs ys carried counted = record {
+  each = carry-known Before After blocks xs ys carried counted.each;
+  others = carry-others Before After blocks.others xs ys carried counted.others;
+  own = counted.own;
 }
-  where
-    of_size : (size : ℕ) (block : Block) → AreOthersOf size others.number block xs → AreOthersOf size others.number block ys
-    of_size size block known number kept other same at =
-        let is = carried number kept other at in
-        is.known block (known number is.was is.such same is.there)
 
 -- all that is known of shelves is known of others, whose heights are in steps too
-carry-all : (blocks : Blocks) (xs ys : List KeptShelf) → ((IsSuch : ℕ → Type 0) (number : ℕ) (kept : KeptShelf) → IsSuch number → slice_get ys number ≡ Some kept → IsCarried IsSuch xs number kept)
+carry-all : (blocks : Blocks) (xs ys : List KeptShelf) → ((number : ℕ) (kept : KeptShelf) → Unit {0} → slice_get ys number ≡ Some kept → IsCarried (λ n. Unit {0}) xs number kept)
     → (AreInSteps xs → AreInSteps ys) → AreKnown blocks xs → AreKnown blocks ys
 carry-all blocks xs ys carried stepped known = record {
-  counted = λ counts. all (known.counted counts);
+  counted = λ counts. carry-counted (λ n. Unit {0}) (λ n. Unit {0}) blocks xs ys carried (known.counted counts);
   steps = λ in_steps. stepped (known.steps in_steps);
 }
-  where
-    all : AreCounted blocks xs → AreCounted blocks ys
-    all counted = record {
-      each = carry-known (λ n. Unit {0}) (λ n. Unit {0}) blocks xs ys (carried (λ n. Unit {0})) counted.each;
-      others = λ some. carry-others blocks.others xs ys (carried (λ n. n ≡ blocks.others.number → ⊥)) (counted.others some);
-    }
 
 -- each shelf is known where all are of the first so many, of which there are no more
 pub all-known : (count : ℕ) (blocks : Blocks) (shelves : List KeptShelf) → length shelves ≤ count → AreFirstKnown count blocks shelves → AreKnownWhere (λ n. Unit {0}) blocks shelves
@@ -214,11 +215,22 @@ all-known count blocks shelves all known =
     carry-known (λ n. n < count) (λ n. Unit {0}) blocks shelves shelves
     (λ number kept any at. record { was = kept; such = omega (arith, all, slice_get_within shelves number kept at); there = at; known = λ block is. is }) known
 
+-- where all are known the others than one are
+pub known-but : (k : ℕ) (blocks : Blocks) (shelves : List KeptShelf) → AreKnown blocks shelves → AreOthersKnown k blocks shelves
+known-but k blocks shelves known = record {
+  counted = λ counts.
+      carry-counted (λ n. Unit {0}) (λ n. n ≡ k → ⊥) blocks shelves shelves (λ number kept other at. record { was = kept; such = tt; there = at; known = λ block is. is }) (known.counted counts);
+  steps = known.steps;
+}
+
 -- all are known where the others than one that isn't there are
-pub known-past : (k : ℕ) (blocks : Blocks) (shelves : List KeptShelf) → length shelves ≤ k → AreKnownWhere (λ n. n ≡ k → ⊥) blocks shelves → AreKnownWhere (λ n. Unit {0}) blocks shelves
-known-past k blocks shelves past known =
-    carry-known (λ n. n ≡ k → ⊥) (λ n. Unit {0}) blocks shelves shelves
-    (λ number kept any at. record { was = kept; such = λ same. omega (arith, same, past, slice_get_within shelves number kept at); there = at; known = λ block is. is }) known
+pub known-past : (k : ℕ) (blocks : Blocks) (shelves : List KeptShelf) → length shelves ≤ k → AreOthersKnown k blocks shelves → AreKnown blocks shelves
+known-past k blocks shelves past known = record {
+  counted = λ counts.
+      carry-counted (λ n. n ≡ k → ⊥) (λ n. Unit {0}) blocks shelves shelves
+      (λ number kept any at. record { was = kept; such = λ same. omega (arith, same, past, slice_get_within shelves number kept at); there = at; known = λ block is. is }) (known.counted counts);
+  steps = known.steps;
+}
 
 -- where one shelf changed, and its height stays a multiple of eight, heights stay in steps
 pub steps-changed : (k : ℕ) (change : KeptShelf → KeptShelf) (shelves : List KeptShelf) → ((x : KeptShelf) → x.shelf.height % 8 ≡ 0 → (change x).shelf.height % 8 ≡ 0)
@@ -237,21 +249,16 @@ known-others k change blocks shelves height known = record {
     inner : (number : ℕ) → Some k ≡ Some number → number ≡ k
     inner number h = cc
 
-    unchanged : (IsSuch : ℕ → Type 0) (number : ℕ) (kept : KeptShelf) → IsSuch number → (number ≡ k → ⊥) → slice_get (changed_by (Some k) change shelves) number ≡ Some kept → IsCarried IsSuch shelves number kept
-    unchanged IsSuch number kept such other at = record {
+    unchanged : (number : ℕ) (kept : KeptShelf) → (number ≡ k → ⊥) → slice_get (changed_by (Some k) change shelves) number ≡ Some kept → IsCarried (λ n. Unit {0}) shelves number kept
+    unchanged number kept other at = record {
       was = kept;
-      such = such;
+      such = tt;
       there = sym (get-changed_by-other change shelves (Some k) number (λ (h : Some k ≡ Some number). other (inner number h))) ∙ at;
       known = λ block is. is;
     }
 
-    rest : AreCounted blocks shelves → AreOthersCounted k blocks (changed_by (Some k) change shelves)
-    rest counted = record {
-      each = carry-known (λ number. Unit {0}) (λ number. number ≡ k → ⊥) blocks shelves (changed_by (Some k) change shelves) (λ number kept other at. unchanged (λ n. Unit {0}) number kept tt other at)
-          counted.each;
-      others = λ same some. carry-others blocks.others shelves (changed_by (Some k) change shelves)
-          (λ number kept other at. unchanged (λ n. n ≡ blocks.others.number → ⊥) number kept other (λ is. other (is ∙ sym same)) at) (counted.others some);
-    }
+    rest : AreCountedWhere (λ n. Unit {0}) blocks shelves → AreCountedWhere (λ n. n ≡ k → ⊥) blocks (changed_by (Some k) change shelves)
+    rest counted = carry-counted (λ n. Unit {0}) (λ n. n ≡ k → ⊥) blocks shelves (changed_by (Some k) change shelves) unchanged counted
 
 -- an element before the last one
 before-last : {X : Type 0} (xs : List X) (x y : X) (n : ℕ) → (n ≡ length xs → ⊥) → slice_get (xs ++ x ∷ []) n ≡ Some y → slice_get xs n ≡ Some y
@@ -281,16 +288,17 @@ known-added one blocks shelves known = record {
       of-added shelves one kept number at (λ is. ap (λ (s : KeptShelf). s.shelf.height % 8) is ∙ eqb-true (one.shelf.height % 8) 0 tests.1) (known.steps tests.0 number kept);
 }
   where
-    stood : (IsSuch : ℕ → Type 0) (number : ℕ) (kept : KeptShelf) → IsSuch number → (number ≡ length shelves → ⊥) → slice_get (shelves ++ one ∷ []) number ≡ Some kept → IsCarried IsSuch shelves number kept
-    stood IsSuch number kept such other at = record { was = kept; such = such; there = before-last shelves one kept number other at; known = λ block is. is }
+    stood : (number : ℕ) (kept : KeptShelf) → (number ≡ length shelves → ⊥) → slice_get (shelves ++ one ∷ []) number ≡ Some kept → IsCarried (λ n. Unit {0}) shelves number kept
+    stood number kept other at = record { was = kept; such = tt; there = before-last shelves one kept number other at; known = λ block is. is }
 
-    rest : AreCounted blocks shelves → AreOthersCounted (length shelves) (expecting one.shelf.height blocks) (shelves ++ one ∷ [])
-    rest counted = record {
-      each = known-expecting one.shelf.height blocks (shelves ++ one ∷ [])
-          (carry-known (λ number. Unit {0}) (λ number. number ≡ length shelves → ⊥) blocks shelves (shelves ++ one ∷ []) (λ number kept other at. stood (λ n. Unit {0}) number kept tt other at) counted.each);
-      others = λ same some. carry-others blocks.others shelves (shelves ++ one ∷ [])
-          (λ number kept other at. stood (λ n. n ≡ blocks.others.number → ⊥) number kept other (λ is. other (is ∙ sym same)) at) (counted.others some);
-    }
+    rest : AreCountedWhere (λ n. Unit {0}) blocks shelves → AreCountedWhere (λ n. n ≡ length shelves → ⊥) (expecting one.shelf.height blocks) (shelves ++ one ∷ [])
+    rest counted =
+        let more = carry-counted (λ n. Unit {0}) (λ n. n ≡ length shelves → ⊥) blocks shelves (shelves ++ one ∷ []) stood counted in
+        record {
+          each = known-expecting one.shelf.height blocks (shelves ++ one ∷ []) more.each;
+          others = more.others;
+          own = record { small = more.own.small; middle = more.own.middle; large = more.own.large };
+        }
 
 -- the same by the shelves after a push that went well
 pub known-last : (one : KeptShelf) (blocks : Blocks) (shelves all : List KeptShelf) (pushes : Bool) → pushes ≡ true → all ≡ cond pushes (shelves ++ one ∷ []) shelves
@@ -339,22 +347,25 @@ same-at (x ∷ xs) (z ∷ ys) (suc n) y same at found =
 pub known-same : (blocks : Blocks) (xs ys : List KeptShelf) → map known_of ys ≡ map known_of xs → (AreInSteps xs → AreInSteps ys) → AreKnown blocks xs → AreKnown blocks ys
 known-same blocks xs ys same stepped known =
     carry-all blocks xs ys
-    (λ IsSuch number kept such at. same-at xs ys number kept same at (λ x was room live. record {
+    (λ number kept _ at. same-at xs ys number kept same at (λ x was room live. record {
       was = x;
-      such = such;
+      such = tt;
       there = was;
       known = λ block is. record { room = omega (arith, is.room, room); idle = λ idle. is.idle (ap (λ (n : ℕ). n == 0) (sym live) ∙ idle) };
     })) stepped known
 
--- a shelf is known to its blocks where all are known and counted
-pub known-at : (k : ℕ) (before : KeptShelf) (blocks : Blocks) (shelves : List KeptShelf) → slice_get shelves k ≡ Some before → AreKnown blocks shelves → blocks.are_counted ≡ true → IsKnownAt k before blocks
+-- a shelf is known to its blocks, and to what is kept of others, where all are known and counted
+pub known-at : (k : ℕ) (before : KeptShelf) (blocks : Blocks) (shelves : List KeptShelf) → slice_get shelves k ≡ Some before → AreKnown blocks shelves → blocks.are_counted ≡ true → IsFollowed k before blocks
 known-at k before blocks shelves at known counts = own (known.counted counts)
   where
-    own : AreCounted blocks shelves → IsKnownAt k before blocks
+    own : AreCountedWhere (λ n. Unit {0}) blocks shelves → IsFollowed k before blocks
     own counted = record {
-      small = λ block stood. counted.each.small k before block tt at stood;
-      middle = λ block stood. counted.each.middle k before block tt at stood;
-      large = λ block stood. counted.each.large k before block tt at stood;
+      known = record {
+        small = λ block stood. counted.each.small k before block tt at stood;
+        middle = λ block stood. counted.each.middle k before block tt at stood;
+        large = λ block stood. counted.each.large k before block tt at stood;
+      };
+      beside = λ some. counted.others some k before tt at;
     }
 
 -- shelves that aren't counted are known where their heights are in steps
@@ -395,26 +406,56 @@ known-counted first second blocks shelves few low high = (small, whole 64 blocks
         read-changed (λ _. joined first second) bs 0 (block_of size number) block in_block (λ z stood same is. subst (IsKnown kept) (sym is) (both number kept at))
         (λ apart stood. absurd (apart (zero_ number (omega (arith, slice_get_within shelves number kept at, few)))))
 
--- a busy shelf with no more room than it had is known where it was, and all are where the others are
-pub known-stays : (k : ℕ) (before one : KeptShelf) (blocks : Blocks) (shelves : List KeptShelf) → slice_get shelves k ≡ Some one → one.widest_room ≤ before.widest_room → is_kept_idle one ≡ false → IsKnownAt k before blocks
-    → AreKnownWhere (λ number. number ≡ k → ⊥) blocks shelves → AreKnownWhere (λ number. Unit {0}) blocks shelves
-known-stays k before one blocks shelves here narrow busy own others = record {
-  small = of_size 8 blocks.small own.small others.small;
-  middle = of_size 64 blocks.middle own.middle others.middle;
-  large = of_size 512 blocks.large own.large others.large;
+-- a busy shelf with no more room than it had is known where it was
+pub followed-stays : (k : ℕ) (before one : KeptShelf) (blocks : Blocks) → one.widest_room ≤ before.widest_room → is_kept_idle one ≡ false → IsFollowed k before blocks → IsFollowed k one blocks
+followed-stays k before one blocks narrow busy was = record {
+  known = record {
+    small = λ block at. stays block (was.known.small block at);
+    middle = λ block at. stays block (was.known.middle block at);
+    large = λ block at. stays block (was.known.large block at);
+  };
+  beside = λ some.
+      let others = was.beside some in
+      record {
+        small = λ other same. stays blocks.others.small (others.small other same);
+        middle = λ other same. stays blocks.others.middle (others.middle other same);
+        large = λ other same. stays blocks.others.large (others.large other same);
+      };
 }
   where
-    stays : (kept : KeptShelf) (block : Block) → one ≡ kept → IsKnown before block → IsKnown kept block
-    stays kept block same known = subst (λ (shelf : KeptShelf). IsKnown shelf block) same (record { room = omega (arith, known.room, narrow); idle = λ idle. absurd (cc) })
+    stays : (block : Block) → IsKnown before block → IsKnown one block
+    stays block known = record { room = omega (arith, known.room, narrow); idle = λ idle. absurd (cc) }
 
-    of_size : (size : ℕ) (bs : List Block) → IsKnownOf size k before bs → AreKnownOf (λ number. number ≡ k → ⊥) size bs shelves → AreKnownOf (λ number. Unit {0}) size bs shelves
-    of_size size bs is rest number kept block any at in_block = by_number (number == k) refl
+-- all are known where one is and the others are
+pub known-with : (k : ℕ) (one : KeptShelf) (blocks : Blocks) (shelves : List KeptShelf) → slice_get shelves k ≡ Some one → IsFollowed k one blocks → AreOthersKnown k blocks shelves → AreKnown blocks shelves
+known-with k one blocks shelves here own known = record { counted = λ counts. all (known.counted counts); steps = known.steps }
+  where
+    by_other : {P : Type 0} (number : ℕ) (kept : KeptShelf) → slice_get shelves number ≡ Some kept → (number ≡ k → one ≡ kept → P) → ((number ≡ k → ⊥) → P) → P
+    by_other {P} number kept at is other = by_number (number == k) refl
       where
         apart : number ≡ k → (number == k) ≡ false → ⊥
         apart same h = grind arith
 
-        by_number : (t : Bool) → (number == k) ≡ t → IsKnown kept block
+        by_number : (t : Bool) → (number == k) ≡ t → P
         by_number true e =
             let same = eqb-true number k e in
-            stays kept block (some-same (slice_get shelves k) one kept here (ap (slice_get shelves) (sym same) ∙ at)) (is block (ap (λ (n : ℕ). slice_get bs (block_of size n)) (sym same) ∙ in_block))
-        by_number false e = rest number kept block (λ same. apart same e) at in_block
+            is same (some-same (slice_get shelves k) one kept here (ap (slice_get shelves) (sym same) ∙ at))
+        by_number false e = other (λ same. apart same e)
+
+    of_size : (size : ℕ) (bs : List Block) → IsKnownOf size k one bs → AreKnownOf (λ number. number ≡ k → ⊥) size bs shelves → AreKnownOf (λ number. Unit {0}) size bs shelves
+    of_size size bs is rest number kept block any at in_block =
+        by_other number kept at (λ same shelf. subst (λ (s : KeptShelf). IsKnown s block) shelf (is block (ap (λ (n : ℕ). slice_get bs (block_of size n)) (sym same) ∙ in_block)))
+        (λ other. rest number kept block other at in_block)
+
+    all : AreCountedWhere (λ n. n ≡ k → ⊥) blocks shelves → AreCountedWhere (λ n. Unit {0}) blocks shelves
+    all counted = record {
+      each = record {
+        small = of_size 8 blocks.small own.known.small counted.each.small;
+        middle = of_size 64 blocks.middle own.known.middle counted.each.middle;
+        large = of_size 512 blocks.large own.known.large counted.each.large;
+      };
+      others = λ some number kept any at.
+          by_other number kept at (λ same shelf. subst (λ (n : ℕ). IsBeside blocks.others n kept) (sym same) (subst (IsBeside blocks.others k) shelf (own.beside some)))
+          (λ other. counted.others some number kept other at);
+      own = counted.own;
+    }

@@ -60,6 +60,8 @@ pub struct Others {
     pub number: usize,
     /// How much room it had when that was known.
     pub room: u16,
+    /// What is known of the shelf itself: what it had when it was raised last.
+    pub own: Block,
     pub small: Block,
     pub middle: Block,
     pub large: Block,
@@ -69,6 +71,7 @@ pub struct Others {
 const NO_OTHERS: Others = Others {
     number: MOST_SHELVES,
     room: 0,
+    own: NO_SHELVES,
     small: NO_SHELVES,
     middle: NO_SHELVES,
     large: NO_SHELVES,
@@ -83,6 +86,8 @@ pub struct Blocks {
     pub in_steps: bool,
     /// Those of the shelf that was raised last, so that it is lowered again without a recount.
     pub others: Others,
+    /// Whether the blocks of that shelf are yet to be lowered: before a search, or once another shelf changes.
+    pub is_late: bool,
     pub small: [Block; MOST_SMALL],
     pub middle: [Block; MOST_MIDDLE],
     pub large: [Block; MOST_LARGE],
@@ -98,12 +103,11 @@ fn with_shelf(block: Block, kept: &KeptShelf) -> Block
     }
 }
 
-/// Whether a shelf is known wherever the one that it was before is: it has no more room, and holds something live.
-fn stays_known(before: &KeptShelf, kept: &KeptShelf) -> bool
-    ensures { IsTrue result → (kept.now.widest_room ≤ before.now.widest_room)
-        × (is_kept_idle kept.now ≡ false) }
+/// Whether a shelf is known wherever one with this room is: it has no more, and holds something live.
+fn stays_known(room: u16, kept: &KeptShelf) -> bool
+    ensures { IsTrue result → (kept.now.widest_room ≤ room) × (is_kept_idle kept.now ≡ false) }
 {
-    kept.widest_room <= before.widest_room && !kept.is_idle()
+    kept.widest_room <= room && !kept.is_idle()
 }
 
 /// Whether a shelf is to be known just as the one that it was before: it has the same room, and both hold something live.
@@ -234,12 +238,13 @@ impl Blocks {
     /// Those of no shelves.
     pub fn new() -> Blocks
         ensures known { spec.AreKnown result [] }
-        ensures none { result.others.number ≡ 4096 }
+        ensures none { result.others ≡ spec.no_others }
     {
         Blocks {
             are_counted: false,
             in_steps: true,
             others: NO_OTHERS,
+            is_late: false,
             small: [NO_SHELVES; MOST_SMALL],
             middle: [NO_SHELVES; MOST_MIDDLE],
             large: [NO_SHELVES; MOST_LARGE],
@@ -338,6 +343,7 @@ impl Blocks {
             self.others = Others {
                 number,
                 room,
+                own: NO_SHELVES,
                 small: block_at(&self.small, number / SHELVES_OF_BLOCK),
                 middle: block_at(&self.middle, number / SHELVES_OF_MIDDLE),
                 large: block_at(&self.large, number / SHELVES_OF_LARGE),
@@ -352,8 +358,18 @@ impl Blocks {
         requires others { spec.AreOthersKnown number self.old shelves.now }
         ensures { spec.AreKnown self.new shelves.now }
     {
+        let kept = &shelves[number];
         self.remember(number, room);
-        self.raise(number, &shelves[number]);
+        self.raise(number, kept);
+        self.keep_own(kept);
+    }
+
+    /// Keeps what a shelf has that was raised, and that its blocks are as they are to be.
+    fn keep_own(&mut self, kept: &KeptShelf)
+        ensures { self.new ≡ spec.with_own kept.now self.old }
+    {
+        self.is_late = false;
+        self.others.own = with_shelf(NO_SHELVES, kept);
     }
 
     /// Whether the blocks of the shelf of a number, which has this room now, are known by the others.
@@ -374,6 +390,7 @@ impl Blocks {
         set_block(&mut self.small, number / SHELVES_OF_BLOCK, small);
         set_block(&mut self.middle, number / SHELVES_OF_MIDDLE, middle);
         set_block(&mut self.large, number / SHELVES_OF_LARGE, large);
+        self.keep_own(kept);
     }
 
     /// Knows the shelf of a number, which may have less room, or hold something live now.
@@ -399,10 +416,11 @@ impl Blocks {
         requires others { spec.AreOthersKnown number self.old shelves.now }
         ensures { spec.AreKnown self.new shelves.now }
     {
-        self.others.number = MOST_SHELVES;
         let small = number / SHELVES_OF_BLOCK;
         let middle = number / SHELVES_OF_MIDDLE;
         let large = number / SHELVES_OF_LARGE;
+        self.others = NO_OTHERS;
+        self.is_late = false;
         let fresh = counted(shelves, small * SHELVES_OF_BLOCK);
         set_block(&mut self.small, small, fresh);
         let fresh_middle = gathered(&self.small, middle * PARTS_OF_BLOCK);
@@ -411,54 +429,127 @@ impl Blocks {
         set_block(&mut self.large, large, fresh_large);
     }
 
-    /// Forgets what is known by others than the shelf of a number.
-    fn forget_others(&mut self, number: usize)
-        ensures { self.new ≡ spec.forgotten number self.old }
+    /// Lowers the blocks of the shelf that was raised last, where that was put off, so that a search passes over them.
+    #[inline(always)]
+    pub fn settle(&mut self, shelves: &[KeptShelf])
+        requires { spec.AreKnown self.old shelves.now }
+        ensures { spec.AreKnown self.new shelves.now }
     {
-        if number != self.others.number {
-            self.others.number = MOST_SHELVES;
+        if self.is_late {
+            self.settle_beside(shelves, shelves.len());
         }
     }
 
+    /// The same before the blocks of the shelf of a number change, which isn't that one.
+    #[inline(never)]
+    fn settle_beside(&mut self, shelves: &[KeptShelf], number: usize)
+        requires others { spec.AreOthersKnown number self.old shelves.now }
+        ensures others { spec.AreOthersKnown number self.new shelves.now }
+        ensures followed { (room : spec.ℕ) → spec.WasFollowed number room self.old
+            → spec.WasFollowed number room self.new }
+        ensures counted { self.new.are_counted ≡ self.old.are_counted }
+    {
+        let late = self.others.number;
+        if self.are_counted && late != number && late < shelves.len().min(MOST_SHELVES) {
+            self.lower_again(late, &shelves[late]);
+        }
+    }
+
+    /// Whether the blocks of a shelf know it as it is now, since they knew as much of it when it was raised last.
+    #[inline(always)]
+    fn knows_again(&self, number: usize, kept: &KeptShelf) -> bool
+        ensures { IsTrue result → (self.now.others.number ≡ number) × spec.IsKnown kept.now self.now.others.own }
+    {
+        let own = &self.others.own;
+        number == self.others.number
+            && self.others.room <= kept.widest_room
+            && kept.widest_room <= own.widest_room
+            && (own.has_idle || !kept.is_idle())
+    }
+
+    /// Whether the blocks of the shelf that was raised last know more than there is, since it has less now.
+    #[inline(always)]
+    fn knows_more(&self, kept: &KeptShelf) -> bool {
+        let own = &self.others.own;
+        let rest = &self.others.small;
+        kept.widest_room < own.widest_room && rest.widest_room < own.widest_room
+            || own.has_idle && !kept.is_idle() && !rest.has_idle
+    }
+
     /// Knows the shelf of a number, which was this one before. Its blocks are looked at where more is to be known of it
-    /// now, or less may be.
+    /// now, or less may be. Those of the shelf that was raised last are left as they are while they know enough of it.
     #[inline(always)]
     pub fn follow(&mut self, shelves: &[KeptShelf], number: usize, before: &KeptShelf)
         requires within { number < length shelves.now }
-        requires before { self.old.are_counted ≡ true → spec.IsKnownAt number before.now self.old }
+        requires before { self.old.are_counted ≡ true → spec.IsFollowed number before.now self.old }
         requires others { spec.AreOthersKnown number self.old shelves.now }
         ensures { spec.AreKnown self.new shelves.now }
     {
         if !self.are_counted {
             return;
         }
-        if stays_equal(before, &shelves[number]) {
-            self.forget_others(number);
+        let kept = &shelves[number];
+        if stays_equal(before, kept) {
+            return;
+        }
+        if self.knows_again(number, kept) {
+            self.is_late = self.knows_more(kept);
         } else {
-            self.follow_change(shelves, number, before);
+            self.follow_change(shelves, number, before.widest_room, before.is_idle());
         }
     }
 
-    /// Knows the shelf of a number, which was this one before, and may be known by more or by less now. It is seldom
+    /// Knows the shelf of a number, which had this room before, and may be known by more or by less now. It is seldom
     /// called, so that those who follow a shelf needn't keep what it uses.
     #[inline(never)]
-    fn follow_change(&mut self, shelves: &[KeptShelf], number: usize, before: &KeptShelf)
+    fn follow_change(&mut self, shelves: &[KeptShelf], number: usize, room: u16, was_idle: bool)
         requires counted { self.old.are_counted ≡ true }
         requires within { number < length shelves.now }
-        requires before { spec.IsKnownAt number before.now self.old }
+        requires before { spec.WasFollowed number room self.old }
+        requires others { spec.AreOthersKnown number self.old shelves.now }
+        ensures { spec.AreKnown self.new shelves.now }
+    {
+        if self.is_late {
+            self.follow_late(shelves, number, room, was_idle);
+        } else {
+            self.follow_alone(shelves, number, room, was_idle);
+        }
+    }
+
+    /// The same where the shelf that was raised last is yet to be lowered, which may be this one.
+    #[inline(never)]
+    fn follow_late(&mut self, shelves: &[KeptShelf], number: usize, room: u16, was_idle: bool)
+        requires counted { self.old.are_counted ≡ true }
+        requires within { number < length shelves.now }
+        requires before { spec.WasFollowed number room self.old }
+        requires others { spec.AreOthersKnown number self.old shelves.now }
+        ensures { spec.AreKnown self.new shelves.now }
+    {
+        if number == self.others.number {
+            self.lower(shelves, number);
+        } else {
+            self.settle_beside(shelves, number);
+            self.follow_alone(shelves, number, room, was_idle);
+        }
+    }
+
+    /// The same where no other shelf is yet to be lowered.
+    #[inline(always)]
+    fn follow_alone(&mut self, shelves: &[KeptShelf], number: usize, room: u16, was_idle: bool)
+        requires counted { self.old.are_counted ≡ true }
+        requires within { number < length shelves.now }
+        requires before { spec.WasFollowed number room self.old }
         requires others { spec.AreOthersKnown number self.old shelves.now }
         ensures { spec.AreKnown self.new shelves.now }
     {
         let kept = &shelves[number];
-        let wider = u32::from(before.widest_room) + 1;
-        let narrows = kept.widest_room < before.widest_room
+        let wider = u32::from(room) + 1;
+        let narrows = kept.widest_room < room
             && !may_give(&self.small, number / SHELVES_OF_BLOCK, wider);
-        if narrows || before.is_idle() && !kept.is_idle() {
+        if narrows || was_idle && !kept.is_idle() {
             self.lower(shelves, number);
-        } else if stays_known(before, kept) {
-            self.forget_others(number);
-        } else {
-            self.raise_beside(shelves, number, before.widest_room);
+        } else if !stays_known(room, kept) {
+            self.raise_beside(shelves, number, room);
         }
     }
 
@@ -468,9 +559,10 @@ impl Blocks {
         requires others { spec.AreOthersKnown (length shelves.now - 1) self.old shelves.now }
         ensures { spec.AreKnown self.new shelves.now }
     {
+        let last = shelves.len() - 1;
         if self.are_counted {
-            self.raise_beside(shelves, shelves.len() - 1, 0);
-        } else if shelves.len() == SHELVES_OF_BLOCK + 1 {
+            self.raise_beside(shelves, last, 0);
+        } else if last == SHELVES_OF_BLOCK {
             self.count(shelves);
         }
     }
@@ -489,39 +581,35 @@ impl Blocks {
         set_block(&mut self.small, 1, second);
         set_block(&mut self.middle, 0, both);
         set_block(&mut self.large, 0, both);
-        self.others.number = MOST_SHELVES;
+        self.others = NO_OTHERS;
+        self.is_late = false;
         self.are_counted = true;
     }
 
-    /// Knows the shelves that are left after some were dropped. That of a number was this one before, if it is left, and
-    /// may be known by more or by less now. Nothing is known any more of fewer than a small block has.
+    /// Knows the shelves that are left after some were dropped, and that of a number changed, if it is left. Nothing is
+    /// known any more of fewer than a small block has.
     #[inline(always)]
-    pub fn follow_dropped(&mut self, shelves: &[KeptShelf], number: usize, before: &KeptShelf)
-        requires before { self.old.are_counted ≡ true → spec.IsKnownAt number before.now self.old }
-        requires others { spec.AreOthersKnown number self.old shelves.now }
+    pub fn follow_dropped(&mut self, shelves: &[KeptShelf], number: usize)
+        requires { spec.AreOthersKnown number self.old shelves.now }
         ensures { spec.AreKnown self.new shelves.now }
     {
         if self.are_counted {
-            self.follow_left(shelves, number, before);
+            self.follow_left(shelves, number);
         }
     }
 
     /// The same where they were counted.
     #[inline(never)]
-    fn follow_left(&mut self, shelves: &[KeptShelf], number: usize, before: &KeptShelf)
-        requires before { self.old.are_counted ≡ true → spec.IsKnownAt number before.now self.old }
+    fn follow_left(&mut self, shelves: &[KeptShelf], number: usize)
+        requires counted { self.old.are_counted ≡ true }
         requires others { spec.AreOthersKnown number self.old shelves.now }
         ensures { spec.AreKnown self.new shelves.now }
     {
-        let before = *before;
         if shelves.len() < SHELVES_OF_BLOCK {
             self.are_counted = false;
-            return;
-        }
-        if number < shelves.len() {
-            self.follow(shelves, number, &before);
-        } else {
-            self.forget_others(number);
+        } else if number < shelves.len() {
+            self.settle_beside(shelves, number);
+            self.recount(shelves, number);
         }
     }
 }

@@ -333,7 +333,7 @@ fn raise_span(spans: &mut [Span], block: usize, room: u16)
 {
     if block < spans.len() {
         let span = &mut spans[block];
-        *span = widened(*span, room);
+        span.widest_room = wider(span.widest_room, room);
     }
 }
 
@@ -493,7 +493,7 @@ impl Spans {
     }
 
     /// Knows the record of a number, which had this room before. Its spans are gone over where they may have less room
-    /// now.
+    /// now, unless it was widened last.
     #[inline(always)]
     pub fn track(&mut self, buckets: &[LinkedBucket], number: usize, before: u16)
         requires within { number < length buckets.now }
@@ -507,11 +507,15 @@ impl Spans {
                 before,
                 room,
             };
-            self.track_change(buckets, &change);
+            if self.was_widened(number) {
+                self.bound_again(&change);
+            } else {
+                self.track_change(buckets, &change);
+            }
         }
     }
 
-    /// Knows a record whose room changed.
+    /// Knows a record whose room changed, and that wasn't widened last.
     #[inline(never)]
     fn track_change(&mut self, buckets: &[LinkedBucket], change: &Change)
         requires number { change.now.number < length buckets.now }
@@ -521,8 +525,6 @@ impl Spans {
     {
         if change.before <= change.room {
             self.widen(change);
-        } else if self.was_widened(change.number) {
-            self.narrow_again(change);
         } else {
             self.narrow(buckets, change);
         }
@@ -556,8 +558,9 @@ impl Spans {
         raise_span(&mut self.large, large, change.room);
     }
 
-    /// Knows the record that was widened last, which may have less room now: what others have is known.
-    fn narrow_again(&mut self, change: &Change)
+    /// Knows the record that was widened last, whose room changed again: what others have is known.
+    #[inline(always)]
+    fn bound_again(&mut self, change: &Change)
         requires last { self.old.others.number ≡ change.now.number }
         requires some { change.now.number < no_link }
         ensures { (buckets : List LinkedBucket)

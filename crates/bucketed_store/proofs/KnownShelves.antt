@@ -8,8 +8,8 @@ use Rattle.bucketed_model.specs.Merging.{Group}
 use Rattle.bucketed_records.specs.declared.records.KeptShelf.{KeptShelf}
 use Rattle.bucketed_records.specs.Private.Store.{last_kept}
 use Rattle.bucket_index.specs.declared.blocks.Blocks.{Blocks}
-use Rattle.bucket_index.specs.Private.Blocks.{AreBeside, AreInSteps, AreKnown, AreOthersCounted, AreOthersKnown}
-use Rattle.bucket_index.proofs.KnownBlocks.{AreSome, known-same, known_of, some-taken, steps-changed}
+use Rattle.bucket_index.specs.Private.Blocks.{AreInSteps, AreKnown, AreOthersKnown}
+use Rattle.bucket_index.proofs.KnownBlocks.{AreSome, carry-counted, known-same, known_of, some-taken, steps-changed}
 use Rattle.bucketed_store.specs.Private.Placing.{kept_height}
 use Rattle.bucketed_store.specs.Private.Returns.{Dropping, end_dropped, last_dropped}
 use Rattle.bucketed_store.specs.Private.StoreEdits.{across_of, flattened, group_height, kept_merged, to_height}
@@ -35,26 +35,11 @@ some-dropped (suc steps) done number kept at = by_last (λ next. some-dropped st
 -- where the others are known they are known of some of the shelves
 pub others-some : (k : ℕ) (blocks : Blocks) (all shelves : List KeptShelf) → AreSome all shelves → AreOthersKnown k blocks all → AreOthersKnown k blocks shelves
 others-some k blocks all shelves some known = record {
-  counted = λ counts. rest (known.counted counts);
+  counted = λ counts.
+      carry-counted (λ n. n ≡ k → ⊥) (λ n. n ≡ k → ⊥) blocks all shelves (λ number kept other at. record { was = kept; such = other; there = some number kept at; known = λ block is. is })
+      (known.counted counts);
   steps = λ in_steps number kept at. known.steps in_steps number kept (some number kept at);
 }
-  where
-    beside : AreBeside blocks.others all → AreBeside blocks.others shelves
-    beside is = record {
-      small = λ number kept other same at. is.small number kept other same (some number kept at);
-      middle = λ number kept other same at. is.middle number kept other same (some number kept at);
-      large = λ number kept other same at. is.large number kept other same (some number kept at);
-    }
-
-    rest : AreOthersCounted k blocks all → AreOthersCounted k blocks shelves
-    rest counted = record {
-      each = record {
-        small = λ number kept block other at in_block. counted.each.small number kept block other (some number kept at) in_block;
-        middle = λ number kept block other at in_block. counted.each.middle number kept block other (some number kept at) in_block;
-        large = λ number kept block other at in_block. counted.each.large number kept block other (some number kept at) in_block;
-      };
-      others = λ same one. beside (counted.others same one);
-    }
 
 -- what is left of shelves in steps is in steps
 steps-dropped : (n : ℕ) (shelves : List KeptShelf) → AreInSteps shelves → AreInSteps (drop n shelves)

@@ -2,7 +2,7 @@
 //!
 //! Definitions: `Store`, `StoreEdits`. `Store` also says when records spell a state.
 
-ghost use Rattle.std.specs.Prelude.{◌≡◌, ◌+◌, ◌-◌, ◌*◌, ◌<◌, ◌≤◌, ◌^◌, [], None, Some, IfOk, IsSome, OnOk, OnErr, false, length, slice_get, vec_len, vec_capacity, map};
+ghost use Rattle.std.specs.Prelude.{IsTrue, ◌≡◌, ◌+◌, ◌-◌, ◌*◌, ◌<◌, ◌≤◌, ◌^◌, [], None, Some, IfOk, IsSome, OnOk, OnErr, false, length, slice_get, vec_len, vec_capacity, map};
 ghost use Rattle.etagere_links.specs.Edits.{changed_by};
 ghost use Rattle.etagere_links.specs.Links.{no_link};
 ghost use Rattle.bucketed_model.specs.Adding as adding;
@@ -236,6 +236,14 @@ impl Store {
         merge(&mut self.shelves, group);
     }
 
+    /// Makes what is known of shelves exact where that was put off, so that a search passes over as many as it can.
+    #[inline(always)]
+    pub fn settle(&mut self)
+        ensures { self.new ≡ self.old }
+    {
+        self.blocks.settle(&self.shelves);
+    }
+
     /// What a bucket that was found gives next, if it is this wide.
     pub fn allocation(&self, frame: &Frame, found: &Found, width: u32) -> Allocation
         requires { spec.CanGive frame.now width found.now self.now }
@@ -296,32 +304,16 @@ impl Store {
             } }
     {
         let before = self.shelves[found.shelf];
-        let keeps = keeps_widest(&self.shelves, &self.buckets, found, room, self.may_be_long);
-        let goes_far = self.goes_far(found, keeps);
-        learn_row(
-            &self.shelves,
-            &self.buckets,
-            &mut self.spans,
-            found,
-            goes_far,
-        );
         give_from(
             &mut self.shelves,
             &self.buckets,
-            &self.spans,
+            &mut self.spans,
             &mut self.filled,
             found,
-            keeps,
+            room,
+            self.may_be_long,
         );
         self.blocks.follow(&self.shelves, found.shelf, &before);
-    }
-
-    /// Whether a search along the buckets of the shelf of a bucket that was found goes far over buckets of which
-    /// nothing is known.
-    fn goes_far(&self, found: &Found, keeps: bool) -> bool
-        requires { found.now.shelf < length self.now.shelves }
-    {
-        self.may_be_long && goes_far(&self.shelves, &self.buckets, &self.spans, found, keeps)
     }
 
     /// Whether the bucket that an id names has given its item, and holds something live.
@@ -367,7 +359,7 @@ impl Store {
             &mut self.spans,
             &mut self.unused,
         );
-        self.blocks.follow_dropped(&self.shelves, shelf, &before);
+        self.blocks.follow_dropped(&self.shelves, shelf);
         self.filled.forget();
         Returned {
             area,
@@ -698,13 +690,14 @@ fn learn_row(
     buckets: &[LinkedBucket],
     spans: &mut Spans,
     found: &Found,
-    goes_far: bool,
+    keeps: bool,
+    may_be_long: bool,
 )
     requires shelf { found.now.shelf < length shelves.now }
     requires spans { AreSpans spans.old buckets.now }
     ensures { AreSpans spans.new buckets.now }
 {
-    if goes_far {
+    if may_be_long && goes_far(shelves, buckets, spans, found, keeps) {
         spans.learn(buckets, first_bucket(shelves, found.shelf));
     }
 }
@@ -738,9 +731,27 @@ fn keeps_widest(
             && has_room(widest, buckets, next_of(buckets, found.bucket))
 }
 
+/// Whether no bucket of the shelf of the one that was found can give anything, as when that gave an item before.
+#[inline(always)]
+fn is_filled(
+    shelves: &[KeptShelf],
+    buckets: &[LinkedBucket],
+    filled: &Filled,
+    found: &Found,
+) -> bool
+    requires number { found.now.shelf < length shelves.now }
+    requires filled { IsFilled filled.now buckets.now }
+    ensures { IsTrue result
+        → searching.widest_from most_buckets buckets.now
+        (spec.first_bucket_of shelves.now found.now.shelf)
+        ≡ 0 }
+{
+    filled.is_full(buckets, first_bucket(shelves, found.shelf), found.bucket)
+}
+
 /// The greatest width that a bucket of a shelf can give, after the one that was found gave an item. Buckets from
 /// the first one on are looked at only where it isn't known that the shelf keeps a bucket as wide as its widest
-/// was, and then up to one that is; none where the others have been full since the one that was found gave one before.
+/// was, and then up to one that is.
 fn widest_after(
     shelves: &[KeptShelf],
     buckets: &[LinkedBucket],
@@ -766,35 +777,39 @@ fn widest_after(
         return widest;
     }
     let first = first_bucket(shelves, found.shelf);
-    if filled.is_full(buckets, first, found.bucket) {
-        return 0;
-    }
     let room = widest_room(buckets, spans, first, widest);
     filled.learn(first, found.bucket, room);
     room
 }
 
-/// Counts one more live item in the shelf of a bucket that was found, and keeps what the buckets of the shelf can
-/// give now.
+/// Counts one more live item in the shelf of a bucket that was found and had this room before, and keeps what the
+/// buckets of the shelf can give now. Where they are all full, as when it gave an item before, none is looked at.
+#[inline(always)]
 fn give_from(
     shelves: &mut [KeptShelf],
     buckets: &[LinkedBucket],
-    spans: &Spans,
+    spans: &mut Spans,
     filled: &mut Filled,
     found: &Found,
-    keeps: bool,
+    room: u16,
+    may_be_long: bool,
 )
     requires number { found.now.shelf < length shelves.old }
     requires few { spec.live_items_of shelves.old found.now.shelf + 1 < 2 ^ 32 }
-    requires most { searching.widest_from most_buckets buckets.now
-        (spec.first_bucket_of shelves.old found.now.shelf)
-        ≤ spec.widest_of shelves.old found.now.shelf }
-    requires keeps { spec.KeepsWidest found.now.shelf keeps shelves.old buckets.now }
-    requires spans { AreSpans spans.now buckets.now }
+    requires widest { spec.IsWidestKept found.now.shelf found.now.bucket room shelves.old
+        buckets.now }
+    requires spans { AreSpans spans.old buckets.now }
     requires filled { IsFilled filled.old buckets.now }
     ensures shelves { shelves.new ≡ spec.shelves_given found.now.shelf shelves.old buckets.now }
+    ensures spans { AreSpans spans.new buckets.now }
     ensures filled { IsFilled filled.new buckets.now }
 {
+    if room >= widest_of(shelves, found.shelf) && is_filled(shelves, buckets, filled, found) {
+        count_given(shelves, found.shelf, 0);
+        return;
+    }
+    let keeps = keeps_widest(shelves, buckets, found, room, may_be_long);
+    learn_row(shelves, buckets, spans, found, keeps, may_be_long);
     let widest = widest_after(shelves, buckets, spans, filled, found, keeps);
     count_given(shelves, found.shelf, widest);
 }

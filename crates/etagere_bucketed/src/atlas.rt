@@ -248,6 +248,7 @@ impl BucketedAtlasAllocator {
             height: self.available_height,
             buckets: MOST_BUCKETS - self.buckets_in_use,
         };
+        self.store.settle();
         let Some(placement) = placement_of(&self.frame, &left, &sides, &self.store) else {
             return Ok(None);
         };

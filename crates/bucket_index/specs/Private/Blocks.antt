@@ -86,8 +86,16 @@ abbrev pub block_at : List Block → ℕ → Block
 block_at blocks number = get_or blocks number no_shelves
 
 -- nothing is known of others
-abbrev pub no_others : Others → Others
-no_others others = record others { number = 4096 }
+abbrev pub no_others : Others
+no_others =
+    record {
+      number = 4096;
+      room = 0;
+      own = no_shelves;
+      small = no_shelves;
+      middle = no_shelves;
+      large = no_shelves;
+    }
 
 -- the blocks of a shelf that had this room, as they stand
 abbrev pub remembered_others : ℕ → ℕ → Blocks → Others
@@ -95,6 +103,7 @@ remembered_others number room blocks =
     record {
       number = number;
       room = room;
+      own = no_shelves;
       small = block_at blocks.small (block_of 8 number);
       middle = block_at blocks.middle (block_of 64 number);
       large = block_at blocks.large (block_of 512 number);
@@ -108,10 +117,18 @@ remembered number room blocks =
           cond (number == blocks.others.number) blocks.others (remembered_others number room blocks);
     }
 
+-- the blocks know this shelf as it is, and it is the one that was raised last
+abbrev pub with_own : KeptShelf → Blocks → Blocks
+with_own kept blocks =
+    record blocks {
+      is_late = false;
+      others = record blocks.others { own = with_shelf kept no_shelves };
+    }
+
 -- what is known of the blocks of a shelf by the others and it
 abbrev pub lowered : ℕ → KeptShelf → Blocks → Blocks
 lowered number kept blocks =
-    record blocks {
+    record (with_own kept blocks) {
       small =
           changed_by (Some (block_of 8 number)) (λ _. with_shelf kept blocks.others.small) blocks.small;
       middle =
@@ -122,11 +139,6 @@ lowered number kept blocks =
           blocks.large;
     }
 
--- what is known by others than this shelf is forgotten
-abbrev pub forgotten : ℕ → Blocks → Blocks
-forgotten number blocks =
-    record blocks { others = cond (number == blocks.others.number) blocks.others (no_others blocks.others) }
-
 -- what is known where a shelf of this height is to be added
 abbrev pub expecting : ℕ → Blocks → Blocks
 expecting height blocks = record blocks { in_steps = blocks.in_steps && height % 8 == 0 }
@@ -135,22 +147,33 @@ expecting height blocks = record blocks { in_steps = blocks.in_steps && height %
 abbrev pub end_of : ℕ → ℕ → ℕ
 end_of size shelf = block_of size shelf * size + size
 
--- each other shelf of the block of this size in which one stands is known to what is kept of it
-abbrev pub AreOthersOf : ℕ → ℕ → Block → List KeptShelf → Type 0
-AreOthersOf size one block shelves =
-    (number : ℕ) (kept : KeptShelf) → (number ≡ one → ⊥)
-    → block_of size number ≡ block_of size one
-    → slice_get shelves number ≡ Some kept → IsKnown kept block
+-- another shelf of the block of this size in which one stands is known to what is kept of it
+abbrev pub IsBesideOf : ℕ → ℕ → Block → ℕ → KeptShelf → Type 0
+IsBesideOf size one block number kept =
+    (number ≡ one → ⊥) → block_of size number ≡ block_of size one → IsKnown kept block
 
 -- the same of the blocks of each size
-pub record AreBeside (others : Others) (shelves : List KeptShelf) : Type 0 where
-  pub small : AreOthersOf 8 others.number others.small shelves
-  pub middle : AreOthersOf 64 others.number others.middle shelves
-  pub large : AreOthersOf 512 others.number others.large shelves
+pub record IsBeside (others : Others) (number : ℕ) (kept : KeptShelf) : Type 0 where
+  pub small : IsBesideOf 8 others.number others.small number kept
+  pub middle : IsBesideOf 64 others.number others.middle number kept
+  pub large : IsBesideOf 512 others.number others.large number kept
 
--- the same where something is known of others
-abbrev pub AreOthers : Others → List KeptShelf → Type 0
-AreOthers others shelves = others.number < 4096 → AreBeside others shelves
+-- the same of each shelf of such a number, where something is known of others
+abbrev pub AreOthers : (ℕ → Type 0) → Others → List KeptShelf → Type 0
+AreOthers IsSuch others shelves =
+    others.number < 4096 → (number : ℕ) (kept : KeptShelf) → IsSuch number
+    → slice_get shelves number ≡ Some kept → IsBeside others number kept
+
+-- the block of this size in which a shelf stands knows what is kept of the shelf itself
+abbrev pub IsOwnOf : ℕ → ℕ → Block → List Block → Type 0
+IsOwnOf size number own blocks =
+    (block : Block) → slice_get blocks (block_of size number) ≡ Some block → IsPart own block
+
+-- the blocks of the shelf that was raised last know it as it was then
+pub record IsOwnKnown (blocks : Blocks) : Type 0 where
+  pub small : IsOwnOf 8 blocks.others.number blocks.others.own blocks.small
+  pub middle : IsOwnOf 64 blocks.others.number blocks.others.own blocks.middle
+  pub large : IsOwnOf 512 blocks.others.number blocks.others.own blocks.large
 
 -- the height of each shelf is a multiple of eight
 abbrev pub AreInSteps : List KeptShelf → Type 0
@@ -161,25 +184,37 @@ AreInSteps shelves =
 abbrev pub IsStep : ℕ → List KeptShelf → Type 0
 IsStep step shelves = 1 < step → (step ≡ 8) × AreInSteps shelves
 
--- each of these shelves is known to its blocks, and what is known of others is right
-pub record AreCounted (blocks : Blocks) (shelves : List KeptShelf) : Type 0 where
-  pub each : AreKnownWhere (λ number. Unit {0}) blocks shelves
-  pub others : AreOthers blocks.others shelves
+-- each of these shelves of such a number is known to its blocks, and what is known of others is
+-- right for them
+pub record AreCountedWhere (IsSuch : ℕ → Type 0) (blocks : Blocks) (shelves : List KeptShelf)
+    : Type 0 where
+  pub each : AreKnownWhere IsSuch blocks shelves
+  pub others : AreOthers IsSuch blocks.others shelves
+  pub own : IsOwnKnown blocks
 
--- the same where they are counted, and heights are in steps where that is known
-pub record AreKnown (blocks : Blocks) (shelves : List KeptShelf) : Type 0 where
-  pub counted : blocks.are_counted ≡ true → AreCounted blocks shelves
+-- the same of these shelves where they are counted, and heights are in steps where that is known
+pub record AreKnownIf (IsSuch : ℕ → Type 0) (blocks : Blocks) (shelves : List KeptShelf) : Type 0 where
+  pub counted : blocks.are_counted ≡ true → AreCountedWhere IsSuch blocks shelves
   pub steps : blocks.in_steps ≡ true → AreInSteps shelves
+
+-- the same of each shelf
+abbrev pub AreKnown : Blocks → List KeptShelf → Type 0
+AreKnown = AreKnownIf (λ number. Unit {0})
 
 -- the same where nothing is said of one shelf
-pub record AreOthersCounted (one : ℕ) (blocks : Blocks) (shelves : List KeptShelf) : Type 0 where
-  pub each : AreKnownWhere (λ number. number ≡ one → ⊥) blocks shelves
-  pub others : blocks.others.number ≡ one → AreOthers blocks.others shelves
+abbrev pub AreOthersKnown : ℕ → Blocks → List KeptShelf → Type 0
+AreOthersKnown one = AreKnownIf (λ number. number ≡ one → ⊥)
 
--- and the same where they are counted, with heights in steps where that is known
-pub record AreOthersKnown (one : ℕ) (blocks : Blocks) (shelves : List KeptShelf) : Type 0 where
-  pub counted : blocks.are_counted ≡ true → AreOthersCounted one blocks shelves
-  pub steps : blocks.in_steps ≡ true → AreInSteps shelves
+-- the shelf of a number is known to its blocks, and to what is kept of others
+pub record IsFollowed (number : ℕ) (kept : KeptShelf) (blocks : Blocks) : Type 0 where
+  pub known : IsKnownAt number kept blocks
+  pub beside : blocks.others.number < 4096 → IsBeside blocks.others number kept
+
+-- the same of one that has this room
+pub record WasFollowed (number width : ℕ) (blocks : Blocks) : Type 0 where
+  pub before : KeptShelf
+  pub room : before.widest_room ≡ width
+  pub followed : IsFollowed number before blocks
 
 -- each of the first so many shelves is known to its blocks
 abbrev pub AreFirstKnown : ℕ → Blocks → List KeptShelf → Type 0

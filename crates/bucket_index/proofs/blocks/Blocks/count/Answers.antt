@@ -1,5 +1,6 @@
 use Rattle.std.proofs.Common.{arith}
 use Rattle.bucket_index.proofs.KnownBlocks.{known-counted}
+use Rattle.bucket_index.proofs.OtherShelves.{part-none}
 use Rattle.bucket_index.proofs.blocks.Blocks.count.Goals as goal
 
 pub returns : goal.returns
@@ -13,6 +14,7 @@ returns c =
           large = rw (c.set_block-4.ensures, c.joined-both.ensures) known.2;
         };
         others = λ some. absurd (omega (arith, some));
+        own = record { small = λ block at. part-none block; middle = λ block at. part-none block; large = λ block at. part-none block };
       };
       steps = c.requires.steps;
     }

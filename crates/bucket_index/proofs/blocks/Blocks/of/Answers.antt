@@ -4,6 +4,7 @@ use Rattle.std.proofs.lemmas.Option.{slice_get_read, slice_get_within}
 use Rattle.std.specs.Prelude.{slice_get, ◌%◌, ◌&&◌}
 use Rattle.bucket_index.specs.Private.Blocks.{AreFirstKnown, KeptShelf, expecting}
 use Rattle.bucket_index.proofs.KnownBlocks.{all-known, known-expecting, raise-known, some-same}
+use Rattle.bucket_index.proofs.OtherShelves.{none-others, none-own}
 use Rattle.bucket_index.proofs.blocks.Blocks.of.Goals as goal
 
 -- heights are in steps with one more shelf, whose height was expected
@@ -24,7 +25,7 @@ steps-more before shelves number one there steps both n kept below at = by_numbe
 pub loop-number-init : goal.loop-number-init
 loop-number-init c = record {
   first = all;
-  others = λ some. absurd (omega (arith, some, c.new-known.ensures.none));
+  others = c.new-known.ensures.none;
   steps = λ in_steps number kept below at. absurd (omega (arith, below));
 }
   where
@@ -55,7 +56,10 @@ returns c =
     record {
       counted = λ _. record {
         each = record { small = all.small; middle = all.middle; large = all.large };
-        others = c.loop-number.invariant.others;
+        others = none-others (λ n. Unit {0}) c.loop-number.known c.args.shelves.now c.loop-number.invariant.others;
+        own =
+            let own = none-own c.loop-number.known c.loop-number.invariant.others in
+            record { small = own.small; middle = own.middle; large = own.large };
       };
       steps = λ in_steps number kept at.
           c.loop-number.invariant.steps in_steps number kept (omega (arith, slice_get_within c.args.shelves.now number kept at, c.loop-number-test.false)) at;

@@ -1,4 +1,4 @@
-use Rattle.std.proofs.Common.{◌≡◌, ◌≤◌, List, Some, length, refl, ap, subst, sym, ◌∙◌, arith}
+use Rattle.std.proofs.Common.{◌≡◌, List, Some, length, refl, ap, subst, sym, ◌∙◌, arith}
 use Rattle.std.proofs.lemmas.List.{with_items_is}
 use Rattle.std.proofs.lemmas.Option.{slice_get-get_or}
 use Rattle.std.specs.Prelude.{slice_get}
@@ -12,34 +12,24 @@ use Rattle.bucket_index.specs.Private.Filling.{IsFilled}
 use Rattle.bucket_index.specs.Private.Searching.{widest_from}
 use Rattle.bucket_index.specs.Private.Spans.{AreSpans}
 use Rattle.bucket_index.proofs.KnownBlocks.{known-at, known-others}
-use Rattle.bucketed_store.specs.Private.StoreEdits.{KeepsWidest, first_bucket_of, given_from, shelves_given, widest_of}
+use Rattle.bucketed_store.specs.Private.StoreEdits.{IsWidestKept, first_bucket_of, given_from, shelves_given}
 use Rattle.bucketed_store.proofs.store.Store.give_from.Goals as goal
 
 -- what holds of some shelves and buckets holds of the same
 of-same : (P : List KeptShelf → List LinkedBucket → Type 0) (xs ys : List KeptShelf) (bs cs : List LinkedBucket) → xs ≡ ys → bs ≡ cs → P ys cs → P xs bs
 of-same P xs ys bs cs shelves buckets h = subst (λ (zs : List KeptShelf). P zs bs) (sym shelves) (subst (P ys) (sym buckets) h)
 
-pub give_from-requires-clause-most : goal.give_from-requires-clause-most
-give_from-requires-clause-most c =
-    let shelf = c.args.found.now.shelf in
-    of-same (λ xs bs. widest_from most_buckets bs (first_bucket_of xs shelf) ≤ widest_of xs shelf) _ _ _ _
-    c.deref_mut.ensures.value c.deref-5.ensures.value
-    (subst (λ (stored : Stored). widest_from most_buckets stored.buckets (first_bucket_of stored.shelves shelf) ≤ widest_of stored.shelves shelf) (sym c.self.view_is) c.requires.widest.most)
-
-pub give_from-requires-clause-keeps : goal.give_from-requires-clause-keeps
-give_from-requires-clause-keeps c =
-    let Keeps = KeepsWidest c.args.found.now.shelf c.keeps_widest-keeps.result in
-    of-same Keeps _ _ _ _ c.deref_mut.ensures.value c.deref-5.ensures.value
-    (of-same Keeps _ _ _ _ (sym c.deref.ensures.value) (sym c.deref-2.ensures.value) c.keeps_widest-keeps.ensures)
-
-pub learn_row-requires-clause-spans : goal.learn_row-requires-clause-spans
-learn_row-requires-clause-spans c = subst (AreSpans c.self.inside.spans) (sym c.deref-4.ensures.value) c.self.invariant.1
+pub give_from-requires-clause-widest : goal.give_from-requires-clause-widest
+give_from-requires-clause-widest c =
+    let Widest = IsWidestKept c.args.found.now.shelf c.args.found.now.bucket c.args.room in
+    of-same Widest _ _ _ _ c.deref_mut.ensures.value c.deref.ensures.value
+    (subst (λ (stored : Stored). Widest stored.shelves stored.buckets) (sym c.self.view_is) c.requires.widest)
 
 pub give_from-requires-clause-spans : goal.give_from-requires-clause-spans
-give_from-requires-clause-spans c = subst (AreSpans c.learn_row.new.spans) (c.deref-4.ensures.value ∙ sym c.deref-5.ensures.value) c.learn_row.ensures
+give_from-requires-clause-spans c = subst (AreSpans c.self.inside.spans) (sym c.deref.ensures.value) c.self.invariant.1
 
 pub give_from-requires-clause-filled : goal.give_from-requires-clause-filled
-give_from-requires-clause-filled c = subst (IsFilled c.self.inside.filled) (sym c.deref-5.ensures.value) c.self.invariant.2
+give_from-requires-clause-filled c = subst (IsFilled c.self.inside.filled) (sym c.deref.ensures.value) c.self.invariant.2
 
 pub returns : goal.returns
 returns c =
@@ -49,8 +39,8 @@ returns c =
     let given : (with_items shelves c.give_from.new.shelves).items ≡ shelves_given c.args.found.now.shelf shelves.items c.self.inside.buckets.items =
     items
     ∙ c.give_from.ensures.shelves
-    ∙ ap (λ (xs : List KeptShelf). shelves_given c.args.found.now.shelf xs c.deref-5.result.now) c.deref_mut.ensures.value
-    ∙ ap (λ (bs : List LinkedBucket). shelves_given c.args.found.now.shelf shelves.items bs) c.deref-5.ensures.value in
+    ∙ ap (λ (xs : List KeptShelf). shelves_given c.args.found.now.shelf xs c.deref.result.now) c.deref_mut.ensures.value
+    ∙ ap (λ (bs : List LinkedBucket). shelves_given c.args.found.now.shelf shelves.items bs) c.deref.ensures.value in
     ap (λ (xs : List KeptShelf). let stored : Stored = record { shelves = xs; buckets = c.self.inside.buckets.items; unused = c.self.inside.unused } in stored) given
     ∙ ap (λ (stored : Stored). record stored { shelves = shelves_given c.args.found.now.shelf stored.shelves stored.buckets }) c.self.view_is
 
@@ -71,14 +61,14 @@ follow-requires-clause-others c =
     with_items_is inside.shelves c.give_from.new.shelves (omega (arith, c.give_from.auto.shelves, c.deref_mut.ensures.len)) in
     let given : c.give_from.new.shelves ≡ shelves_given shelf inside.shelves.items inside.buckets.items =
     c.give_from.ensures.shelves
-    ∙ ap (λ (xs : List KeptShelf). shelves_given shelf xs c.deref-5.result.now) c.deref_mut.ensures.value
-    ∙ ap (λ (bs : List LinkedBucket). shelves_given shelf inside.shelves.items bs) c.deref-5.ensures.value in
-    subst (AreOthersKnown shelf inside.blocks) (sym (c.deref-6.ensures.value ∙ items ∙ given))
+    ∙ ap (λ (xs : List KeptShelf). shelves_given shelf xs c.deref.result.now) c.deref_mut.ensures.value
+    ∙ ap (λ (bs : List LinkedBucket). shelves_given shelf inside.shelves.items bs) c.deref.ensures.value in
+    subst (AreOthersKnown shelf inside.blocks) (sym (c.deref-2.ensures.value ∙ items ∙ given))
     (known-others shelf (given_from (widest_from most_buckets inside.buckets.items (first_bucket_of inside.shelves.items shelf))) inside.blocks inside.shelves.items (λ x. refl) c.self.invariant.0)
 
 pub invariant_of-self : goal.invariant_of-self
 invariant_of-self c = (
-  subst (AreKnown c.follow.new.self) c.deref-6.ensures.value c.follow.ensures,
-  subst (AreSpans c.learn_row.new.spans) c.deref-4.ensures.value c.learn_row.ensures,
-  subst (IsFilled c.give_from.new.filled) c.deref-5.ensures.value c.give_from.ensures.filled,
+  subst (AreKnown c.follow.new.self) c.deref-2.ensures.value c.follow.ensures,
+  subst (AreSpans c.give_from.new.spans) c.deref.ensures.value c.give_from.ensures.spans,
+  subst (IsFilled c.give_from.new.filled) c.deref.ensures.value c.give_from.ensures.filled,
 )

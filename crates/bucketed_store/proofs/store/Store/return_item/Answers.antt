@@ -87,20 +87,8 @@ invariant_of-self c =
           (filled-changed number (returned_record width) inside.filled inside.buckets.items (links-same width) (λ differs b. absurd (apart number inside.filled.bucket same differs)) c.self.invariant.2)),
     )
 
-pub follow_dropped-requires-clause-before : goal.follow_dropped-requires-clause-before
-follow_dropped-requires-clause-before c =
-    let inside = c.self.inside in
-    let shelves = inside.shelves.items in
-    let shelf = c.shelf_number-shelf.result in
-    let before = c.index.result.now in
-    let same : shelf ≡ shelf_of inside.buckets.items c.args.number = c.shelf_number-shelf.ensures ∙ ap (λ (bs : List LinkedBucket). shelf_of bs c.args.number) c.deref-3.ensures.value in
-    let within : shelf_of inside.buckets.items c.args.number < length shelves =
-    subst (λ (stored : Stored). shelf_of stored.buckets c.args.number < length stored.shelves) (sym c.self.view_is) c.requires.shelf in
-    let there : slice_get shelves shelf ≡ Some before = slice_get-get_or shelves shelf before (omega (arith, same, within)) ∙ ap (λ (kept : KeptShelf). Some kept) (sym c.index.ensures) in
-    known-at shelf before inside.blocks shelves there c.self.invariant.0
-
-pub follow_dropped-requires-clause-others : goal.follow_dropped-requires-clause-others
-follow_dropped-requires-clause-others c =
+pub follow_dropped-requires : goal.follow_dropped-requires
+follow_dropped-requires c =
     let inside = c.self.inside in
     let number = c.args.number in
     let shelf : c.shelf_number-shelf.result ≡ shelf_of inside.buckets.items number =

@@ -1,7 +1,7 @@
 use Rattle.std.proofs.Common.{◌≡◌, ℕ, ap, subst, sym, ◌∙◌, arith}
 use Rattle.bucket_index.specs.Private.Spans.{IsBoundOf, block_of}
 use Rattle.bucket_index.proofs.KnownSpans.{bound-kept, bounded-known}
-use Rattle.bucket_index.proofs.spans.Spans.narrow_again.Goals as goal
+use Rattle.bucket_index.proofs.spans.Spans.bound_again.Goals as goal
 
 pub returns : goal.returns
 returns c buckets narrow but others =
