@@ -17,7 +17,7 @@ use Rattle.atlas_pages.proofs.Chosen.{order-placed}
 record IsChosen (choice : PageChoice) (size : Size) (pages : List AtlasState) (n : ℕ) : Type 0 where
   page : AtlasState
   is_open : slice_get pages n ≡ Some page
-  place : has_place size page ≡ true
+  fits : has_place size page ≡ true
   least : (m : ℕ) (other : AtlasState) → slice_get pages m ≡ Some other → has_place size other ≡ true
       → order_by choice page ≤ order_by choice other
   earlier : (m : ℕ) (other : AtlasState) → slice_get pages m ≡ Some other → has_place size other ≡ true → m < n
@@ -48,7 +48,7 @@ chosen-is choice size pages n chosen = by_found (first_least (map (page_order ch
         record {
           page = page;
           is_open = at;
-          place = own.0;
+          fits = own.0;
           least = λ m other there fits.
               let bound : found.rank ≤ order_by choice other = is.least m (order_by choice other) (ordered choice size pages m other there fits) in
               omega (arith, bound, own.1);
@@ -80,7 +80,7 @@ first-by_rule size pages n chosen =
     record {
       page = is.page;
       is_open = is.is_open;
-      place = is.place;
+      fits = is.fits;
       earlier = λ m other there before.
           refuses size other (λ fits. let less : 0 < 0 = is.earlier m other there fits before in absurd (omega (arith, less)));
     }
@@ -88,4 +88,4 @@ first-by_rule size pages n chosen =
 pub fullest-by_rule : (size : Size) (pages : List AtlasState) (n : ℕ) → chosen_of FullestFirst size pages ≡ Some n → IsFullest size pages n
 fullest-by_rule size pages n chosen =
     let is = chosen-is FullestFirst size pages n chosen in
-    record { page = is.page; is_open = is.is_open; place = is.place; least = is.least; earlier = is.earlier }
+    record { page = is.page; is_open = is.is_open; fits = is.fits; least = is.least; earlier = is.earlier }

@@ -70,9 +70,9 @@ pub chosen-within : (size : Size) (pages : List AtlasState) (n : ℕ) → chosen
 chosen-within size pages n chosen = rw chosen at (best-within (page_order FullestFirst size) pages)
 
 -- and has a place
-pub chosen-place : (size : Size) (pages : List AtlasState) (n : ℕ) → chosen_of FullestFirst size pages ≡ Some n
+pub chosen-fits : (size : Size) (pages : List AtlasState) (n : ℕ) → chosen_of FullestFirst size pages ≡ Some n
     → IfSome (slice_get pages n) (λ page. has_place size page ≡ true)
-chosen-place size pages n chosen = by_found (first_least (map (page_order FullestFirst size) pages)) refl chosen
+chosen-fits size pages n chosen = by_found (first_least (map (page_order FullestFirst size) pages)) refl chosen
   where
     ordered : (b : Bool) (free r : ℕ) → cond b (Some free) None ≡ Some r → b ≡ true
     ordered true free r h = refl

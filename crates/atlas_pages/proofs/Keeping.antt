@@ -15,35 +15,35 @@ use Rattle.shelf_model.specs.Returning.{returned}
 use Rattle.shelf_model.specs.State.{AtlasState}
 use Rattle.shelf_model.proofs.Callers.{promises-cleared, promises-returned}
 use Rattle.atlas_pages.specs.declared.options.PageOptions.{PageOptions}
-use Rattle.atlas_pages.specs.declared.places.PagedAllocation.{PagedAllocation}
+use Rattle.atlas_pages.specs.declared.paged_allocation.PagedAllocation.{PagedAllocation}
+use Rattle.atlas_pages.specs.Allocated.{AllocatesOn, at_page, cleared, returned_on, shrunk, with_most}
 use Rattle.atlas_pages.specs.Pages.{ArePageOptions, PagesState, empty_page, no_pages, page_frame}
-use Rattle.atlas_pages.specs.Places.{AllocatesOn, at_page, cleared, returned_on, shrunk, with_most}
 use Rattle.atlas_pages.specs.Promises.{IsPage, KeepsPagesPromises}
-use Rattle.atlas_pages.specs.Private.Taking.{TakesPlace}
+use Rattle.atlas_pages.specs.Private.Taking.{TakesRoom}
 use Rattle.atlas_pages.proofs.Accepted.{or_no_pages-more}
 use Rattle.atlas_pages.proofs.PageLists.{Each-at_page, Each-map, Each-set, length-at_page, slice_set-last}
 use Rattle.atlas_pages.proofs.Used.{Each-used_pages, length-used_pages}
 
 -- a page on which a size was allocated
-pub page-allocated : (options : PageOptions) (size : Size) (place : PagedAllocation) (before after : AtlasState) → IsPage options before
-    → Allocates before size place.allocation after → KeepsPromises after → IsPage options after
-page-allocated options size place before after page allocates promises =
+pub page-allocated : (options : PageOptions) (size : Size) (paged : PagedAllocation) (before after : AtlasState) → IsPage options before
+    → Allocates before size paged.allocation after → KeepsPromises after → IsPage options after
+page-allocated options size paged before after page allocates promises =
     record { promises = promises; frame = ap (λ (s : AtlasState). s.frame) allocates.after ∙ page.frame }
 
 -- pages of which one was allocated on
-pub keeps-allocated : (state : PagesState) (size : Size) (place : PagedAllocation) (pages : List AtlasState) → KeepsPagesPromises state
-    → (allocates : AllocatesOn state.pages size place pages) → KeepsPromises allocates.after
+pub keeps-allocated : (state : PagesState) (size : Size) (paged : PagedAllocation) (pages : List AtlasState) → KeepsPagesPromises state
+    → (allocates : AllocatesOn state.pages size paged pages) → KeepsPromises allocates.after
     → KeepsPagesPromises (record { options = state.options; pages = pages })
-keeps-allocated state size place pages keeps allocates promises =
+keeps-allocated state size paged pages keeps allocates promises =
     let few = keeps.few in
     record {
       options = keeps.options;
       most = keeps.most;
-      few = omega (arith, few, ap length allocates.others, length-set state.pages place.page allocates.after);
+      few = omega (arith, few, ap length allocates.others, length-set state.pages paged.page allocates.after);
       pages = subst (AllByRecursion (IsPage state.options)) (sym allocates.others)
-          (Each-set (IsPage state.options) state.pages place.page allocates.after keeps.pages
-          (page-allocated state.options size place allocates.before allocates.after
-          (Each-get (IsPage state.options) state.pages place.page allocates.before allocates.is_open keeps.pages) allocates.allocates promises));
+          (Each-set (IsPage state.options) state.pages paged.page allocates.after keeps.pages
+          (page-allocated state.options size paged allocates.before allocates.after
+          (Each-get (IsPage state.options) state.pages paged.page allocates.before allocates.is_open keeps.pages) allocates.allocates promises));
     }
 
 -- what is allocated is given back
@@ -101,18 +101,18 @@ pub each-keeps : (state : PagesState) → KeepsPagesPromises state → AllByRecu
 each-keeps state keeps = Each-weaken (IsPage state.options) KeepsPromises state.pages (λ page is. is.promises) keeps.pages
 
 -- pages of which one was opened and allocated on
-pub keeps-opened_with : (state : PagesState) (size : Size) (place : PagedAllocation) (pages : List AtlasState) → KeepsPagesPromises state
+pub keeps-opened_with : (state : PagesState) (size : Size) (paged : PagedAllocation) (pages : List AtlasState) → KeepsPagesPromises state
     → length state.pages < state.options.most_pages
-    → (allocates : AllocatesOn (state.pages ++ empty_page state.options ∷ []) size place pages) → place.page ≡ length state.pages
-    → IfSome (slice_get pages place.page) KeepsPromises
+    → (allocates : AllocatesOn (state.pages ++ empty_page state.options ∷ []) size paged pages) → paged.page ≡ length state.pages
+    → IfSome (slice_get pages paged.page) KeepsPromises
     → KeepsPagesPromises (record { options = state.options; pages = pages })
-keeps-opened_with state size place pages keeps fewer allocates number promises =
+keeps-opened_with state size paged pages keeps fewer allocates number promises =
     let is : pages ≡ state.pages ++ allocates.after ∷ [] =
-    allocates.others ∙ slice_set-last state.pages (empty_page state.options) allocates.after place.page number in
-    let last : slice_get pages place.page ≡ Some allocates.after =
-    ap (λ (l : List AtlasState). slice_get l place.page) is ∙ slice_get-append state.pages allocates.after [] place.page (sym number) in
+    allocates.others ∙ slice_set-last state.pages (empty_page state.options) allocates.after paged.page number in
+    let last : slice_get pages paged.page ≡ Some allocates.after =
+    ap (λ (l : List AtlasState). slice_get l paged.page) is ∙ slice_get-append state.pages allocates.after [] paged.page (sym number) in
     let before : Some (empty_page state.options) ≡ Some allocates.before =
-    sym (slice_get-append state.pages (empty_page state.options) [] place.page (sym number)) ∙ allocates.is_open in
+    sym (slice_get-append state.pages (empty_page state.options) [] paged.page (sym number)) ∙ allocates.is_open in
     let was : empty_page state.options ≡ allocates.before = cc in
     let after : KeepsPromises allocates.after = rw last at promises in
     record {
@@ -136,8 +136,8 @@ keeps-answered (Ok a) state page id pages keeps ok err = rw ok (keeps-returned s
 keeps-answered (Err b) state page id pages keeps ok err = rw err keeps
 
 -- what was given is large enough for a page
-pub large-taken : (state : PagesState) (size : Size) (place : PagedAllocation) (pages : List AtlasState) → KeepsPagesPromises state
-    → TakesPlace state.options.choice state.pages size place pages → IsLarge (page_frame state.options) size place.allocation.rectangle
-large-taken state size place pages keeps takes =
-    let page = Each-get (IsPage state.options) state.pages place.page takes.allocates.before takes.allocates.is_open keeps.pages in
-    subst (λ (frame : Frame). IsLarge frame size place.allocation.rectangle) page.frame takes.large
+pub large-taken : (state : PagesState) (size : Size) (paged : PagedAllocation) (pages : List AtlasState) → KeepsPagesPromises state
+    → TakesRoom state.options.choice state.pages size paged pages → IsLarge (page_frame state.options) size paged.allocation.rectangle
+large-taken state size paged pages keeps takes =
+    let page = Each-get (IsPage state.options) state.pages paged.page takes.allocates.before takes.allocates.is_open keeps.pages in
+    subst (λ (frame : Frame). IsLarge frame size paged.allocation.rectangle) page.frame takes.large

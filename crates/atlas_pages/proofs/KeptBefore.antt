@@ -15,10 +15,10 @@ use Rattle.shelf_model.specs.Fresh.{fresh}
 use Rattle.shelf_model.specs.Places.{allocations, rectangle_of}
 use Rattle.shelf_model.specs.State.{AtlasState}
 use Rattle.atlas_pages.specs.declared.options.PageOptions.{PageOptions}
-use Rattle.atlas_pages.specs.declared.places.PagedAllocation.{PagedAllocation}
+use Rattle.atlas_pages.specs.declared.paged_allocation.PagedAllocation.{PagedAllocation}
+use Rattle.atlas_pages.specs.Allocated.{AllocatesOn, Places, rectangle_on}
 use Rattle.atlas_pages.specs.Choosing.{chosen_page, may_open, opened, ready_for}
 use Rattle.atlas_pages.specs.Pages.{PagesState, empty_page, page_frame}
-use Rattle.atlas_pages.specs.Places.{AllocatesOn, Places, rectangle_on}
 use Rattle.atlas_pages.specs.Promises.{IsPage, KeepsPagesPromises}
 
 -- a page written among others is found under its number
@@ -46,42 +46,42 @@ ready-or_opened state size = by_tests (is_some (chosen_page state size)) (may_op
     by_tests false false = inl refl
 
 -- a page on which a size was allocated kept the promises before, where all pages do before and after
-pub kept-before : (old new : PagesState) (size : Size) (place : PagedAllocation) → KeepsPagesPromises old → KeepsPagesPromises new
-    → new.options ≡ old.options → (allocates : AllocatesOn (ready_for old size).pages size place new.pages)
+pub kept-before : (old new : PagesState) (size : Size) (paged : PagedAllocation) → KeepsPagesPromises old → KeepsPagesPromises new
+    → new.options ≡ old.options → (allocates : AllocatesOn (ready_for old size).pages size paged new.pages)
     → KeepsPromises allocates.before
-kept-before old new size place was is same allocates =
-    ⊎_elim (λ here. open_before (ap (λ (s : PagesState). slice_get s.pages place.page) (sym here) ∙ allocates.is_open))
+kept-before old new size paged was is same allocates =
+    ⊎_elim (λ here. open_before (ap (λ (s : PagesState). slice_get s.pages paged.page) (sym here) ∙ allocates.is_open))
     (λ opens. ⊎_elim open_before new_before
-    (get-opened old.pages (empty_page old.options) place.page allocates.before
-    (ap (λ (s : PagesState). slice_get s.pages place.page) (sym opens) ∙ allocates.is_open)))
+    (get-opened old.pages (empty_page old.options) paged.page allocates.before
+    (ap (λ (s : PagesState). slice_get s.pages paged.page) (sym opens) ∙ allocates.is_open)))
     (ready-or_opened old size)
   where
-    open_before : slice_get old.pages place.page ≡ Some allocates.before → KeepsPromises allocates.before
-    open_before at = (Each-get (IsPage old.options) old.pages place.page allocates.before at was.pages).promises
+    open_before : slice_get old.pages paged.page ≡ Some allocates.before → KeepsPromises allocates.before
+    open_before at = (Each-get (IsPage old.options) old.pages paged.page allocates.before at was.pages).promises
 
     new_before : empty_page old.options ≡ allocates.before → KeepsPromises allocates.before
     new_before empty =
-        let at : slice_get new.pages place.page ≡ Some allocates.after =
-        ap (λ (l : List AtlasState). slice_get l place.page) allocates.others
-        ∙ get-set (ready_for old size).pages place.page allocates.before allocates.after allocates.is_open in
-        let after = Each-get (IsPage new.options) new.pages place.page allocates.after at is.pages in
+        let at : slice_get new.pages paged.page ≡ Some allocates.after =
+        ap (λ (l : List AtlasState). slice_get l paged.page) allocates.others
+        ∙ get-set (ready_for old size).pages paged.page allocates.before allocates.after allocates.is_open in
+        let after = Each-get (IsPage new.options) new.pages paged.page allocates.after at is.pages in
         subst KeepsPromises
         (ap (λ (o : PageOptions). fresh (page_frame o)) same ∙ empty)
         (subst (λ (f : Frame). KeepsPromises (fresh f)) after.frame (promises-cleared allocates.after after.promises.valid))
 
 -- what was given lies inside its page
-pub placed-inside : (old new : PagesState) (size : Size) (place : PagedAllocation) → KeepsPagesPromises old → KeepsPagesPromises new
-    → Places old size place new → IsInside (page_frame new.options) place.allocation.rectangle
-placed-inside old new size place was is places =
+pub placed-inside : (old new : PagesState) (size : Size) (paged : PagedAllocation) → KeepsPagesPromises old → KeepsPagesPromises new
+    → Places old size paged new → IsInside (page_frame new.options) paged.allocation.rectangle
+placed-inside old new size paged was is places =
     let there = places.allocates in
-    let before = kept-before old new size place was is places.options there in
-    let adds = allocates-adds there.before size place.allocation there.after before.valid there.allocates in
-    let at : slice_get new.pages place.page ≡ Some there.after =
-    ap (λ (l : List AtlasState). slice_get l place.page) there.others
-    ∙ get-set (ready_for old size).pages place.page there.before there.after there.is_open in
-    let after = Each-get (IsPage new.options) new.pages place.page there.after at is.pages in
-    subst (λ (frame : Frame). IsInside frame place.allocation.rectangle) after.frame
-    (Each-middle (λ (a : Allocation). IsInside there.after.frame a.rectangle) adds.front place.allocation adds.back
+    let before = kept-before old new size paged was is places.options there in
+    let adds = allocates-adds there.before size paged.allocation there.after before.valid there.allocates in
+    let at : slice_get new.pages paged.page ≡ Some there.after =
+    ap (λ (l : List AtlasState). slice_get l paged.page) there.others
+    ∙ get-set (ready_for old size).pages paged.page there.before there.after there.is_open in
+    let after = Each-get (IsPage new.options) new.pages paged.page there.after at is.pages in
+    subst (λ (frame : Frame). IsInside frame paged.allocation.rectangle) after.frame
+    (Each-middle (λ (a : Allocation). IsInside there.after.frame a.rectangle) adds.front paged.allocation adds.back
     (subst (AllByRecursion (λ (a : Allocation). IsInside there.after.frame a.rectangle)) adds.after after.promises.inside))
 
 -- so does what is allocated under an id

@@ -4,7 +4,7 @@ use Rattle.std.specs.Prelude.{slice_get, slice_set, map}
 use Rattle.std.proofs.lemmas.List.{drop-set-lt, map-append, take_all, take_more, take_more_set}
 use Rattle.std.specs.List.{AllByRecursion}
 use Rattle.shelf_model.specs.State.{AtlasState}
-use Rattle.atlas_pages.specs.Places.{at_page}
+use Rattle.atlas_pages.specs.Allocated.{at_page}
 
 -- the last element, written over
 pub slice_set-last : {X : Type 0} (xs : List X) (x y : X) (n : ℕ) → n ≡ length xs → slice_set (xs ++ x ∷ []) n y ≡ xs ++ y ∷ []

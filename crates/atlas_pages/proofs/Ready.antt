@@ -5,10 +5,10 @@ use Rattle.std.proofs.lemmas.Bool.Decides.{nat_tests}
 use Rattle.etagere_base.specs.Least.{Found}
 use Rattle.etagere_base.specs.declared.geometry.Size.{Size}
 use Rattle.shelf_model.specs.State.{AtlasState}
-use Rattle.atlas_pages.specs.declared.places.PagedAllocation.{PagedAllocation}
+use Rattle.atlas_pages.specs.declared.paged_allocation.PagedAllocation.{PagedAllocation}
+use Rattle.atlas_pages.specs.Allocated.{AllocatesOn, Places}
 use Rattle.atlas_pages.specs.Choosing.{IsRefusedByAll, chosen_page, has_place, may_open, opened, page_for, ready_for}
 use Rattle.atlas_pages.specs.Pages.{PagesState, empty_page}
-use Rattle.atlas_pages.specs.Places.{AllocatesOn, Places}
 use Rattle.atlas_pages.proofs.Chosen.{chosen-last, refused-chosen}
 
 -- where an open page is chosen, none is opened
@@ -51,14 +51,14 @@ pub page_for-chosen : (state : PagesState) (size : Size) (n : ℕ) → chosen_pa
 page_for-chosen state size n chosen = ap (λ (s : PagesState). chosen_page s size) (ready-chosen state size n chosen) ∙ chosen
 
 -- so did one that took a place on a page that was opened
-pub places-opened : (state : PagesState) (size : Size) (place : PagedAllocation) (pages : List AtlasState)
-    → chosen_page state size ≡ None → may_open state size ≡ true → place.page ≡ length state.pages
-    → AllocatesOn (state.pages ++ empty_page state.options ∷ []) size place pages
-    → Places state size place (record { options = state.options; pages = pages })
-places-opened state size place pages none opens number allocates =
+pub places-opened : (state : PagesState) (size : Size) (paged : PagedAllocation) (pages : List AtlasState)
+    → chosen_page state size ≡ None → may_open state size ≡ true → paged.page ≡ length state.pages
+    → AllocatesOn (state.pages ++ empty_page state.options ∷ []) size paged pages
+    → Places state size paged (record { options = state.options; pages = pages })
+places-opened state size paged pages none opens number allocates =
     record {
       chosen = page_for-opened state size none opens ∙ ap Some (sym number);
-      allocates = subst (λ (s : PagesState). AllocatesOn s.pages size place pages) (sym (ready-opened state size none opens)) allocates;
+      allocates = subst (λ (s : PagesState). AllocatesOn s.pages size paged pages) (sym (ready-opened state size none opens)) allocates;
       options = refl;
     }
 

@@ -6,7 +6,7 @@ use Rattle.std.specs.List.{AllByRecursion}
 use Rattle.etagere_base.specs.declared.ids.Allocation.{Allocation}
 use Rattle.shelf_model.specs.Places.{allocations}
 use Rattle.shelf_model.specs.State.{AtlasState}
-use Rattle.atlas_pages.specs.Places.{is_unused, used_pages}
+use Rattle.atlas_pages.specs.Allocated.{is_unused, used_pages}
 
 -- a page with no allocation is unused, and one with some isn't
 pub unused-none : (page : AtlasState) → allocations page ≡ [] → is_unused page ≡ true

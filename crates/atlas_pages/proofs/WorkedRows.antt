@@ -8,12 +8,12 @@ use Rattle.atlas_pages.specs.declared.options.PageChoice.{PageChoice}
 use Rattle.atlas_pages.specs.declared.options.PageChoice.TheVariants.{FirstFit, FullestFirst}
 use Rattle.atlas_pages.specs.declared.options.PageOptions.{PageOptions}
 use Rattle.etagere_base.specs.declared.geometry.Rectangle.{Rectangle}
-use Rattle.atlas_pages.specs.declared.places.PagedAllocation.{PagedAllocation}
+use Rattle.atlas_pages.specs.declared.paged_allocation.PagedAllocation.{PagedAllocation}
+use Rattle.atlas_pages.specs.Allocated.{at_page, allocated_space_of, cleared, free_space_of, rectangle_on, returned_on, shrunk, with_most}
 use Rattle.atlas_pages.specs.Choosing.{page_for, ready_for}
-use Rattle.atlas_pages.specs.Listing.{listed_places}
+use Rattle.atlas_pages.specs.Listing.{listed_allocations}
 use Rattle.atlas_pages.specs.Pages.{PagesState, no_pages, page_frame, pages_fault}
 use Rattle.atlas_pages.specs.Picture.{page_area, pages_width}
-use Rattle.atlas_pages.specs.Places.{at_page, allocated_space_of, cleared, free_space_of, rectangle_on, returned_on, shrunk, with_most}
 use Rattle.shelf_model.specs.State.{AtlasState}
 
 -- pages of 64 by 64
@@ -100,16 +100,16 @@ no_page : pages_fault (page_options FirstFit 0) ≡ Some NoPages
 no_page = refl
 
 -- what is listed: page after page, without what was given back
-abbrev place_on : ℕ → ℕ → Rectangle → PagedAllocation
-place_on page id rectangle = record { page = page; allocation = record { id = id; rectangle = rectangle } }
+abbrev paged_on : ℕ → ℕ → Rectangle → PagedAllocation
+paged_on page id rectangle = record { page = page; allocation = record { id = id; rectangle = rectangle } }
 
 abbrev two_listed : PagesState
 two_listed = placed (placed (no_pages (page_options FirstFit 2)) (size 60 60) 0) (size 30 20) 0
 
-listed-both : listed_places two_listed ≡ place_on 0 0 (rectangle 0 0 64 64) ∷ place_on 1 0 (rectangle 0 0 30 24) ∷ []
+listed-both : listed_allocations two_listed ≡ paged_on 0 0 (rectangle 0 0 64 64) ∷ paged_on 1 0 (rectangle 0 0 30 24) ∷ []
 listed-both = refl
 
-listed-second : listed_places (returned_on two_listed 0 0) ≡ place_on 1 0 (rectangle 0 0 30 24) ∷ []
+listed-second : listed_allocations (returned_on two_listed 0 0) ≡ paged_on 1 0 (rectangle 0 0 30 24) ∷ []
 listed-second = refl
 
 -- in a picture 16 pixels stay free between two pages

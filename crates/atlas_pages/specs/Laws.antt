@@ -12,14 +12,14 @@ use Rattle.atlas_pages.specs.Choosing.{chosen_of, free_space, has_place}
 pub record IsFirst (size : Size) (pages : List AtlasState) (n : ℕ) : Type 0 where
   pub page : AtlasState
   pub is_open : slice_get pages n ≡ Some page
-  pub place : has_place size page ≡ true
+  pub fits : has_place size page ≡ true
   pub earlier : (m : ℕ) (other : AtlasState) → slice_get pages m ≡ Some other → m < n → IsRefused other size
 
 -- the page of a number has a place; of those that have one, none has less free, and each one before it has more
 pub record IsFullest (size : Size) (pages : List AtlasState) (n : ℕ) : Type 0 where
   pub page : AtlasState
   pub is_open : slice_get pages n ≡ Some page
-  pub place : has_place size page ≡ true
+  pub fits : has_place size page ≡ true
   pub least : (m : ℕ) (other : AtlasState) → slice_get pages m ≡ Some other → has_place size other ≡ true
       → free_space page ≤ free_space other
   pub earlier : (m : ℕ) (other : AtlasState) → slice_get pages m ≡ Some other → has_place size other ≡ true → m < n

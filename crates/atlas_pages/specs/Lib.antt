@@ -1,10 +1,10 @@
+pub mod Allocated
 pub mod Choosing
 pub mod Faults
 pub mod Laws
 pub mod Listing
 pub mod Pages
 pub mod Picture
-pub mod Places
 pub mod Private
 pub mod Promises
 pub mod Runs

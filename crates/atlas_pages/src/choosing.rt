@@ -9,11 +9,11 @@ ghost use Rattle.etagere_base.specs.Least.{better};
 ghost use Rattle.atlas_pages.specs.Choosing.{chosen_of, has_place, page_order};
 ghost use Rattle.atlas_pages.specs.Private.Fullest as fullest;
 ghost use Rattle.atlas_pages.specs.Private.Fullest.{found_at, found_of};
-ghost use Rattle.atlas_pages.specs.Private.Taking.{NeedsSplitAmong, TakesPlace};
+ghost use Rattle.atlas_pages.specs.Private.Taking.{NeedsSplitAmong, TakesRoom};
 
 use crate::open_pages::allocate_first;
 use crate::options::PageChoice;
-use crate::places::PagedAllocation;
+use crate::paged_allocation::PagedAllocation;
 use etagere_shelves::{AtlasAllocator, Size};
 use std::alloc::AllocError;
 
@@ -26,7 +26,7 @@ pub(crate) fn allocate_open(
     requires few { length pages.old.items < 2 ^ 32 }
     requires kept { AllByRecursion KeepsPromises pages.old.items }
     ensures placed { IfOk result (λ answer. IfSome answer
-        (λ place. TakesPlace choice pages.old.items size place pages.new.items)) }
+        (λ paged. TakesRoom choice pages.old.items size paged pages.new.items)) }
     ensures none { IfOk result (λ answer. IfNone answer
         (chosen_of choice size pages.old.items ≡ None)) }
     ensures stay { IfOk result (λ answer. IfNone answer (pages.new.items ≡ pages.old.items)) }
@@ -54,7 +54,7 @@ fn allocate_on_fullest(
     requires few { length pages.old.items < 2 ^ 32 }
     requires kept { AllByRecursion KeepsPromises pages.old.items }
     ensures placed { IfOk result (λ answer. IfSome answer
-        (λ place. TakesPlace PageChoice.FullestFirst pages.old.items size place pages.new.items)) }
+        (λ paged. TakesRoom PageChoice.FullestFirst pages.old.items size paged pages.new.items)) }
     ensures none { IfOk result (λ answer. IfNone answer
         (chosen_of PageChoice.FullestFirst size pages.old.items ≡ None)) }
     ensures stay { IfOk result (λ answer. IfNone answer (pages.new.items ≡ pages.old.items)) }
@@ -76,7 +76,7 @@ fn fullest_with_place(pages: &[AtlasAllocator], size: Size) -> Option<usize>
     requires { AllByRecursion KeepsPromises pages.now }
     ensures chosen { result ≡ chosen_of PageChoice.FullestFirst size pages.now }
     ensures within { IfSome result (λ number. number < length pages.now) }
-    ensures place { IfSome result
+    ensures fits { IfSome result
         (λ number. IfSome (slice_get pages.now number) (λ page. has_place size page ≡ true)) }
 {
     let mut best: Option<Candidate> = None;

@@ -7,7 +7,7 @@ ghost use Rattle.std.specs.Iterator.{YieldsFirst, item_count};
 ghost use Rattle.atlas_pages.specs.Listing as spec;
 ghost use Rattle.atlas_pages.specs.Private.Listed.{left_of, left_on};
 
-use crate::places::PagedAllocation;
+use crate::paged_allocation::PagedAllocation;
 use etagere_shelves::{self, AtlasAllocator};
 use std::iter::FusedIterator;
 use std::marker::Model;
@@ -25,7 +25,7 @@ pub struct Iter<'a> {
 
 impl<'a> Model for Iter<'a> {
     ghost use Rattle.std.specs.Prelude.{List};
-    ghost use Rattle.atlas_pages.specs.declared.places.PagedAllocation.{PagedAllocation};
+    ghost use Rattle.atlas_pages.specs.declared.paged_allocation.PagedAllocation.{PagedAllocation};
 
     ghost Value = { List PagedAllocation };
 
@@ -40,7 +40,7 @@ impl<'a> Iter<'a> {
     /// Everything that is allocated on these pages.
     pub(crate) fn new(pages: &'a [AtlasAllocator]) -> Iter<'a>
         requires { length pages.now < 2 ^ 32 }
-        ensures { result ≡ spec.places_from 0 pages.now }
+        ensures { result ≡ spec.allocations_from 0 pages.now }
     {
         Iter {
             pages,
@@ -59,8 +59,8 @@ impl<'a> Iterator for Iter<'a> {
 
     fn next(&mut self) -> Option<PagedAllocation> {
         for page in self.next..self.pages.len() as u32 {
-            if let Some(place) = next_on(&mut self.begun) {
-                return Some(place);
+            if let Some(paged) = next_on(&mut self.begun) {
+                return Some(paged);
             }
             self.next = page + 1;
             self.begun = Some(OnPage {

@@ -1,6 +1,6 @@
 //! What calls do to the atlases of the open pages.
 //!
-//! Definitions: `Choosing` and `Places` for what is meant, `Private.Taking` for an allocation.
+//! Definitions: `Choosing` and `Allocated` for what is meant, `Private.Taking` for an allocation.
 
 ghost use Rattle.std.specs.Prelude.{◌≡◌, ◌↔◌, ◌+◌, ◌<◌, ◌≤◌, ◌*◌, ◌^◌, ◌++◌, [], ◌∷◌, true, false, None, Some, IfOk, IfErr, IfSome, IfNone, OnOk, OnErr, IsErr, IsTrue, is_some, length, map, option_and_then, slice_get, take};
 ghost use Rattle.std.specs.List.{AllByRecursion};
@@ -12,14 +12,14 @@ ghost use Rattle.shelf_model.specs.Places.{allocations, rectangle_of};
 ghost use Rattle.shelf_model.specs.Returning.{returned};
 ghost use Rattle.shelf_model.specs.Space as space;
 ghost use Rattle.shelf_model.specs.State.{AtlasState};
+ghost use Rattle.atlas_pages.specs.Allocated.{AllocatesOn, at_page, used_pages};
 ghost use Rattle.atlas_pages.specs.Choosing as choosing;
 ghost use Rattle.atlas_pages.specs.Choosing.{chosen_of, has_place};
 ghost use Rattle.atlas_pages.specs.Pages.{ArePageOptions, empty_page, page_frame};
-ghost use Rattle.atlas_pages.specs.Places.{AllocatesOn, at_page, used_pages};
-ghost use Rattle.atlas_pages.specs.Private.Taking.{NeedsSplitAmong, TakesPlace};
+ghost use Rattle.atlas_pages.specs.Private.Taking.{NeedsSplitAmong, TakesRoom};
 
 use crate::options::{PageChoice, PageOptions};
-use crate::places::PagedAllocation;
+use crate::paged_allocation::PagedAllocation;
 use etagere_shelves::{AllocId, AtlasAllocator, Rectangle, Size, UnknownId};
 use std::alloc::{AllocError, Global};
 
@@ -30,7 +30,7 @@ pub(crate) fn allocate_first(
 ) -> Result<Option<PagedAllocation>, AllocError>
     requires { length pages.old.items < 2 ^ 32 }
     ensures placed { IfOk result (λ answer. IfSome answer
-        (λ place. TakesPlace PageChoice.FirstFit pages.old.items size place pages.new.items)) }
+        (λ paged. TakesRoom PageChoice.FirstFit pages.old.items size paged pages.new.items)) }
     ensures none { IfOk result (λ answer. IfNone answer
         (chosen_of PageChoice.FirstFit size pages.old.items ≡ None)) }
     ensures stay { IfOk result (λ answer. IfNone answer (pages.new.items ≡ pages.old.items)) }
@@ -56,12 +56,12 @@ pub(crate) fn open_with(
     requires options { ArePageOptions options.now }
     requires fits { has_place size (empty_page options.now) ≡ true }
     requires few { length pages.old.items < 2 ^ 32 }
-    ensures page { IfOk result (λ place. place.page ≡ length pages.old.items) }
-    ensures placed { IfOk result (λ place.
-        AllocatesOn (pages.old.items ++ empty_page options.now ∷ []) size place pages.new.items) }
+    ensures page { IfOk result (λ paged. paged.page ≡ length pages.old.items) }
+    ensures placed { IfOk result (λ paged.
+        AllocatesOn (pages.old.items ++ empty_page options.now ∷ []) size paged pages.new.items) }
     ensures large { IfOk result
-        (λ place. IsLarge (page_frame options.now) size place.allocation.rectangle) }
-    ensures kept { IfOk result (λ place. IfSome (slice_get pages.new.items place.page) KeepsPromises) }
+        (λ paged. IsLarge (page_frame options.now) size paged.allocation.rectangle) }
+    ensures kept { IfOk result (λ paged. IfSome (slice_get pages.new.items paged.page) KeepsPromises) }
     ensures err { OnErr result (pages.new.items ≡ pages.old.items) }
 {
     let Ok(mut opened) = AtlasAllocator::with_options(alloc, options.size, &options.atlas) else {

@@ -1,6 +1,6 @@
 //! The public calls of pages.
 //!
-//! Definitions: `Pages` for what the clauses see, `Choosing` and `Places` for what becomes of it, `Promises` for what
+//! Definitions: `Pages` for what the clauses see, `Choosing` and `Allocated` for what becomes of it, `Promises` for what
 //! pages keep. The clauses stay as they are: callers prove by them.
 
 ghost use Rattle.std.specs.Prelude.{◌≡◌, ◌↔◌, ◌+◌, ◌<◌, [], false, true, Err, None, Some, IfOk, IfErr, IfSome, IfNone, OnOk, OnErr, IsErr, IsTrue, IsOkAnd, MatchOption, length, slice_get};
@@ -11,14 +11,14 @@ ghost use Rattle.etagere_base.specs.Rectangles.{IsLarge};
 ghost use Rattle.pictures.specs.Sending.{AppendsBeginning};
 ghost use Rattle.shelf_model.specs.Places.{allocations};
 ghost use Rattle.shelf_model.specs.State.{AtlasState};
+ghost use Rattle.atlas_pages.specs.Allocated as allocated;
+ghost use Rattle.atlas_pages.specs.Allocated.{NeedsMemory, Places, is_allocated_on, returned_on, shrunk, with_most};
 ghost use Rattle.atlas_pages.specs.Choosing as choosing;
 ghost use Rattle.atlas_pages.specs.Choosing.{IsRefusedByAll};
-ghost use Rattle.atlas_pages.specs.Listing.{listed_places};
+ghost use Rattle.atlas_pages.specs.Listing.{listed_allocations};
 ghost use Rattle.atlas_pages.specs.Pages as model;
 ghost use Rattle.atlas_pages.specs.Pages.{ArePageOptions, no_pages, page_frame};
 ghost use Rattle.atlas_pages.specs.Picture.{pages_svg};
-ghost use Rattle.atlas_pages.specs.Places as places;
-ghost use Rattle.atlas_pages.specs.Places.{NeedsMemory, Places, is_allocated_on, returned_on, shrunk, with_most};
 ghost use Rattle.atlas_pages.specs.Promises.{KeepsPagesPromises};
 ghost use Rattle.atlas_pages.specs.Saved.{ArePagesBroken, PagesStandFor};
 
@@ -27,8 +27,8 @@ use crate::faults::{FewerPages, PagesFault, PagesRestoreFault};
 use crate::listing::Iter;
 use crate::open_pages::{self, clear_each, drop_empty_end, open_with, return_on};
 use crate::options::{PageOptions, pages_fault};
+use crate::paged_allocation::PagedAllocation;
 use crate::picture::send_pages;
-use crate::places::PagedAllocation;
 use crate::saving::{PagesSnapshot, restored_pages, saved_pages};
 use etagere_base::atlas_frame;
 use etagere_shelves::{AllocId, AtlasAllocator, Rectangle, Size, UnknownId};
@@ -97,23 +97,23 @@ impl AtlasPages {
     /// fuller than the best so far, and goes through its shelves for that.
     pub fn allocate(&mut self, size: Size) -> Result<Option<PagedAllocation>, AllocError>
         ensures placed { IfOk result
-            (λ answer. IfSome answer (λ place. Places self.old size place self.new)) }
+            (λ answer. IfSome answer (λ paged. Places self.old size paged self.new)) }
         ensures large { IfOk result (λ answer. IfSome answer
-            (λ place. IsLarge (page_frame self.old.options) size place.allocation.rectangle)) }
+            (λ paged. IsLarge (page_frame self.old.options) size paged.allocation.rectangle)) }
         ensures refused { IfOk result (λ answer. IfNone answer (IsRefusedByAll self.old size)) }
         ensures none { IfOk result (λ answer. IfNone answer (self.new ≡ self.old)) }
         ensures err { OnErr result (self.new ≡ self.old) }
         ensures memory { OnErr result (NeedsMemory self.old size) }
         ensures promises { KeepsPagesPromises self.new }
     {
-        if let Some(place) = allocate_open(self.options.choice, &mut self.pages, size)? {
-            return Ok(Some(place));
+        if let Some(paged) = allocate_open(self.options.choice, &mut self.pages, size)? {
+            return Ok(Some(paged));
         }
         if !self.may_open(size) {
             return Ok(None);
         }
-        let place = open_with(self.alloc, &self.options, &mut self.pages, size)?;
-        Ok(Some(place))
+        let paged = open_with(self.alloc, &self.options, &mut self.pages, size)?;
+        Ok(Some(paged))
     }
 
     /// Whether a page may be opened for a size.
@@ -142,7 +142,7 @@ impl AtlasPages {
     ///
     /// Takes no memory, and constant time.
     pub fn get(&self, page: u32, id: AllocId) -> Option<Rectangle>
-        ensures { result ≡ places.rectangle_on self.now page id }
+        ensures { result ≡ allocated.rectangle_on self.now page id }
     {
         open_pages::rectangle_on(&self.pages, page, id)
     }
@@ -201,7 +201,7 @@ impl AtlasPages {
     ///
     /// Takes no memory. All steps together take time linear in the numbers of pages and of their records.
     pub fn iter(&self) -> Iter<'_>
-        ensures listed { result ≡ listed_places self.now }
+        ensures listed { result ≡ listed_allocations self.now }
         ensures promises { KeepsPagesPromises self.now }
     {
         Iter::new(&self.pages)
@@ -234,7 +234,7 @@ impl AtlasPages {
     ///
     /// Takes no memory. Goes through the columns of each page.
     pub fn clear(&mut self)
-        ensures cleared { self.new ≡ places.cleared self.old }
+        ensures cleared { self.new ≡ allocated.cleared self.old }
         ensures promises { KeepsPagesPromises self.new }
     {
         clear_each(&mut self.pages);
@@ -272,7 +272,7 @@ impl AtlasPages {
 
     /// The areas of everything that is allocated, added up, in square pixels. Goes through the pages.
     pub fn allocated_space(&self) -> u64
-        ensures space { result ≡ places.allocated_space_of self.now }
+        ensures space { result ≡ allocated.allocated_space_of self.now }
         ensures promises { KeepsPagesPromises self.now }
     {
         open_pages::allocated_space(&self.pages)
@@ -280,7 +280,7 @@ impl AtlasPages {
 
     /// The areas of the open pages less what is allocated, added up, in square pixels. Goes through the pages.
     pub fn free_space(&self) -> u64
-        ensures space { result ≡ places.free_space_of self.now }
+        ensures space { result ≡ allocated.free_space_of self.now }
         ensures promises { KeepsPagesPromises self.now }
     {
         open_pages::free_space(&self.pages)
@@ -307,7 +307,7 @@ impl<'a> IntoIterator for &'a AtlasPages {
 
     type IntoIter = Iter<'a>;
 
-    ghost into_iter_gives = { λ pages iter. iter ≡ listed_places pages.now };
+    ghost into_iter_gives = { λ pages iter. iter ≡ listed_allocations pages.now };
 
     fn into_iter(self) -> Iter<'a> {
         self.iter()

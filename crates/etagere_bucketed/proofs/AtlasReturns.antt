@@ -83,10 +83,10 @@ end-returned inside middle new number dropped consistent returned drops same =
     ∙ atlas-end inside consistent
 
 -- an allocation in a bucket that is there leaves it
-pub end-allocated : (inside : Inside) (place : Placement) (ready new : Stored) (shelf bucket width : ℕ) → IsConsistent inside → ready ≡ stored_ready inside.frame place inside.store
-    → new ≡ stored_taken shelf bucket width ready → IsThere place → end_of inside.frame new.shelves ≡ end_in inside
-end-allocated inside place ready new shelf bucket width consistent is_ready taken there =
-    let same : ready ≡ inside.store = is_ready ∙ by_place place there in
+pub end-allocated : (inside : Inside) (placement : Placement) (ready new : Stored) (shelf bucket width : ℕ) → IsConsistent inside → ready ≡ stored_ready inside.frame placement inside.store
+    → new ≡ stored_taken shelf bucket width ready → IsThere placement → end_of inside.frame new.shelves ≡ end_in inside
+end-allocated inside placement ready new shelf bucket width consistent is_ready taken there =
+    let same : ready ≡ inside.store = is_ready ∙ by_place placement there in
     ap (λ (s : Stored). end_of inside.frame s.shelves) taken
     ∙ end-changed inside.frame shelf (given_from (widest_from most_buckets (stored_taken shelf bucket width ready).buckets (first_bucket_of ready.shelves shelf))) ready.shelves (λ kept. refl)
     ∙ ap (λ (s : Stored). end_of inside.frame s.shelves) same ∙ atlas-end inside consistent

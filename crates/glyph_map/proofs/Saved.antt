@@ -33,11 +33,11 @@ at-append (y ∷ xs) ys zero x h = h
 at-append (y ∷ xs) ys (suc n) x h = at-append xs ys n x h
 
 -- the last of pairs stands at their last place
-pub last-is : {X : Type 0} (pairs left : List X) (pair : X) (place : ℕ) → pairs ≡ left ++ pair ∷ [] → place ≡ length pairs - 1
-    → slice_get pairs place ≡ Some pair
-last-is pairs left pair place split at =
-    let place_is : place ≡ length left = omega (arith, at, ap length split, length-append left (pair ∷ [])) in
-    ap (λ (n : ℕ). slice_get pairs n) place_is ∙ ap (λ l. slice_get l (length left)) split ∙ last-at left pair
+pub last-is : {X : Type 0} (pairs left : List X) (pair : X) (index : ℕ) → pairs ≡ left ++ pair ∷ [] → index ≡ length pairs - 1
+    → slice_get pairs index ≡ Some pair
+last-is pairs left pair index split at =
+    let index_is : index ≡ length left = omega (arith, at, ap length split, length-append left (pair ∷ [])) in
+    ap (λ (n : ℕ). slice_get pairs n) index_is ∙ ap (λ l. slice_get l (length left)) split ∙ last-at left pair
 
 -- as many keys as are saved
 pub saved-count : (snapshot : CacheSnapshot) (c : CacheState) → CacheStandsFor snapshot c → length snapshot.keys.items ≡ length c.entries
@@ -101,14 +101,14 @@ module _ {K V : Type 0} where
     entering-refused eq (Cache f) refused = absurd refused
     entering-refused eq Memory refused = tt
     entering-refused eq WrongCount refused = absurd refused
-    entering-refused eq (SameKey place) refused =
+    entering-refused eq (SameKey index) refused =
         let pair = refused.0 in
-        let some : 1 ≤ length left = some-in left place pair refused.2 in
-        let end : length left ≡ place + 1 = let at : place ≡ length left - 1 = refused.1 in omega arith in
+        let some : 1 ≤ length left = some-in left index pair refused.2 in
+        let end : length left ≡ index + 1 = let at : index ≡ length left - 1 = refused.1 in omega arith in
         record {
           pair = pair;
-          found = ap (λ (l : List (K × V)). slice_get l place) is.split ∙ at-append left (unticketed entries.entries) place pair refused.2;
-          again = ap (λ (l : List (K × V)). is_some (lookup (eq pair.0) (drop (place + 1) l))) is.split
-              ∙ ap (λ (l : List (K × V)). is_some (lookup (eq pair.0) l)) (drop_at left (unticketed entries.entries) (place + 1) end)
+          found = ap (λ (l : List (K × V)). slice_get l index) is.split ∙ at-append left (unticketed entries.entries) index pair refused.2;
+          again = ap (λ (l : List (K × V)). is_some (lookup (eq pair.0) (drop (index + 1) l))) is.split
+              ∙ ap (λ (l : List (K × V)). is_some (lookup (eq pair.0) l)) (drop_at left (unticketed entries.entries) (index + 1) end)
               ∙ found-unticketed (eq pair.0) entries.entries ∙ refused.3;
         }

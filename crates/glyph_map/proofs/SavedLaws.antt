@@ -75,16 +75,16 @@ none-found test (p ∷ ps) none = here (test p.0) none.0 (none-found test ps non
     here false t later = later
 
 -- where no key stands twice, none stands again behind a place
-none-again : {K V : Type 0} (eq : K → K → Bool) (ps : List (K × V)) (place : ℕ) (pair : K × V) → IsDistinct eq (keys_of ps)
-    → slice_get ps place ≡ Some pair → is_some (lookup (eq pair.0) (drop (place + 1) ps)) ≡ false
+none-again : {K V : Type 0} (eq : K → K → Bool) (ps : List (K × V)) (index : ℕ) (pair : K × V) → IsDistinct eq (keys_of ps)
+    → slice_get ps index ≡ Some pair → is_some (lookup (eq pair.0) (drop (index + 1) ps)) ≡ false
 unfolding IsDistinct
-none-again eq [] place pair keys found = absurd (cc)
+none-again eq [] index pair keys found = absurd (cc)
 none-again eq (p ∷ ps) zero pair keys found =
     let same : p ≡ pair = cc in
     ap (λ (x : _ × _). is_some (lookup (eq x.0) ps)) (sym same) ∙ none-found (eq p.0) ps keys.0
-none-again eq (p ∷ ps) (suc place) pair keys found =
-    let next : suc place + 1 ≡ suc (place + 1) = omega arith in
-    ap (λ (n : ℕ). is_some (lookup (eq pair.0) (drop n (p ∷ ps)))) next ∙ none-again eq ps place pair keys.1 found
+none-again eq (p ∷ ps) (suc index) pair keys found =
+    let next : suc index + 1 ≡ suc (index + 1) = omega arith in
+    ap (λ (n : ℕ). is_some (lookup (eq pair.0) (drop n (p ∷ ps)))) next ∙ none-again eq ps index pair keys.1 found
 
 pub map-none : {K V : Type 0} → BrokenCacheStandsForNone → (eq : K → K → Bool) (snapshot : CacheSnapshot) (pairs : List (K × V)) (state : MapState K V) (fault : MapRestoreFault)
     → IsMapBroken eq snapshot pairs fault → MapStandsFor snapshot pairs state → IsDistinct eq (keys_of state.entries) → fault ≡ Memory
@@ -92,10 +92,10 @@ map-none cache-none eq snapshot pairs state (Cache f) broken stands distinct =
     absurd (broken.1 (cache-none snapshot stands.cache f broken.0 stands.stands))
 map-none cache-none eq snapshot pairs state Memory broken stands distinct = refl
 map-none cache-none eq snapshot pairs state WrongCount broken stands distinct = absurd (broken (same-count snapshot pairs state stands))
-map-none cache-none eq snapshot pairs state (SameKey place) broken stands distinct =
+map-none cache-none eq snapshot pairs state (SameKey index) broken stands distinct =
     let keys : IsDistinct eq (keys_of pairs) =
     subst (λ l. IsDistinct eq l) (sym (keys-paired state.entries) ∙ ap keys_of stands.pairs_are) distinct in
-    let none = none-again eq pairs place broken.pair keys broken.found in
+    let none = none-again eq pairs index broken.pair keys broken.found in
     let again = broken.again in
     absurd (cc)
 

@@ -16,4 +16,4 @@ abbrev pub map_restore_fault_number : MapRestoreFault → ℕ
 map_restore_fault_number (Cache fault) = cache_restore_fault_number fault
 map_restore_fault_number Memory = 11
 map_restore_fault_number WrongCount = 17
-map_restore_fault_number (SameKey place) = 18
+map_restore_fault_number (SameKey index) = 18

@@ -27,10 +27,10 @@ module _ {K V : Type 0} where
     pub pairs_are : pairs_of state.entries ≡ pairs
 
   -- the key that stands at this place stands behind it too
-  pub record StandsTwice (eq : K → K → Bool) (pairs : List (K × V)) (place : ℕ) : Type 0 where
+  pub record StandsTwice (eq : K → K → Bool) (pairs : List (K × V)) (index : ℕ) : Type 0 where
     pub pair : K × V
-    pub found : slice_get pairs place ≡ Some pair
-    pub again : is_some (lookup (eq pair.0) (drop (place + 1) pairs)) ≡ true
+    pub found : slice_get pairs index ≡ Some pair
+    pub again : is_some (lookup (eq pair.0) (drop (index + 1) pairs)) ≡ true
 
   -- the rule whose breach is this fault is broken; that memory ran out breaks none
   abbrev pub IsMapBroken : (K → K → Bool) → CacheSnapshot → List (K × V) → MapRestoreFault → Type 0
@@ -38,7 +38,7 @@ module _ {K V : Type 0} where
       IsCacheBroken snapshot fault × (fault ≢ cache_faults.Memory)
   IsMapBroken eq snapshot pairs Memory = Unit {0}
   IsMapBroken eq snapshot pairs WrongCount = length pairs ≢ length snapshot.keys.items
-  IsMapBroken eq snapshot pairs (SameKey place) = StandsTwice eq pairs place
+  IsMapBroken eq snapshot pairs (SameKey index) = StandsTwice eq pairs index
 
 -- a snapshot with keys and values stands for one map at most, and where these break a rule for none
 abbrev pub MapStandsForOne : (K V : Type 0) → Type 0

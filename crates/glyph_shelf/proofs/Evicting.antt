@@ -53,10 +53,10 @@ has_room-nothing : (state : CacheState) (size : Size) → KeepsCachePromises sta
 has_room-nothing state size promises nothing fits =
     let tied = subst (λ (l : List (ℕ × Allocation)). AreTied (values_of l) (allocations state.atlas)) nothing promises.tied in
     let new = promises.atlas.empty (tied-empty (allocations state.atlas) tied) in
-    let place = ap is_some (placement-unused state.atlas (fresh state.atlas.frame) size new) ∙ fits in
+    let has = ap is_some (placement-unused state.atlas (fresh state.atlas.frame) size new) ∙ fits in
     let room = promises.capacity in
     let short : nat_lt (length state.entries) state.capacity ≡ true = rw nothing (grind (arith, nat_tests)) in
-    rw (short, place) refl
+    rw (short, has) refl
 
 -- a cache without the entry that stands last
 pub without_last-some : (state : CacheState) (e : ℕ × Allocation) → last_entry state.entries ≡ Some e

@@ -27,7 +27,7 @@ pub(crate) fn give_back(atlas: &mut AtlasAllocator, id: AllocId)
 
 /// Whether a size has a place, which it then takes.
 pub(crate) fn takes(atlas: &mut AtlasAllocator, size: Size) -> Result<bool, AllocError>
-    ensures place { IfOk result (λ has. has ≡ is_some (placement_of atlas.old size)) }
+    ensures room { IfOk result (λ has. has ≡ is_some (placement_of atlas.old size)) }
     ensures none { IfOk result (λ has. has ≡ false → atlas.new ≡ atlas.old) }
 {
     match atlas.allocate(size)? {

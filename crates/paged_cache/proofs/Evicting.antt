@@ -54,9 +54,9 @@ some_last (f ∷ es) e last = omega arith
 module _ {A P : Type 0} (returned : A → P → A) where
   -- without the entry that stands last
   without_last-some : (state : KeyedState A P) (e : ℕ × P) → last_entry state.entries ≡ Some e
-      → without_last returned state ≡ keyed (take (length state.entries - 1) state.entries) state.capacity (returned state.places e.1)
+      → without_last returned state ≡ keyed (take (length state.entries - 1) state.entries) state.capacity (returned state.allocator e.1)
   without_last-some state e last =
-      ap (λ (o : Option (ℕ × P)). option_map_or (λ entry. keyed (take (length state.entries - 1) state.entries) state.capacity (returned state.places entry.1)) o state) last
+      ap (λ (o : Option (ℕ × P)). option_map_or (λ entry. keyed (take (length state.entries - 1) state.entries) state.capacity (returned state.allocator entry.1)) o state) last
 
   -- what stays
   parts-without_last : (state : KeyedState A P) (e : ℕ × P) → last_entry state.entries ≡ Some e
@@ -68,7 +68,7 @@ module _ {A P : Type 0} (returned : A → P → A) where
   entries-without_last state = by_last (last_entry state.entries) refl
     where
       by_last : (o : Option (ℕ × P)) → last_entry state.entries ≡ o
-          → (option_map_or (λ entry. keyed (take (length state.entries - 1) state.entries) state.capacity (returned state.places entry.1)) o state).entries
+          → (option_map_or (λ entry. keyed (take (length state.entries - 1) state.entries) state.capacity (returned state.allocator entry.1)) o state).entries
           ≡ take (length state.entries - 1) state.entries
       by_last None last = rw (last-none state.entries last) refl
       by_last (Some e) last = refl
@@ -160,14 +160,14 @@ module _ {A P : Type 0} (returned : A → P → A) where
 
     module _ (gives : A → Size → P → A → Type 0) where
       -- a key that enters then was placed
-      pub evicted-places : (old : KeyedState A P) (key : ℕ) (size : Size) (evicted : List ℕ) (left : KeyedState A P) (place : P) (new : KeyedState A P)
-          → HasEvicted old size evicted left → has_room has_place left size ≡ true → Enters gives left key size place new
-          → Places returned has_place gives old key size place evicted new
-      evicted-places old key size evicted left place new has room enters =
+      pub evicted-places : (old : KeyedState A P) (key : ℕ) (size : Size) (evicted : List ℕ) (left : KeyedState A P) (allocation : P) (new : KeyedState A P)
+          → HasEvicted old size evicted left → has_room has_place left size ≡ true → Enters gives left key size allocation new
+          → Places returned has_place gives old key size allocation evicted new
+      evicted-places old key size evicted left allocation new has room enters =
           record {
             least = evictions-made old size evicted left has room;
             listed = dropped-gone old evicted left has.drops;
-            entered = subst (λ (s : KeyedState A P). Enters gives s key size place new) has.drops.after enters;
+            entered = subst (λ (s : KeyedState A P). Enters gives s key size allocation new) has.drops.after enters;
           }
 
       -- where memory runs out then
@@ -183,38 +183,38 @@ module _ {A P : Type 0} (returned : A → P → A) where
             rest = subst (λ (s : KeyedState A P). IsUndone returned gives s size new) has.drops.after undone;
           }
 
--- what evictions need of what the places are of
+-- what evictions need of what allocates
 pub record Lawful {A P : Type 0} (keeps : A → Type 0) (has_place fits : A → Size → Bool) (returned : A → P → A) (are_held : A → List P → Type 0)
     : Type 0 where
-  pub one_less : (state : A) (front back : List P) (place : P) → keeps state → are_held state (front ++ place ∷ back) → are_held (returned state place) (front ++ back)
-  pub still_keeps : (state : A) (place : P) → keeps state → keeps (returned state place)
+  pub one_less : (state : A) (front back : List P) (allocation : P) → keeps state → are_held state (front ++ allocation ∷ back) → are_held (returned state allocation) (front ++ back)
+  pub still_keeps : (state : A) (allocation : P) → keeps state → keeps (returned state allocation)
   pub none_held : (state : A) (size : Size) → keeps state → are_held state [] → fits state size ≡ true → has_place state size ≡ true
-  pub fits_returned : (state : A) (size : Size) (place : P) → fits (returned state place) size ≡ fits state size
+  pub fits_returned : (state : A) (size : Size) (allocation : P) → fits (returned state allocation) size ≡ fits state size
 
 module _ {A P : Type 0} (keeps : A → Type 0) (has_place fits : A → Size → Bool) (returned : A → P → A) (are_held : A → List P → Type 0) where
   -- where nothing is kept there is room for what fits
   has_room-nothing : Lawful keeps has_place fits returned are_held → (state : KeyedState A P) (size : Size) → IsKeyed keeps are_held state
-      → state.entries ≡ [] → fits state.places size ≡ true → has_room has_place state size ≡ true
+      → state.entries ≡ [] → fits state.allocator size ≡ true → has_room has_place state size ≡ true
   has_room-nothing laws state size is nothing fit =
-      let held = subst (λ (l : List (ℕ × P)). are_held state.places (values_of l)) nothing is.held in
-      let place = laws.none_held state.places size is.places held fit in
+      let held = subst (λ (l : List (ℕ × P)). are_held state.allocator (values_of l)) nothing is.held in
+      let has = laws.none_held state.allocator size is.allocator held fit in
       let room = is.capacity in
       let short : nat_lt (length state.entries) state.capacity ≡ true = rw nothing (grind (arith, nat_tests)) in
-      rw (short, place) refl
+      rw (short, has) refl
 
   -- what fits still does
   fits-without_last : Lawful keeps has_place fits returned are_held → (state : KeyedState A P) (size : Size)
-      → fits (without_last returned state).places size ≡ fits state.places size
+      → fits (without_last returned state).allocator size ≡ fits state.allocator size
   fits-without_last laws state size = by_last (last_entry state.entries)
     where
       by_last : (o : Option (ℕ × P))
-          → fits (option_map_or (λ entry. keyed (take (length state.entries - 1) state.entries) state.capacity (returned state.places entry.1)) o state).places size
-          ≡ fits state.places size
+          → fits (option_map_or (λ entry. keyed (take (length state.entries - 1) state.entries) state.capacity (returned state.allocator entry.1)) o state).allocator size
+          ≡ fits state.allocator size
       by_last None = refl
-      by_last (Some e) = laws.fits_returned state.places size e.1
+      by_last (Some e) = laws.fits_returned state.allocator size e.1
 
   fits-after_dropping : Lawful keeps has_place fits returned are_held → (state : KeyedState A P) (size : Size) (n : ℕ)
-      → fits (after_dropping returned state n).places size ≡ fits state.places size
+      → fits (after_dropping returned state n).allocator size ≡ fits state.allocator size
   fits-after_dropping laws state size zero = refl
   fits-after_dropping laws state size (suc n) =
       fits-without_last laws (after_dropping returned state n) size ∙ fits-after_dropping laws state size n
@@ -230,7 +230,7 @@ module _ {A P : Type 0} (keeps : A → Type 0) (has_place fits : A → Size → 
 
   -- what fits has its evictions
   evictions-exist : Lawful keeps has_place fits returned are_held → (state : KeyedState A P) (size : Size) → IsKeyed keeps are_held state
-      → fits state.places size ≡ true → (n : ℕ) × IsEvictionCount returned has_place state size n
+      → fits state.allocator size ≡ true → (n : ℕ) × IsEvictionCount returned has_place state size n
   evictions-exist laws state size is fit =
       let all = after_dropping returned state (length state.entries) in
       let nothing : all.entries ≡ [] = nothing_long all.entries (omega (arith, length-after_dropping returned state (length state.entries))) in
@@ -247,12 +247,12 @@ module _ {A P : Type 0} (keeps : A → Type 0) (has_place fits : A → Size → 
     pub has : HasEvicted returned has_place old size evicted left
     pub promises : IsKeyed keeps are_held left
     pub new : lookup (nat_eq key) left.entries ≡ None
-    pub fits_before : fits old.places size ≡ true
-    pub fits_now : fits left.places size ≡ true
+    pub fits_before : fits old.allocator size ≡ true
+    pub fits_now : fits left.allocator size ≡ true
 
   -- nothing has gone
   pub evicting-start : Lawful keeps has_place fits returned are_held → (old : KeyedState A P) (key : ℕ) (size : Size) → IsKeyed keeps are_held old
-      → lookup (nat_eq key) old.entries ≡ None → fits old.places size ≡ true → IsEvicting old key size [] old
+      → lookup (nat_eq key) old.entries ≡ None → fits old.allocator size ≡ true → IsEvicting old key size [] old
   evicting-start laws old key size is new fit =
       record {
         laws = laws;

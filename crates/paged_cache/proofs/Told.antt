@@ -4,16 +4,16 @@ use Rattle.std.specs.Prelude.{IfNone, IfOk, IfSome, OnErr, is_some}
 use Rattle.std.specs.declared.alloc.AllocError.{AllocError}
 use Rattle.etagere_base.specs.declared.geometry.Size.{Size}
 use Rattle.etagere_base.specs.Rectangles.{IsLarge}
-use Rattle.atlas_pages.specs.declared.places.PagedAllocation.{PagedAllocation}
+use Rattle.atlas_pages.specs.declared.paged_allocation.PagedAllocation.{PagedAllocation}
+use Rattle.atlas_pages.specs.Allocated.{NeedsMemory, Places}
 use Rattle.atlas_pages.specs.Choosing.{IsRefusedByAll, chosen_page, may_open, opened, ready_for}
 use Rattle.atlas_pages.specs.Pages.{PagesState, page_frame}
-use Rattle.atlas_pages.specs.Places.{NeedsMemory, Places}
 use Rattle.atlas_pages.proofs.Chosen.{chosen-refused}
 use Rattle.atlas_pages.proofs.Ready.{page_for-chosen, page_for-opened}
-use Rattle.paged_cache.specs.Held.{GivesPlace, has_page}
+use Rattle.paged_cache.specs.Held.{GivesPaged, has_page}
 
-pages-placed : (old new : PagesState) (size : Size) (place : PagedAllocation) → Places old size place new → has_page old size ≡ true
-pages-placed old new size place given = ap is_some given.chosen
+pages-placed : (old new : PagesState) (size : Size) (paged : PagedAllocation) → Places old size paged new → has_page old size ≡ true
+pages-placed old new size paged given = ap is_some given.chosen
 
 pages-refused : (state : PagesState) (size : Size) → IsRefusedByAll state size → has_page state size ≡ false
 pages-refused state size refused =
@@ -28,9 +28,9 @@ pages-needing state size (inl split) = ap is_some (page_for-chosen state size sp
 pages-needing state size (inr page) = ap is_some (page_for-opened state size page.none page.opens)
 
 pub pages-have : (told : Result (Option PagedAllocation) AllocError) (old new : PagesState) (size : Size)
-    → IfOk told (λ answer. IfSome answer (λ place. Places old size place new)) → IfOk told (λ answer. IfNone answer (IsRefusedByAll old size))
+    → IfOk told (λ answer. IfSome answer (λ paged. Places old size paged new)) → IfOk told (λ answer. IfNone answer (IsRefusedByAll old size))
     → IfOk told (λ answer. is_some answer ≡ has_page old size)
-pages-have (Ok (Some place)) old new size placed refused = sym (pages-placed old new size place placed)
+pages-have (Ok (Some paged)) old new size placed refused = sym (pages-placed old new size paged placed)
 pages-have (Ok None) old new size placed refused = sym (pages-refused old size refused)
 pages-have (Err e) old new size placed refused = tt
 
@@ -40,9 +40,9 @@ pages-have_had (Ok answer) old size needs = tt
 pages-have_had (Err e) old size needs = pages-needing old size needs
 
 pub pages-give : (told : Result (Option PagedAllocation) AllocError) (old new : PagesState) (size : Size)
-    → IfOk told (λ answer. IfSome answer (λ place. Places old size place new))
-    → IfOk told (λ answer. IfSome answer (λ place. IsLarge (page_frame old.options) size place.allocation.rectangle))
-    → IfOk told (λ answer. IfSome answer (λ place. GivesPlace old size place new))
-pages-give (Ok (Some place)) old new size placed large = record { places = placed; large = large }
+    → IfOk told (λ answer. IfSome answer (λ paged. Places old size paged new))
+    → IfOk told (λ answer. IfSome answer (λ paged. IsLarge (page_frame old.options) size paged.allocation.rectangle))
+    → IfOk told (λ answer. IfSome answer (λ paged. GivesPaged old size paged new))
+pages-give (Ok (Some paged)) old new size placed large = record { places = placed; large = large }
 pages-give (Ok None) old new size placed large = tt
 pages-give (Err e) old new size placed large = tt

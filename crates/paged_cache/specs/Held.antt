@@ -1,4 +1,4 @@
--- What an atlas and pages hold, in the words of what gives places to sizes.
+-- What an atlas and pages hold, in the words of what allocates sizes.
 use Rattle.std.specs.Prelude.{◌≡◌, ℕ, ◌<◌, Bool, Some, is_some, List, [], ◌∷◌, ◌==◌, length, slice_get, if◌then◌else◌}
 use Rattle.std.specs.List.{AllByRecursion}
 use Rattle.etagere_base.specs.declared.geometry.Size.{Size}
@@ -10,10 +10,10 @@ use Rattle.shelf_model.specs.Fresh.{fresh}
 use Rattle.shelf_model.specs.Places.{allocations, is_allocated}
 use Rattle.shelf_model.specs.Returning.{returned}
 use Rattle.shelf_model.specs.State.{AtlasState}
-use Rattle.atlas_pages.specs.declared.places.PagedAllocation.{PagedAllocation}
+use Rattle.atlas_pages.specs.declared.paged_allocation.PagedAllocation.{PagedAllocation}
+use Rattle.atlas_pages.specs.Allocated.{Places, is_allocated_on, returned_on}
 use Rattle.atlas_pages.specs.Choosing.{has_place, page_for}
 use Rattle.atlas_pages.specs.Pages.{PagesState, empty_page, page_frame}
-use Rattle.atlas_pages.specs.Places.{Places, is_allocated_on, returned_on}
 
 -- a size has a place in an atlas, and in an empty one of its frame
 abbrev pub has_place_in : AtlasState → Size → Bool
@@ -44,27 +44,27 @@ has_page state size = is_some (page_for state size)
 abbrev pub fits_page : PagesState → Size → Bool
 fits_page state size = has_place size (empty_page state.options)
 
--- after a place was given back
-abbrev pub place_returned : PagesState → PagedAllocation → PagesState
-place_returned state place = returned_on state place.page place.allocation.id
+-- after an allocation was given back
+abbrev pub paged_returned : PagesState → PagedAllocation → PagesState
+paged_returned state paged = returned_on state paged.page paged.allocation.id
 
--- something is allocated at a place
-abbrev pub is_place_held : PagesState → PagedAllocation → Bool
-is_place_held state place = is_allocated_on state place.page place.allocation.id
+-- something is allocated there
+abbrev pub is_paged_held : PagesState → PagedAllocation → Bool
+is_paged_held state paged = is_allocated_on state paged.page paged.allocation.id
 
--- of some places those on one page, as what is allocated there
+-- of some allocations those on one page, as what is allocated there
 abbrev pub kept_on : ℕ → List PagedAllocation → List Allocation
 kept_on page [] = []
-kept_on page (place ∷ places) =
-    if place.page == page then place.allocation ∷ kept_on page places else kept_on page places
+kept_on page (paged ∷ kept) =
+    if paged.page == page then paged.allocation ∷ kept_on page kept else kept_on page kept
 
--- places are all that is allocated on pages: each lies on an open one, and on each page they are what is allocated there
-pub record AreAllPlaces (state : PagesState) (places : List PagedAllocation) : Type 0 where
-  pub open_pages : AllByRecursion (λ (place : PagedAllocation). place.page < length state.pages) places
+-- these are all that is allocated on pages: each lies on an open one, and on each page they are what is allocated there
+pub record AreAllPaged (state : PagesState) (kept : List PagedAllocation) : Type 0 where
+  pub open_pages : AllByRecursion (λ (paged : PagedAllocation). paged.page < length state.pages) kept
   pub tied : (number : ℕ) (page : AtlasState) → slice_get state.pages number ≡ Some page
-      → AreTied (kept_on number places) (allocations page)
+      → AreTied (kept_on number kept) (allocations page)
 
 -- a size gets a place on pages, and a rectangle that is large enough
-pub record GivesPlace (old : PagesState) (size : Size) (place : PagedAllocation) (new : PagesState) : Type 0 where
-  pub places : Places old size place new
-  pub large : IsLarge (page_frame old.options) size place.allocation.rectangle
+pub record GivesPaged (old : PagesState) (size : Size) (paged : PagedAllocation) (new : PagesState) : Type 0 where
+  pub places : Places old size paged new
+  pub large : IsLarge (page_frame old.options) size paged.allocation.rectangle

@@ -1,5 +1,5 @@
--- The model of keys with places, as callers see it: the entries in the order of use, and what they lie in; and what
--- becomes of them when some go, and when a new key is placed.
+-- The model of keys with allocations, as callers see it: the entries in the order of use, and what they lie in; and
+-- what becomes of them when some go, and when a new key is placed.
 use Rattle.std.specs.Prelude.{◌≡◌, ℕ, zero, suc, ◌-◌, ◌<◌, ◌≤◌, Bool, ◌&&◌, true, false, Option, None, nat_eq, nat_lt, List, [], ◌∷◌, length, reverse, take, ◌⊎◌}
 use Rattle.std.specs.Map.{keys_of, lookup, remove_entry, values_of}
 use Rattle.std.specs.Option.{option_map_or}
@@ -9,20 +9,20 @@ use Rattle.etagere_base.specs.Lists.{times}
 use Rattle.paged_cache.specs.declared.faults.PlacingFault.{PlacingFault}
 use Rattle.paged_cache.specs.declared.faults.PlacingFault.TheVariants.{TooLarge, Memory}
 
--- keys with their places, the most recently used first; how many there may be; and what the places are of
+-- keys with their allocations, the most recently used first; how many there may be; and what allocates them
 pub record KeyedState (A P : Type 0) : Type 0 where
   pub entries : List (ℕ × P)
   pub capacity : ℕ
-  pub places : A
+  pub allocator : A
 
 module _ {A P : Type 0} where
   -- no keys
   abbrev pub no_keys : A → ℕ → KeyedState A P
-  no_keys places capacity = record { entries = []; capacity = capacity; places = places }
+  no_keys allocator capacity = record { entries = []; capacity = capacity; allocator = allocator }
 
-  -- the place of a key; none where it isn't there
-  abbrev pub place_at : KeyedState A P → ℕ → Option P
-  place_at state key = lookup (nat_eq key) state.entries
+  -- the allocation of a key; none where it isn't there
+  abbrev pub allocation_at : KeyedState A P → ℕ → Option P
+  allocation_at state key = lookup (nat_eq key) state.entries
 
   -- the key isn't there
   abbrev pub IsNew : KeyedState A P → ℕ → Type 0
@@ -31,7 +31,7 @@ module _ {A P : Type 0} where
   -- with a key at the front, if it is there
   abbrev pub used : KeyedState A P → ℕ → KeyedState A P
   used state key =
-      record { entries = promoted (nat_eq key) state.entries; capacity = state.capacity; places = state.places }
+      record { entries = promoted (nat_eq key) state.entries; capacity = state.capacity; allocator = state.allocator }
 
   -- the keys of so many entries, the least recently used first
   abbrev pub dropped_keys : KeyedState A P → ℕ → List ℕ
@@ -40,49 +40,49 @@ module _ {A P : Type 0} where
   -- there is room for one entry more, and a place for its size
   abbrev pub has_room : (A → Size → Bool) → KeyedState A P → Size → Bool
   has_room has_place state size =
-      nat_lt (length state.entries) state.capacity && has_place state.places size
+      nat_lt (length state.entries) state.capacity && has_place state.allocator size
 
-  -- a key stands first, with the place that its size was given
-  pub record Enters (gives : A → Size → P → A → Type 0) (old : KeyedState A P) (key : ℕ) (size : Size) (place : P)
+  -- a key stands first, with the allocation that its size was given
+  pub record Enters (gives : A → Size → P → A → Type 0) (old : KeyedState A P) (key : ℕ) (size : Size) (allocation : P)
       (new : KeyedState A P) : Type 0 where
-    pub given : gives old.places size place new.places
-    pub entries : new.entries ≡ (key, place) ∷ old.entries
+    pub given : gives old.allocator size allocation new.allocator
+    pub entries : new.entries ≡ (key, allocation) ∷ old.entries
     pub capacity : new.capacity ≡ old.capacity
 
--- there are at most as many entries as there may be, no key stands twice, and their places are all that is allocated
+-- there are at most as many entries as there may be, no key stands twice, and theirs are all allocations
 pub record IsKeyed {A P : Type 0} (keeps : A → Type 0) (are_held : A → List P → Type 0) (state : KeyedState A P)
     : Type 0 where
-  pub places : keeps state.places
+  pub allocator : keeps state.allocator
   pub few : length state.entries ≤ state.capacity
   pub capacity : 1 ≤ state.capacity
   pub keys : (key : ℕ) → times key (keys_of state.entries) ≤ 1
-  pub held : are_held state.places (values_of state.entries)
+  pub held : are_held state.allocator (values_of state.entries)
 
--- the keys are the same, and what the places are of is as after a place of the size was given back
+-- the keys are the same, and what allocates is as after an allocation of the size was given back
 pub record WasGivenBack {A P : Type 0} (returned : A → P → A) (gives : A → Size → P → A → Type 0) (old : KeyedState A P)
     (size : Size) (new : KeyedState A P) : Type 0 where
-  pub place : P
+  pub allocation : P
   pub between : A
-  pub given : gives old.places size place between
-  pub places : new.places ≡ returned between place
+  pub given : gives old.allocator size allocation between
+  pub allocator : new.allocator ≡ returned between allocation
   pub entries : new.entries ≡ old.entries
   pub capacity : new.capacity ≡ old.capacity
 
--- by what becomes of what the places are of, where one is given back
+-- by what becomes of what allocates, where an allocation is given back
 module _ {A P : Type 0} (returned : A → P → A) where
-  -- without a key, whose place is given back
+  -- without a key, whose allocation is given back
   abbrev pub without_key : KeyedState A P → ℕ → KeyedState A P
   without_key state key =
       option_map_or
-      (λ place.
+      (λ allocation.
       record {
         entries = remove_entry (nat_eq key) state.entries;
         capacity = state.capacity;
-        places = returned state.places place;
+        allocator = returned state.allocator allocation;
       })
       (lookup (nat_eq key) state.entries) state
 
-  -- without the least recently used entry, whose place is given back
+  -- without the least recently used entry, whose allocation is given back
   abbrev pub without_last : KeyedState A P → KeyedState A P
   without_last state =
       option_map_or
@@ -90,7 +90,7 @@ module _ {A P : Type 0} (returned : A → P → A) where
       record {
         entries = take (length state.entries - 1) state.entries;
         capacity = state.capacity;
-        places = returned state.places entry.1;
+        allocator = returned state.allocator entry.1;
       })
       (last_entry state.entries) state
 
@@ -108,12 +108,12 @@ module _ {A P : Type 0} (returned : A → P → A) where
   -- a new key was placed: just the evictions that its size needs went, the least recently used first, and then it
   -- entered
   pub record Places (has_place : A → Size → Bool) (gives : A → Size → P → A → Type 0) (old : KeyedState A P) (key : ℕ)
-      (size : Size) (place : P) (evicted : List ℕ) (new : KeyedState A P) : Type 0 where
+      (size : Size) (allocation : P) (evicted : List ℕ) (new : KeyedState A P) : Type 0 where
     pub least : IsEvictionCount has_place old size (length evicted)
     pub listed : evicted ≡ dropped_keys old (length evicted)
-    pub entered : Enters gives (after_dropping old (length evicted)) key size place new
+    pub entered : Enters gives (after_dropping old (length evicted)) key size allocation new
 
-  -- all is as it was, or a place was given to the size and taken back
+  -- all is as it was, or the size was allocated and that taken back
   abbrev pub IsUndone : (A → Size → P → A → Type 0) → KeyedState A P → Size → KeyedState A P → Type 0
   IsUndone gives old size new = (new ≡ old) ⊎ WasGivenBack returned gives old size new
 

@@ -5,10 +5,10 @@ use Rattle.std.specs.Map.{remove_entry}
 use Rattle.lru.specs.LruCache.{promoted}
 use Rattle.etagere_base.specs.declared.geometry.Size.{Size}
 use Rattle.etagere_base.specs.Rectangles.{IsLarge}
-use Rattle.atlas_pages.specs.declared.places.PagedAllocation.{PagedAllocation}
+use Rattle.atlas_pages.specs.declared.paged_allocation.PagedAllocation.{PagedAllocation}
 use Rattle.atlas_pages.specs.Pages.{page_frame}
-use Rattle.paged_cache.specs.Held.{GivesPlace, has_page, place_returned}
-use Rattle.paged_cache.specs.Keyed.{IsNew, RanOut, place_at, used}
+use Rattle.paged_cache.specs.Held.{GivesPaged, has_page, paged_returned}
+use Rattle.paged_cache.specs.Keyed.{IsNew, RanOut, allocation_at, used}
 use Rattle.paged_cache.specs.Paged.{IsTooLarge, KeepsPagedPromises, PagedCacheState, PlacesKey, emptied_cache, without_key}
 use Rattle.paged_cache.specs.declared.keyed.PlacedKey.{PlacedKey}
 use Rattle.paged_cache.specs.declared.runs.calls.PagedCall.{PagedCall}
@@ -19,7 +19,7 @@ use Rattle.paged_cache.specs.declared.runs.calls.PagedReply.TheVariants.{Placed,
 -- a key that is there keeps its place, and nothing is evicted for it
 pub record PlacesAgain (old : PagedCacheState) (key : ℕ) (placed : PlacedKey PagedAllocation) (new : PagedCacheState)
     : Type 0 where
-  pub there : place_at old key ≡ Some placed.place
+  pub there : allocation_at old key ≡ Some placed.allocation
   pub none : placed.evicted.items ≡ []
   pub after : new ≡ used old key
 
@@ -28,18 +28,18 @@ pub record PlacesNew (old : PagedCacheState) (key : ℕ) (size : Size) (placed :
     (new : PagedCacheState) : Type 0 where
   pub is_new : IsNew old key
   pub fits : ¬ (IsTooLarge old size)
-  pub places : PlacesKey old key size placed.place placed.evicted.items new
-  pub large : IsLarge (page_frame old.places.options) size placed.place.allocation.rectangle
+  pub places : PlacesKey old key size placed.allocation placed.evicted.items new
+  pub large : IsLarge (page_frame old.allocator.options) size placed.allocation.allocation.rectangle
 
 -- a cache may give this reply to a call, and become the new one
 abbrev pub MayAnswer : PagedCacheState → PagedCall → PagedReply → PagedCacheState → Type 0
 MayAnswer old (Place key size) (Placed placed) new = PlacesAgain old key placed new ⊎ PlacesNew old key size placed new
 MayAnswer old (Place key size) TooLarge new = IsNew old key × IsTooLarge old size × (new ≡ old)
 MayAnswer old (Place key size) (NoMemory evicted) new =
-    IsNew old key × ¬ (IsTooLarge old size) × RanOut place_returned has_page GivesPlace old size evicted.items new
-MayAnswer old (Get key) (At place) new = (place_at old key ≡ Some place) × (new ≡ used old key)
+    IsNew old key × ¬ (IsTooLarge old size) × RanOut paged_returned has_page GivesPaged old size evicted.items new
+MayAnswer old (Get key) (At paged) new = (allocation_at old key ≡ Some paged) × (new ≡ used old key)
 MayAnswer old (Get key) NotThere new = IsNew old key × (new ≡ old)
-MayAnswer old (Remove key) (Removed place) new = (place_at old key ≡ Some place) × (new ≡ without_key old key)
+MayAnswer old (Remove key) (Removed paged) new = (allocation_at old key ≡ Some paged) × (new ≡ without_key old key)
 MayAnswer old (Remove key) NotThere new = IsNew old key × (new ≡ old)
 MayAnswer old Clear Cleared new = new ≡ emptied_cache old
 -- no other reply is given
@@ -68,10 +68,10 @@ without_last count told = take (length told - count) told
 -- What one reply changes. A key that is placed or looked up goes first, and what is evicted goes from the end.
 abbrev pub told_after : PagedCall → PagedReply → Told → Told
 told_after (Place key size) (Placed placed) told =
-    (key, placed.place) ∷ without_last (length placed.evicted.items) (remove_entry (nat_eq key) told)
+    (key, placed.allocation) ∷ without_last (length placed.evicted.items) (remove_entry (nat_eq key) told)
 told_after call (NoMemory evicted) told = without_last (length evicted.items) told
-told_after (Get key) (At place) told = promoted (nat_eq key) told
-told_after (Remove key) (Removed place) told = remove_entry (nat_eq key) told
+told_after (Get key) (At paged) told = promoted (nat_eq key) told
+told_after (Remove key) (Removed paged) told = remove_entry (nat_eq key) told
 told_after call Cleared told = []
 told_after call reply told = told
 

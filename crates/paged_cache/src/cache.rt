@@ -8,11 +8,11 @@ ghost use Rattle.std.specs.NonZero.{non_zero_usize_get};
 ghost use Rattle.etagere_base.specs.Rectangles.{IsLarge};
 ghost use Rattle.atlas_pages.specs.Pages.{ArePageOptions, page_frame, pages_fault};
 ghost use Rattle.paged_cache.specs.declared.faults.NewCacheFault.TheVariants as new_faults;
-ghost use Rattle.paged_cache.specs.Keyed.{IsNew, place_at, used};
+ghost use Rattle.paged_cache.specs.Keyed.{IsNew, allocation_at, used};
 ghost use Rattle.paged_cache.specs.Paged.{IsLeft, IsTooLarge, KeepsPagedPromises, PlacesKey, empty_cache, emptied_cache, without_key};
 
 use crate::faults::{NewCacheFault, PlacingFault};
-use crate::keyed::{KeyedPlaces, PlacedKey};
+use crate::keyed::{KeyedAllocations, PlacedKey};
 use crate::listing::Iter;
 use atlas_pages::{AtlasPages, PageOptions, PagedAllocation};
 use etagere_shelves::Size;
@@ -30,7 +30,7 @@ use std::num::NonZeroUsize;
 /// ```
 #[derive(Drop)]
 pub struct PagedCache {
-    kept: KeyedPlaces<AtlasPages>,
+    kept: KeyedAllocations<AtlasPages>,
 }
 
 impl Model for PagedCache {
@@ -61,7 +61,7 @@ impl PagedCache {
         ensures promises { IfOk result KeepsPagedPromises }
     {
         let pages = AtlasPages::new(alloc, options).map_err(NewCacheFault::Pages)?;
-        let Ok(kept) = KeyedPlaces::new(alloc, capacity, pages) else {
+        let Ok(kept) = KeyedAllocations::new(alloc, capacity, pages) else {
             return Err(NewCacheFault::Memory);
         };
         // A call tells what the keys keep.
@@ -87,14 +87,14 @@ impl PagedCache {
         key: u64,
         size: Size,
     ) -> Result<PlacedKey<PagedAllocation>, PlacingFault>
-        ensures found { IfSome (place_at self.old key)
-            (λ place. IsOkAnd result
-            (λ placed. (placed.place ≡ place) × (placed.evicted.items ≡ []))
+        ensures found { IfSome (allocation_at self.old key)
+            (λ paged. IsOkAnd result
+            (λ placed. (placed.allocation ≡ paged) × (placed.evicted.items ≡ []))
             × (self.new ≡ used self.old key)) }
         ensures placed { IsNew self.old key → IfOk result
-            (λ placed. PlacesKey self.old key size placed.place placed.evicted.items self.new) }
+            (λ placed. PlacesKey self.old key size placed.allocation placed.evicted.items self.new) }
         ensures large { IsNew self.old key → IfOk result
-            (λ placed. IsLarge (page_frame self.old.places.options) size placed.place.allocation.rectangle) }
+            (λ placed. IsLarge (page_frame self.old.allocator.options) size placed.allocation.allocation.rectangle) }
         ensures too_large { IsErrOf result PlacingFault.TooLarge
             ↔ (IsNew self.old key × IsTooLarge self.old size) }
         ensures left { IfErr result (λ fault. IsLeft self.old size fault self.new) }
@@ -108,7 +108,7 @@ impl PagedCache {
     ///
     /// Takes no memory, and constant time.
     pub fn get(&mut self, key: u64) -> Option<PagedAllocation>
-        ensures value { result ≡ place_at self.old key }
+        ensures value { result ≡ allocation_at self.old key }
         ensures used { self.new ≡ used self.old key }
         ensures promises { KeepsPagedPromises self.new }
     {
@@ -119,7 +119,7 @@ impl PagedCache {
     ///
     /// Takes no memory, and constant time.
     pub fn peek(&self, key: u64) -> Option<PagedAllocation>
-        ensures { result ≡ place_at self.now key }
+        ensures { result ≡ allocation_at self.now key }
     {
         self.kept.peek(key)
     }
@@ -129,7 +129,7 @@ impl PagedCache {
     ///
     /// Takes no memory. Costs what `AtlasPages::deallocate` does.
     pub fn remove(&mut self, key: u64) -> Option<PagedAllocation>
-        ensures value { result ≡ place_at self.old key }
+        ensures value { result ≡ allocation_at self.old key }
         ensures removed { self.new ≡ without_key self.old key }
         ensures promises { KeepsPagedPromises self.new }
     {
@@ -172,9 +172,9 @@ impl PagedCache {
 
     /// The pages, for their space, their pictures and how many are open. Takes constant time.
     pub fn pages(&self) -> &AtlasPages
-        ensures { result.now ≡ self.now.places }
+        ensures { result.now ≡ self.now.allocator }
     {
-        self.kept.places()
+        self.kept.allocator()
     }
 }
 

@@ -2,7 +2,7 @@
 //! recently used keys are evicted, no more than needed.
 //!
 //! `cache` has the public calls, `faults` why there is no room, `listing` the iterator. `keyed` has the keys of anything
-//! that gives places to sizes, `allocating` says what does, and `on_atlas` and `on_pages` that an atlas and pages do. `runs`
+//! that allocates sizes, `allocating` says what does, and `on_atlas` and `on_pages` that an atlas and pages do. `runs`
 //! has what holds of one call after another.
 #![tactic(auto)]
 
@@ -18,5 +18,5 @@ pub mod runs;
 pub use allocating::Allocates;
 pub use cache::PagedCache;
 pub use faults::{NewCacheFault, PlacingFault};
-pub use keyed::{KeyedPlaces, PlacedKey};
+pub use keyed::{KeyedAllocations, PlacedKey};
 pub use listing::Iter;

@@ -19,7 +19,7 @@ pub struct Iter<'a> {
 
 impl<'a> Model for Iter<'a> {
     ghost use Rattle.std.specs.Prelude.{ℕ, List};
-    ghost use Rattle.atlas_pages.specs.declared.places.PagedAllocation.{PagedAllocation};
+    ghost use Rattle.atlas_pages.specs.declared.paged_allocation.PagedAllocation.{PagedAllocation};
 
     ghost Value = { List (ℕ × PagedAllocation) };
 
@@ -43,8 +43,8 @@ impl<'a> Iterator for Iter<'a> {
     ghost remaining = { item_count (λ rest. rest) };
 
     fn next(&mut self) -> Option<(u64, PagedAllocation)> {
-        let (key, place) = self.entries.next()?;
-        Some((*key, *place))
+        let (key, paged) = self.entries.next()?;
+        Some((*key, *paged))
     }
 }
 

@@ -1,4 +1,4 @@
-//! An atlas gives places to sizes.
+//! An atlas allocates sizes.
 //!
 //! Definitions: `Held`.
 
@@ -12,7 +12,7 @@ use etagere_shelves::{Allocation, AtlasAllocator, Size};
 use std::alloc::AllocError;
 
 impl Allocates for AtlasAllocator {
-    type Place = Allocation;
+    type Allocation = Allocation;
 
     ghost keeps = { atlas.KeepsPromises };
 
@@ -34,8 +34,8 @@ impl Allocates for AtlasAllocator {
         self.allocate(size)
     }
 
-    fn take_back(&mut self, place: Allocation) {
-        let _ = self.deallocate(place.id);
+    fn take_back(&mut self, allocation: Allocation) {
+        let _ = self.deallocate(allocation.id);
     }
 
     fn clear(&mut self) {
@@ -62,5 +62,5 @@ impl Allocates for AtlasAllocator {
 
     ghost fits_given = { laws.fits-given };
 
-    ghost fits_returned = { λ state size place. refl };
+    ghost fits_returned = { λ state size allocation. refl };
 }

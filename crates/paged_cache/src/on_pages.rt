@@ -1,9 +1,9 @@
-//! Several pages give places to sizes.
+//! Several pages allocate sizes.
 //!
 //! Definitions: `Held`.
 
 ghost use Rattle.std.specs.Prelude.{refl};
-ghost use Rattle.atlas_pages.specs.Places as places;
+ghost use Rattle.atlas_pages.specs.Allocated as allocated;
 ghost use Rattle.atlas_pages.specs.Promises as promises;
 ghost use Rattle.paged_cache.specs.Held as held;
 ghost use Rattle.paged_cache.specs.Private.PagesLaws as laws;
@@ -16,7 +16,7 @@ use shelf_search::choosing::fits_when_empty;
 use std::alloc::AllocError;
 
 impl Allocates for AtlasPages {
-    type Place = PagedAllocation;
+    type Allocation = PagedAllocation;
 
     ghost keeps = { promises.KeepsPagesPromises };
 
@@ -24,22 +24,22 @@ impl Allocates for AtlasPages {
 
     ghost fits = { held.fits_page };
 
-    ghost gives = { held.GivesPlace };
+    ghost gives = { held.GivesPaged };
 
-    ghost returned = { held.place_returned };
+    ghost returned = { held.paged_returned };
 
-    ghost cleared = { places.cleared };
+    ghost cleared = { allocated.cleared };
 
-    ghost is_held = { held.is_place_held };
+    ghost is_held = { held.is_paged_held };
 
-    ghost are_held = { held.AreAllPlaces };
+    ghost are_held = { held.AreAllPaged };
 
     fn give(&mut self, size: Size) -> Result<Option<PagedAllocation>, AllocError> {
         self.allocate(size)
     }
 
-    fn take_back(&mut self, place: PagedAllocation) {
-        let _ = self.deallocate(place.page, place.allocation.id);
+    fn take_back(&mut self, paged: PagedAllocation) {
+        let _ = self.deallocate(paged.page, paged.allocation.id);
     }
 
     fn clear(&mut self) {
@@ -69,5 +69,5 @@ impl Allocates for AtlasPages {
 
     ghost fits_given = { laws.fits-given };
 
-    ghost fits_returned = { λ state size place. refl };
+    ghost fits_returned = { λ state size paged. refl };
 }

@@ -45,7 +45,7 @@ fn get(cache: &mut PagedCache, key: u64) -> PagedReply
     ensures { Step cache.old (PagedCall.Get key) result cache.new }
 {
     match cache.get(key) {
-        Some(place) => PagedReply::At(place),
+        Some(paged) => PagedReply::At(paged),
         None => PagedReply::NotThere,
     }
 }
@@ -54,7 +54,7 @@ fn remove(cache: &mut PagedCache, key: u64) -> PagedReply
     ensures { Step cache.old (PagedCall.Remove key) result cache.new }
 {
     match cache.remove(key) {
-        Some(place) => PagedReply::Removed(place),
+        Some(paged) => PagedReply::Removed(paged),
         None => PagedReply::NotThere,
     }
 }

@@ -2,7 +2,7 @@
 
 use etagere::{AtlasAllocator, Size, size2};
 use glyph_shelf::{GlyphFault, Placed};
-use paged_cache::{KeyedPlaces, PlacedKey, PlacingFault};
+use paged_cache::{KeyedAllocations, PlacedKey, PlacingFault};
 use row_caches::caches::say_placed;
 use row_calls::lines::{capacity_of, key_and_size_of, numbers, say};
 use row_calls::slots::{Called, NotMade};
@@ -12,7 +12,7 @@ use std::num::NonZeroUsize;
 
 /// Keys that are called by lines.
 #[derive(Drop)]
-pub struct CalledKeys(KeyedPlaces<AtlasAllocator>);
+pub struct CalledKeys(KeyedAllocations<AtlasAllocator>);
 
 impl Called for CalledKeys {
     /// The words are the sides of the atlas, and the capacity.
@@ -45,19 +45,24 @@ fn new_keys(
     alloc: Global,
     size: Size,
     capacity: NonZeroUsize,
-) -> Option<KeyedPlaces<AtlasAllocator>> {
+) -> Option<KeyedAllocations<AtlasAllocator>> {
     let atlas = AtlasAllocator::new(alloc, size).ok()?;
-    KeyedPlaces::new(alloc, capacity, atlas).ok()
+    KeyedAllocations::new(alloc, capacity, atlas).ok()
 }
 
 fn placed(
-    keys: &mut KeyedPlaces<AtlasAllocator>,
+    keys: &mut KeyedAllocations<AtlasAllocator>,
     key: u64,
     size: Size,
 ) -> Result<Placed, GlyphFault> {
     match keys.place(key, size) {
-        Ok(PlacedKey { place, evicted }) => Ok(Placed {
-            rectangle: place.rectangle,
+        Ok(
+            PlacedKey {
+                allocation,
+                evicted,
+            },
+        ) => Ok(Placed {
+            rectangle: allocation.rectangle,
             evicted,
         }),
         Err(PlacingFault::TooLarge) => Err(GlyphFault::TooLarge),

@@ -1,7 +1,7 @@
 //! Calls of several pages with a padding.
 
 use crate::pages::{
-    command_of, copy_of, options_of, page_and_id_of, say_place, say_reply, say_spaces, spaces,
+    command_of, copy_of, options_of, page_and_id_of, say_paged, say_reply, say_spaces, spaces,
 };
 use atlas_pages::runs::{PageCommand, PageReply};
 use atlas_pages::{AtlasPages, PageOptions, PagesFault};
@@ -64,8 +64,8 @@ fn padding_of(pixels: i32) -> Padding {
 
 /// Writes a line for everything that is allocated, and one that ends them.
 fn list(pages: &PaddedPages, rt: &impl Print) -> io::Result<()> {
-    for place in pages {
-        say_place(rt, "at", &place)?;
+    for paged in pages {
+        say_paged(rt, "at", &paged)?;
     }
     say(rt, "end")
 }

@@ -37,7 +37,7 @@ impl Called for CalledPagedCache {
     ) -> io::Result<()> {
         let cache = &mut self.0;
         match call {
-            "peek" => say_place(rt, peek(cache, key_of(words))),
+            "peek" => say_paged(rt, peek(cache, key_of(words))),
             "iter" => list(cache, rt),
             "len" => say_number(rt, len(cache)),
             "capacity" => say_number(rt, capacity(cache)),
@@ -79,33 +79,33 @@ fn say_reply(rt: &impl Print, reply: &PagedReply) -> io::Result<()> {
         PagedReply::Placed(placed) => say_entered(rt, placed),
         PagedReply::TooLarge => say_fault(rt, PlacingFault::TooLarge.number()),
         PagedReply::NoMemory(evicted) => say_unentered(rt, evicted),
-        PagedReply::At(place) | PagedReply::Removed(place) => say_place(rt, Some(*place)),
-        PagedReply::NotThere => say_place(rt, None),
+        PagedReply::At(paged) | PagedReply::Removed(paged) => say_paged(rt, Some(*paged)),
+        PagedReply::NotThere => say_paged(rt, None),
         PagedReply::Cleared => say(rt, "cleared"),
     }
 }
 
 fn say_entered(rt: &impl Print, placed: &PlacedKey<PagedAllocation>) -> io::Result<()> {
-    print!(rt; "page {} placed ", placed.place.page)?;
-    say_bracketed(rt, &placed.place.allocation.rectangle)?;
+    print!(rt; "page {} placed ", placed.allocation.page)?;
+    say_bracketed(rt, &placed.allocation.allocation.rectangle)?;
     say_evicted(rt, &placed.evicted)
 }
 
 /// Writes the page and the corners of a place, or that there is none.
-fn say_place(rt: &impl Print, place: Option<PagedAllocation>) -> io::Result<()> {
-    let Some(place) = place else {
+fn say_paged(rt: &impl Print, paged: Option<PagedAllocation>) -> io::Result<()> {
+    let Some(paged) = paged else {
         return say(rt, "none");
     };
-    print!(rt; "page {} ", place.page)?;
-    say_bracketed(rt, &place.allocation.rectangle)?;
+    print!(rt; "page {} ", paged.page)?;
+    say_bracketed(rt, &paged.allocation.rectangle)?;
     say(rt, "")
 }
 
 /// Writes a line for each key with its place, and one that ends them.
 fn list(cache: &PagedCache, rt: &impl Print) -> io::Result<()> {
-    for (key, place) in cache {
+    for (key, paged) in cache {
         print!(rt; "at {key} ")?;
-        say_place(rt, Some(place))?;
+        say_paged(rt, Some(paged))?;
     }
     say(rt, "end")
 }

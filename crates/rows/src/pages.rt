@@ -101,7 +101,7 @@ fn deallocation_of(words: &str) -> PageCommand {
 /// Writes what a command answers.
 pub fn say_reply(rt: &impl Print, reply: &PageReply) -> io::Result<()> {
     match reply {
-        PageReply::Placed(place) => say_place(rt, "placed", place),
+        PageReply::Placed(paged) => say_paged(rt, "placed", paged),
         PageReply::Refused => say(rt, "refused"),
         PageReply::NoMemory => say(rt, "no memory"),
         PageReply::Returned => say(rt, "returned"),
@@ -138,15 +138,15 @@ pub fn page_and_id_of(words: &str) -> (u32, AllocId) {
 }
 
 /// Writes the page, the corners and the id of a place.
-pub fn say_place(rt: &impl Print, word: &str, place: &PagedAllocation) -> io::Result<()> {
-    print!(rt; "page {} ", place.page)?;
-    say_given(rt, word, &place.allocation)
+pub fn say_paged(rt: &impl Print, word: &str, paged: &PagedAllocation) -> io::Result<()> {
+    print!(rt; "page {} ", paged.page)?;
+    say_given(rt, word, &paged.allocation)
 }
 
 /// Writes a line for everything that is allocated, and one that ends them.
 fn list(pages: &AtlasPages, rt: &impl Print) -> io::Result<()> {
-    for place in pages {
-        say_place(rt, "at", &place)?;
+    for paged in pages {
+        say_paged(rt, "at", &paged)?;
     }
     say(rt, "end")
 }
@@ -163,11 +163,11 @@ fn say_moved(rt: &impl Print, moved: &Result<RearrangedPages, AllocError>) -> io
         return say(rt, "no memory");
     };
     for PageMove { before, after } in &done.moves {
-        say_place(rt, "from", before)?;
-        say_place(rt, "to", after)?;
+        say_paged(rt, "from", before)?;
+        say_paged(rt, "to", after)?;
     }
     for left in &done.unplaced {
-        say_place(rt, "left", left)?;
+        say_paged(rt, "left", left)?;
     }
     say(rt, "end")
 }

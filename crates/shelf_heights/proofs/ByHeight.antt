@@ -3,9 +3,9 @@ pub mod Edited
 pub mod FreeBounds
 pub mod LeftOver
 pub mod MovedLists
+pub mod OrdersRise
 pub mod PairedShelves
 pub mod PassedBounds
-pub mod PlacesRise
 pub mod Positions
 pub mod RisingNumbers
 pub mod SameBounds

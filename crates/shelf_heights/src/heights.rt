@@ -64,15 +64,16 @@ pub fn order_of(shelves: &[LinkedShelf], shelf: usize) -> u64
     u64::from(record.height) * (65536 * 65536) + u64::from(chain_order(record.x, record.y))
 }
 
-/// Whether a shelf comes before this height and place: the place decides only where the heights are equal.
-fn comes_before(shelves: &[LinkedShelf], shelf: usize, height: u32, place: u32) -> bool
+/// Whether a shelf comes before this height and this order in the chain: the chain decides only where the heights are
+/// equal.
+fn comes_before(shelves: &[LinkedShelf], shelf: usize, height: u32, in_chain: u32) -> bool
     requires { shelf < length shelves.now }
-    ensures { result ≡ nat_lt (spec.order_of shelves.now shelf) (spec.order_at height place) }
+    ensures { result ≡ nat_lt (spec.order_of shelves.now shelf) (spec.order_at height in_chain) }
 {
     let record = &shelves[shelf];
     let own = u32::from(record.height);
     let (along, across) = (record.x, record.y);
-    own < height || (own == height && chain_order(along, across) < place)
+    own < height || (own == height && chain_order(along, across) < in_chain)
 }
 
 /// Where a shelf stands in the order; 0 where there is no such shelf.
@@ -87,15 +88,15 @@ pub fn order_or_zero(shelves: &[LinkedShelf], shelf: usize) -> u64
     }
 }
 
-/// Where the shelves begin that don't come before this height and place, by binary search.
+/// Where the shelves begin that don't come before this height and order in the chain, by binary search.
 pub fn first_from(
     shelves: &[LinkedShelf],
     by_height: &ShelvesByHeight,
     height: u32,
-    place: u32,
+    in_chain: u32,
 ) -> Start
     requires { AreInOrder shelves.now by_height.now.items }
-    ensures start { IsStart shelves.now by_height.now.items (spec.order_at height place) result.index
+    ensures start { IsStart shelves.now by_height.now.items (spec.order_at height in_chain) result.index
         result.probes }
     ensures few { length by_height.now.items < 2 ^ 64 }
 {
@@ -107,7 +108,7 @@ pub fn first_from(
     while start.index < end {
         let middle = start.index + (end - start.index) / 2;
         start.probes += 1;
-        if comes_before(shelves, by_height.shelf(middle), height, place) {
+        if comes_before(shelves, by_height.shelf(middle), height, in_chain) {
             start.index = middle + 1;
         } else {
             end = middle;
@@ -201,8 +202,8 @@ fn start_of(shelves: &[LinkedShelf], by_height: &ShelvesByHeight, shelf: usize) 
         result.probes }
 {
     let record = &shelves[shelf];
-    let place = chain_order(record.x, record.y);
-    first_from(shelves, by_height, u32::from(record.height), place)
+    let in_chain = chain_order(record.x, record.y);
+    first_from(shelves, by_height, u32::from(record.height), in_chain)
 }
 
 /// Where the shelves begin that don't come before this one, among all but the one at a position, beside which the search
@@ -224,12 +225,12 @@ fn start_beside(
 {
     let record = &shelves[shelf];
     let height = u32::from(record.height);
-    let place = chain_order(record.x, record.y);
-    let mut between = between_beside(shelves, by_height, left_out, height, place);
+    let in_chain = chain_order(record.x, record.y);
+    let mut between = between_beside(shelves, by_height, left_out, height, in_chain);
     while between.from < between.end {
         let middle = between.from + (between.end - between.from) / 2;
         let beside = shelf_beside(by_height, left_out, middle);
-        if comes_before(shelves, beside, height, place) {
+        if comes_before(shelves, beside, height, in_chain) {
             between.from = middle + 1;
         } else {
             between.end = middle;
@@ -238,29 +239,30 @@ fn start_beside(
     between.from
 }
 
-/// Between which positions those begin that don't come before a height and place, among all but the one at a position.
+/// Between which positions those begin that don't come before a height and order in the chain, among all but the one at
+/// a position.
 /// What stands beside that tells: most shelves stay where they are.
 fn between_beside(
     shelves: &[LinkedShelf],
     by_height: &ShelvesByHeight,
     left_out: usize,
     height: u32,
-    place: u32,
+    in_chain: u32,
 ) -> Between
     requires order { AreInOrder shelves.now (remove by_height.now.items left_out) }
     requires left_out { left_out < length by_height.now.items }
     ensures few { length by_height.now.items < 2 ^ 64 }
     ensures bounds { result.from ≤ result.end }
     ensures within { result.end ≤ length (remove by_height.now.items left_out) }
-    ensures before { AllByRecursion (λ one. spec.order_of shelves.now one.shelf < spec.order_at height place)
+    ensures before { AllByRecursion (λ one. spec.order_of shelves.now one.shelf < spec.order_at height in_chain)
         (take result.from (remove by_height.now.items left_out)) }
-    ensures after { AllByRecursion (λ one. spec.order_at height place ≤ spec.order_of shelves.now one.shelf)
+    ensures after { AllByRecursion (λ one. spec.order_at height in_chain ≤ spec.order_of shelves.now one.shelf)
         (drop result.end (remove by_height.now.items left_out)) }
 {
     let end = by_height.len() - 1;
     if left_out < end {
         let behind = shelf_beside(by_height, left_out, left_out);
-        if comes_before(shelves, behind, height, place) {
+        if comes_before(shelves, behind, height, in_chain) {
             return Between {
                 from: left_out + 1,
                 end,
@@ -271,7 +273,7 @@ fn between_beside(
         return Between { from: 0, end: 0 };
     }
     let front = shelf_beside(by_height, left_out, left_out - 1);
-    if comes_before(shelves, front, height, place) {
+    if comes_before(shelves, front, height, in_chain) {
         return Between {
             from: left_out,
             end: left_out,
@@ -302,12 +304,12 @@ fn start_near(
 {
     let record = &shelves[shelf];
     let height = u32::from(record.height);
-    let place = chain_order(record.x, record.y);
+    let in_chain = chain_order(record.x, record.y);
     let mut from = 0;
     let mut end = by_height.len();
     while from < end {
         let middle = probed_near(near, from, end);
-        if comes_before(shelves, by_height.shelf(middle), height, place) {
+        if comes_before(shelves, by_height.shelf(middle), height, in_chain) {
             from = middle + 1;
         } else {
             end = middle;

@@ -18,7 +18,7 @@ ghost use Rattle.shelf_model.specs.Fresh.{fresh};
 ghost use Rattle.shelf_heights.specs.Private.ByHeight.{AreInOrder, AreByHeight, bounded_at, numbers_by_height};
 ghost use Rattle.shelf_records.specs.Private.Kept.{AreKept, Finds, state_of};
 ghost use Rattle.shelf_search.specs.Private.Opening as opening;
-ghost use Rattle.shelf_search.specs.Private.Opening.{ArePlaced, AreSearchable, AreTall, AreWhole, IsBehind, IsEarliest, IsSearchable, earlier_position, looked_into};
+ghost use Rattle.shelf_search.specs.Private.Opening.{AreInChain, AreSearchable, AreTall, AreWhole, IsBehind, IsEarliest, IsSearchable, earlier_position, looked_into};
 ghost use Rattle.shelf_search.specs.Private.Searching as searching;
 ghost use Rattle.shelf_search.specs.Private.Searching.{AreTooTall, IsFirstGood};
 ghost use Rattle.shelf_model.specs.State as state;
@@ -381,8 +381,8 @@ fn first_placed(
     None
 }
 
-/// The position of the shelf in the first place from this one on whose bound is not below this width. Shelves of one height
-/// stand in the order of their places, so only the first such one of each height is looked at.
+/// The position of the earliest shelf in the chain from this one on whose bound is not below this width. Shelves of one
+/// height stand in the order of the chain, so only the first such one of each height is looked at.
 fn earliest_wide(
     shelves: &[LinkedShelf],
     by_height: &mut ShelvesByHeight,
@@ -390,7 +390,7 @@ fn earliest_wide(
     width: u32,
 ) -> Option<usize>
     requires order { AreInOrder shelves.now by_height.old.items }
-    requires places { ArePlaced shelves.now by_height.old.items }
+    requires in_chain { AreInChain shelves.now by_height.old.items }
     requires few { length by_height.old.items < 2 ^ 64 }
     requires start { start ≤ length by_height.old.items }
     ensures value { IsEarliest shelves.now by_height.old.items start (length by_height.old.items) width result }
@@ -406,7 +406,7 @@ fn earliest_wide(
     first
 }
 
-/// Of two positions the one whose shelf has the earlier place.
+/// Of two positions the one whose shelf is earlier in the chain.
 fn earlier(
     shelves: &[LinkedShelf],
     by_height: &ShelvesByHeight,
@@ -435,11 +435,11 @@ fn chain_order_at(shelves: &[LinkedShelf], by_height: &ShelvesByHeight, index: u
     chain_order_of(shelves, by_height.shelf(index))
 }
 
-/// A position behind this one, up to which all shelves have its height, and so a later place. Where the next shelf has its
-/// height, it is that behind all shelves of it.
+/// A position behind this one, up to which all shelves have its height, and so are later in the chain. Where the
+/// next shelf has its height, it is that behind all shelves of it.
 fn behind_height(shelves: &[LinkedShelf], by_height: &ShelvesByHeight, index: usize) -> usize
     requires order { AreInOrder shelves.now by_height.now.items }
-    requires places { ArePlaced shelves.now by_height.now.items }
+    requires in_chain { AreInChain shelves.now by_height.now.items }
     requires few { length by_height.now.items < 2 ^ 64 }
     requires index { index < length by_height.now.items }
     ensures { IsBehind shelves.now by_height.now.items index result }

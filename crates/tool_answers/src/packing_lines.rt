@@ -74,6 +74,6 @@ fn split_last(bytes: &[u8], separator: u8) -> Option<(&[u8], &[u8])> {
         .rev()
         .take_while(|byte| **byte != separator)
         .count();
-    let place = bytes.len().checked_sub(after)?.checked_sub(1)?;
-    Some((&bytes[..place], &bytes[place + 1..]))
+    let position = bytes.len().checked_sub(after)?.checked_sub(1)?;
+    Some((&bytes[..position], &bytes[position + 1..]))
 }

@@ -17,8 +17,8 @@ pub fn plain_text(
 ) -> Result<String, AllocError> {
     let mut text = String::new(alloc);
     for (one, reply) in wanted.iter().zip(replies) {
-        if let PageReply::Placed(place) = reply {
-            push_line(&mut text, one, place)?;
+        if let PageReply::Placed(paged) = reply {
+            push_line(&mut text, one, paged)?;
         }
     }
     Ok(text)
@@ -27,14 +27,14 @@ pub fn plain_text(
 fn push_line(
     text: &mut String,
     one: &Wanted<'_>,
-    place: &PagedAllocation,
+    paged: &PagedAllocation,
 ) -> Result<(), AllocError> {
-    let corner = place.allocation.rectangle.min;
+    let corner = paged.allocation.rectangle.min;
     let space = if one.name.is_empty() { "" } else { " " };
     push_pieces(
         text,
         &[
-            Count(u128::from(place.page)),
+            Count(u128::from(paged.page)),
             Words(" "),
             Number(corner.x),
             Words(" "),
@@ -71,9 +71,9 @@ pub fn json_text(
         ],
     )?;
     for (index, (one, reply)) in wanted.iter().zip(replies).enumerate() {
-        if let PageReply::Placed(place) = reply {
+        if let PageReply::Placed(paged) = reply {
             text.push_str(if index == 0 { "{" } else { ",{" })?;
-            push_object(&mut text, one, place)?;
+            push_object(&mut text, one, paged)?;
         }
     }
     text.push_str("]}\n")?;
@@ -83,8 +83,8 @@ pub fn json_text(
 fn count_pages(replies: &[PageReply]) -> u64 {
     let mut pages = 0u64;
     for reply in replies {
-        if let PageReply::Placed(place) = reply {
-            pages = pages.max(u64::from(place.page) + 1);
+        if let PageReply::Placed(paged) = reply {
+            pages = pages.max(u64::from(paged.page) + 1);
         }
     }
     pages
@@ -93,19 +93,19 @@ fn count_pages(replies: &[PageReply]) -> u64 {
 fn push_object(
     text: &mut String,
     one: &Wanted<'_>,
-    place: &PagedAllocation,
+    paged: &PagedAllocation,
 ) -> Result<(), AllocError> {
     if !one.name.is_empty() {
         text.push_str("\"name\":\"")?;
         push_escaped(text, one.name)?;
         text.push_str("\",")?;
     }
-    let corner = place.allocation.rectangle.min;
+    let corner = paged.allocation.rectangle.min;
     push_pieces(
         text,
         &[
             Words("\"page\":"),
-            Count(u128::from(place.page)),
+            Count(u128::from(paged.page)),
             Words(",\"x\":"),
             Number(corner.x),
             Words(",\"y\":"),

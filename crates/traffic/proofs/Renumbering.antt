@@ -83,62 +83,62 @@ all-without-other other position (e ∷ entries) differ =
     here false is later = ap (λ (l : List Allocation). cond (e.position == position) (e.allocation ∷ l) l) later
 
 -- two ledgers have the same, where the positions of one are those of the other by a renumbering
-pub record AreRenumbered (place : ℕ → ℕ) (entries others : List Entry) : Type 0 where
-  pub same : (position : ℕ) → all_at position entries ≡ all_at (place position) others
+pub record AreRenumbered (new_position : ℕ → ℕ) (entries others : List Entry) : Type 0 where
+  pub same : (position : ℕ) → all_at position entries ≡ all_at (new_position position) others
 
-module _ (place : ℕ → ℕ) (one : (m n : ℕ) → place m ≡ place n → m ≡ n) where
-  found : (entries others : List Entry) → AreRenumbered place entries others → (position : ℕ)
-      → allocation_at position entries ≡ allocation_at (place position) others
+module _ (new_position : ℕ → ℕ) (one : (m n : ℕ) → new_position m ≡ new_position n → m ≡ n) where
+  found : (entries others : List Entry) → AreRenumbered new_position entries others → (position : ℕ)
+      → allocation_at position entries ≡ allocation_at (new_position position) others
   found entries others are position =
-      first-at position entries ∙ ap first_of (are.same position) ∙ sym (first-at (place position) others)
+      first-at position entries ∙ ap first_of (are.same position) ∙ sym (first-at (new_position position) others)
 
   -- a test of two positions
-  test-place : (m n : ℕ) → (place m == place n) ≡ (m == n)
+  test-place : (m n : ℕ) → (new_position m == new_position n) ≡ (m == n)
   test-place m n = by_test (m == n) refl
     where
-      by_test : (b : Bool) → (m == n) ≡ b → (place m == place n) ≡ b
-      by_test true is = let same : m ≡ n = eqb-true m n is in eq-eqb (place m) (place n) (ap place same)
-      by_test false is = other (place m == place n) refl
+      by_test : (b : Bool) → (m == n) ≡ b → (new_position m == new_position n) ≡ b
+      by_test true is = let same : m ≡ n = eqb-true m n is in eq-eqb (new_position m) (new_position n) (ap new_position same)
+      by_test false is = other (new_position m == new_position n) refl
         where
-          other : (b : Bool) → (place m == place n) ≡ b → b ≡ false
-          other true here = let same = one m n (eqb-true (place m) (place n) here) in absurd (grind (arith, eq-eqb))
+          other : (b : Bool) → (new_position m == new_position n) ≡ b → b ≡ false
+          other true here = let same = one m n (eqb-true (new_position m) (new_position n) here) in absurd (grind (arith, eq-eqb))
           other false here = refl
 
   after-added : (entries others : List Entry) (here : ℕ) (allocation : Allocation)
-      → AreRenumbered place entries others
-      → AreRenumbered place (entries ++ record { position = here; allocation = allocation } ∷ [])
-      (others ++ record { position = place here; allocation = allocation } ∷ [])
+      → AreRenumbered new_position entries others
+      → AreRenumbered new_position (entries ++ record { position = here; allocation = allocation } ∷ [])
+      (others ++ record { position = new_position here; allocation = allocation } ∷ [])
   after-added entries others here allocation are =
       record {
         same = λ n.
             all-append n entries (record { position = here; allocation = allocation })
             ∙ ap (λ (l : List Allocation). l ++ cond (here == n) (allocation ∷ []) []) (are.same n)
-            ∙ ap (λ (b : Bool). all_at (place n) others ++ cond b (allocation ∷ []) []) (sym (test-place here n))
-            ∙ sym (all-append (place n) others (record { position = place here; allocation = allocation }));
+            ∙ ap (λ (b : Bool). all_at (new_position n) others ++ cond b (allocation ∷ []) []) (sym (test-place here n))
+            ∙ sym (all-append (new_position n) others (record { position = new_position here; allocation = allocation }));
       }
 
   after-taken : (entries others : List Entry) (gone : ℕ)
-      → AreRenumbered place entries others → AreRenumbered place (without gone entries) (without (place gone) others)
+      → AreRenumbered new_position entries others → AreRenumbered new_position (without gone entries) (without (new_position gone) others)
   after-taken entries others gone are = record { same = λ n. by_test n (gone == n) refl }
     where
       by_test : (n : ℕ) (b : Bool) → (gone == n) ≡ b
-          → all_at n (without gone entries) ≡ all_at (place n) (without (place gone) others)
+          → all_at n (without gone entries) ≡ all_at (new_position n) (without (new_position gone) others)
       by_test n true is =
           let same : gone ≡ n = eqb-true gone n is in
-          subst (λ (k : ℕ). all_at k (without gone entries) ≡ all_at (place k) (without (place gone) others)) same
-          (all-without-here gone entries ∙ ap but_first (are.same gone) ∙ sym (all-without-here (place gone) others))
+          subst (λ (k : ℕ). all_at k (without gone entries) ≡ all_at (new_position k) (without (new_position gone) others)) same
+          (all-without-here gone entries ∙ ap but_first (are.same gone) ∙ sym (all-without-here (new_position gone) others))
       by_test n false is =
           let apart : gone ≢ n = λ e. absurd (grind (arith, eq-eqb)) in
-          let places_apart : place gone ≢ place n = λ e. apart (one gone n e) in
-          all-without-other gone n entries apart ∙ are.same n ∙ sym (all-without-other (place gone) (place n) others places_apart)
+          let places_apart : new_position gone ≢ new_position n = λ e. apart (one gone n e) in
+          all-without-other gone n entries apart ∙ are.same n ∙ sym (all-without-other (new_position gone) (new_position n) others places_apart)
 
   -- what a renumbered command does to what is live
   renumbered_effect : Effect → Effect
-  renumbered_effect (TakesOut position) = TakesOut (place position)
+  renumbered_effect (TakesOut position) = TakesOut (new_position position)
   renumbered_effect effect = effect
 
   effect-renumbered : (command : AtlasCommand) (reply : Reply)
-      → atlas_effect (renumbered place command) reply ≡ renumbered_effect (atlas_effect command reply)
+      → atlas_effect (renumbered new_position command) reply ≡ renumbered_effect (atlas_effect command reply)
   unfolding renumbered_effect
   effect-renumbered (Return position) Returned = refl
   effect-renumbered command Returned = refl
@@ -152,8 +152,8 @@ module _ (place : ℕ → ℕ) (one : (m n : ℕ) → place m ≡ place n → m 
   effect-renumbered command NoMemory = refl
 
   after-effect : (entries others : List Entry) (here : ℕ) (effect : Effect)
-      → AreRenumbered place entries others
-      → AreRenumbered place (live_after here effect entries) (live_after (place here) (renumbered_effect effect) others)
+      → AreRenumbered new_position entries others
+      → AreRenumbered new_position (live_after here effect entries) (live_after (new_position here) (renumbered_effect effect) others)
   unfolding renumbered_effect
   after-effect entries others here (Adds allocation) are = after-added entries others here allocation are
   after-effect entries others here (TakesOut position) are = after-taken entries others position are
@@ -161,8 +161,8 @@ module _ (place : ℕ → ℕ) (one : (m n : ℕ) → place m ≡ place n → m 
   after-effect entries others here Keeps are = are
 
   step-renumbered : (entries others : List Entry) (old new : AtlasState) (command : AtlasCommand) (reply : Reply)
-      → AreRenumbered place entries others
-      → AtlasStep entries old command reply new → AtlasStep others old (renumbered place command) reply new
+      → AreRenumbered new_position entries others
+      → AtlasStep entries old command reply new → AtlasStep others old (renumbered new_position command) reply new
   step-renumbered entries others old new (Return position) Returned are step =
       record {
         allocation = step.allocation;
@@ -186,29 +186,29 @@ module _ (place : ℕ → ℕ) (one : (m n : ℕ) → place m ≡ place n → m 
 
   pub run-renumbered : (here there : ℕ) (entries others : List Entry) (old new : AtlasState) (commands : List AtlasCommand)
       (replies : List Reply)
-      → AreRenumbered place entries others
-      → ((n : ℕ) → place (here + n) ≡ there + n)
+      → AreRenumbered new_position entries others
+      → ((n : ℕ) → new_position (here + n) ≡ there + n)
       → Runs shelf_atlas here entries old commands replies new
-      → Runs shelf_atlas there others old (map (renumbered place) commands) replies new
+      → Runs shelf_atlas there others old (map (renumbered new_position) commands) replies new
   run-renumbered here there entries others old new [] [] are own run = run
   run-renumbered here there entries others old new [] (r ∷ replies) are own never = absurd never
   run-renumbered here there entries others old new (c ∷ commands) [] are own never = absurd never
   run-renumbered here there entries others old new (c ∷ commands) (r ∷ replies) are own run =
       let same : here ≡ here + 0 = omega arith in
       let there_is : there + 0 ≡ there = omega arith in
-      let at : place here ≡ there = ap place same ∙ own 0 ∙ there_is in
-      let later : (n : ℕ) → place ((here + 1) + n) ≡ (there + 1) + n =
+      let at : new_position here ≡ there = ap new_position same ∙ own 0 ∙ there_is in
+      let later : (n : ℕ) → new_position ((here + 1) + n) ≡ (there + 1) + n =
       λ n. let more : (here + 1) + n ≡ here + (n + 1) = omega arith in
       let more_there : there + (n + 1) ≡ (there + 1) + n = omega arith in
-      ap place more ∙ own (n + 1) ∙ more_there in
+      ap new_position more ∙ own (n + 1) ∙ more_there in
       let effect_is = effect-renumbered c r in
-      let after : AreRenumbered place (live_after here (atlas_effect c r) entries) (live_after there (atlas_effect (renumbered place c) r) others) =
-      subst (λ (e : Effect). AreRenumbered place (live_after here (atlas_effect c r) entries) (live_after there e others)) (sym effect_is)
-      (subst (λ (n : ℕ). AreRenumbered place (live_after here (atlas_effect c r) entries) (live_after n (renumbered_effect (atlas_effect c r)) others)) at
+      let after : AreRenumbered new_position (live_after here (atlas_effect c r) entries) (live_after there (atlas_effect (renumbered new_position c) r) others) =
+      subst (λ (e : Effect). AreRenumbered new_position (live_after here (atlas_effect c r) entries) (live_after there e others)) (sym effect_is)
+      (subst (λ (n : ℕ). AreRenumbered new_position (live_after here (atlas_effect c r) entries) (live_after n (renumbered_effect (atlas_effect c r)) others)) at
       (after-effect entries others here (atlas_effect c r) are)) in (
         run.0,
         step-renumbered entries others old run.0 c r are run.1,
         run-renumbered (here + 1) (there + 1) (live_after here (atlas_effect c r) entries)
-            (live_after there (atlas_effect (renumbered place c) r) others) run.0 new commands replies after
+            (live_after there (atlas_effect (renumbered new_position c) r) others) run.0 new commands replies after
             later run.2,
       )

@@ -127,12 +127,12 @@ rest-of-run snapshot commands live replies atlas last restored tied goes size op
           let past : length earlier ≤ n = omega (arith, many, behind) in
           ap (λ (o : Option Reply). option_and_then given_by o) (slice_get_past earlier n past);
     } in
-    let place = whole_position before entries live in
-    let rest = run-renumbered place (whole-one before given entries live whole) (length live) before (entries_from 0 live) entries
+    let new_position = whole_position before entries live in
+    let rest = run-renumbered new_position (whole-one before given entries live whole) (length live) before (entries_from 0 live) entries
     saved last commands replies (whole-renumbered before given entries live whole) (whole-own before given entries live)
     (subst (λ (s : AtlasState). Runs shelf_atlas (length live) (entries_from 0 live) s commands replies last) same goes) in
     let here : before ≡ 0 + before = omega arith in (
       last,
-      joined shelf_atlas 0 [] (fresh frame) saved last first (map (renumbered place) commands) earlier replies run
-          (at_same shelf_atlas before (0 + before) entries saved (map (renumbered place) commands) replies last here rest),
+      joined shelf_atlas 0 [] (fresh frame) saved last first (map (renumbered new_position) commands) earlier replies run
+          (at_same shelf_atlas before (0 + before) entries saved (map (renumbered new_position) commands) replies last here rest),
     )

@@ -8,11 +8,11 @@ use Rattle.uses.specs.declared.pages.PagedAllocation.{PagedAllocation}
 
 -- a size got a place: every page before it refused the size, its page has the rectangle under the
 -- id, and all other pages are as they were
-pub record IsOnPage (old : List AtlasState) (size : Size) (place : PagedAllocation) (new : List AtlasState)
+pub record IsOnPage (old : List AtlasState) (size : Size) (paged : PagedAllocation) (new : List AtlasState)
     : Type 0 where
-  pub refused : (page : ℕ) → page < place.page → (state : AtlasState)
+  pub refused : (page : ℕ) → page < paged.page → (state : AtlasState)
       → slice_get old page ≡ Some state → IsRefused state size
   pub state : AtlasState
-  pub page : slice_get new place.page ≡ Some state
-  pub found : rectangle_of state place.allocation.id ≡ Some place.allocation.rectangle
-  pub others : (page : ℕ) → page ≢ place.page → slice_get new page ≡ slice_get old page
+  pub page : slice_get new paged.page ≡ Some state
+  pub found : rectangle_of state paged.allocation.id ≡ Some paged.allocation.rectangle
+  pub others : (page : ℕ) → page ≢ paged.page → slice_get new page ≡ slice_get old page

@@ -9,11 +9,11 @@ use Rattle.shelf_model.specs.State.{AtlasState}
 
 -- the places of the first sizes of a list: each is found in the atlas under its id, no two share a
 -- unit square, and each is as large as its size asks for
-pub record ArePlaces (state : AtlasState) (sizes : List Size) (places : List Allocation) : Type 0 where
+pub record AreAllocations (state : AtlasState) (sizes : List Size) (allocations : List Allocation) : Type 0 where
   pub found : AllByRecursion
-      (λ (place : Allocation). rectangle_of state place.id ≡ Some place.rectangle)
-      places
-  pub apart : AreApart places
+      (λ (allocation : Allocation). rectangle_of state allocation.id ≡ Some allocation.rectangle)
+      allocations
+  pub apart : AreApart allocations
   pub large : AllZip
-      (λ (size : Size) (place : Allocation). IsLarge state.frame size place.rectangle)
-      (take (length places) sizes) places
+      (λ (size : Size) (allocation : Allocation). IsLarge state.frame size allocation.rectangle)
+      (take (length allocations) sizes) allocations

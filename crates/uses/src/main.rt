@@ -109,15 +109,15 @@ fn show_sheet(rt: &(impl Print + AllocGlobal)) -> Result<()> {
 
 fn show_placed(rt: &(impl Print + AllocGlobal), atlas: &mut AtlasAllocator) -> Result<()> {
     let sizes = [size2(32, 32), size2(16, 20), size2(20, 20), size2(64, 8)];
-    let places = place_sheet(rt.alloc(), atlas, &sizes)?;
-    show_places(rt, &places, sizes.len())
+    let allocations = place_sheet(rt.alloc(), atlas, &sizes)?;
+    show_allocations(rt, &allocations, sizes.len())
 }
 
-fn show_places(rt: &impl Print, places: &[Allocation], wanted: usize) -> Result<()> {
-    for place in places {
-        show(rt, "sheet", place.rectangle)?;
+fn show_allocations(rt: &impl Print, allocations: &[Allocation], wanted: usize) -> Result<()> {
+    for allocation in allocations {
+        show(rt, "sheet", allocation.rectangle)?;
     }
-    println!(rt; "sheet: placed {} of {wanted}", places.len())?;
+    println!(rt; "sheet: placed {} of {wanted}", allocations.len())?;
     Ok(())
 }
 
@@ -145,19 +145,19 @@ fn show_drawn(rt: &impl Print, cache: &mut GlyphCache) -> Result<()> {
 fn show_pages(rt: &(impl Print + AllocGlobal)) -> Result<()> {
     let mut pages = Vec::new(rt.alloc());
     for side in [200, 200, 40, 300] {
-        let place = allocate_on_pages(rt.alloc(), &mut pages, size2(side, side))?;
-        show_page(rt, side, place)?;
+        let paged = allocate_on_pages(rt.alloc(), &mut pages, size2(side, side))?;
+        show_page(rt, side, paged)?;
     }
     Ok(())
 }
 
-fn show_page(rt: &impl Print, side: i32, place: Option<PagedAllocation>) -> Result<()> {
-    let Some(place) = place else {
+fn show_page(rt: &impl Print, side: i32, paged: Option<PagedAllocation>) -> Result<()> {
+    let Some(paged) = paged else {
         println!(rt; "pages: {side} is too large for {}", PAGE.width)?;
         return Ok(());
     };
-    println!(rt; "pages: {side} on page {}", place.page)?;
-    show(rt, "pages", place.allocation.rectangle)
+    println!(rt; "pages: {side} on page {}", paged.page)?;
+    show(rt, "pages", paged.allocation.rectangle)
 }
 
 fn show_saved(rt: &(impl Print + AllocGlobal)) -> Result<()> {

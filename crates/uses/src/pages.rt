@@ -35,7 +35,7 @@ pub fn allocate_on_pages(
     size: Size,
 ) -> Result<Option<PagedAllocation>, AllocError>
     ensures placed { IfOk result (λ answer. IfSome answer
-        (λ place. IsOnPage pages.old.items size place pages.new.items)) }
+        (λ paged. IsOnPage pages.old.items size paged pages.new.items)) }
     ensures none { IfOk result (λ answer. IfNone answer
         (IsRefused (fresh (atlas_frame PAGE default_options)) size)) }
     ensures stay { IfOk result (λ answer. IfNone answer (pages.new.items ≡ pages.old.items)) }

@@ -5,7 +5,7 @@
 ghost use Rattle.std.specs.Prelude.{◌≡◌, IfOk, Some, length, slice_get};
 ghost use Rattle.etagere_base.specs.declared.geometry.Size as declared;
 ghost use Rattle.shelf_model.specs.Choice.{IsRefused};
-ghost use Rattle.uses.specs.Sheet.{ArePlaces};
+ghost use Rattle.uses.specs.Sheet.{AreAllocations};
 
 use etagere::{Allocation, AtlasAllocator, Size};
 use std::alloc::{AllocError, Global};
@@ -20,16 +20,16 @@ pub fn place_sheet(
     atlas: &mut AtlasAllocator,
     sizes: &[Size],
 ) -> Result<Vec<Allocation>, AllocError>
-    ensures places { IfOk result (λ places. ArePlaces atlas.new sizes.now places.items) }
-    ensures ends { IfOk result (λ places. (size : declared.Size)
-        → slice_get sizes.now (length places.items) ≡ Some size → IsRefused atlas.new size) }
+    ensures allocations { IfOk result (λ allocations. AreAllocations atlas.new sizes.now allocations.items) }
+    ensures ends { IfOk result (λ allocations. (size : declared.Size)
+        → slice_get sizes.now (length allocations.items) ≡ Some size → IsRefused atlas.new size) }
 {
-    let mut places = Vec::with_capacity(alloc, sizes.len())?;
+    let mut allocations = Vec::with_capacity(alloc, sizes.len())?;
     for size in sizes {
-        let Some(place) = atlas.allocate(*size)? else {
-            return Ok(places);
+        let Some(allocation) = atlas.allocate(*size)? else {
+            return Ok(allocations);
         };
-        places.push(place)?;
+        allocations.push(allocation)?;
     }
-    Ok(places)
+    Ok(allocations)
 }

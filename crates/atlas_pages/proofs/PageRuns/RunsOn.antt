@@ -3,8 +3,8 @@ use Rattle.std.proofs.Common.{◌≡◌, ℕ, ◌+◌, ◌<◌, ◌≤◌, List,
 use Rattle.std.proofs.lemmas.Bool.{cases_lt}
 use Rattle.std.proofs.lemmas.List.{length-append, take-append-le, take_all, take_more}
 use Rattle.atlas_pages.specs.declared.options.PageOptions.{PageOptions}
+use Rattle.atlas_pages.specs.Allocated.{rectangle_on}
 use Rattle.atlas_pages.specs.Pages.{PagesState, no_pages}
-use Rattle.atlas_pages.specs.Places.{rectangle_on}
 use Rattle.atlas_pages.specs.Promises.{KeepsPagesPromises}
 use Rattle.atlas_pages.specs.declared.runs.commands.PageCommand.{PageCommand}
 use Rattle.atlas_pages.specs.declared.runs.commands.PageReply.{PageReply}

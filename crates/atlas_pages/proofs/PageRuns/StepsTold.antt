@@ -17,10 +17,10 @@ use Rattle.shelf_model.specs.Places.{allocations, rectangle_of}
 use Rattle.shelf_model.specs.Returning.{returned}
 use Rattle.shelf_model.specs.State.{AtlasState}
 use Rattle.atlas_pages.specs.declared.options.PageOptions.{PageOptions}
-use Rattle.atlas_pages.specs.declared.places.PagedAllocation.{PagedAllocation}
+use Rattle.atlas_pages.specs.declared.paged_allocation.PagedAllocation.{PagedAllocation}
+use Rattle.atlas_pages.specs.Allocated.{Places, at_page, is_unused, rectangle_on, used_pages}
 use Rattle.atlas_pages.specs.Choosing.{ready_for}
 use Rattle.atlas_pages.specs.Pages.{PagesState, empty_page, page_frame}
-use Rattle.atlas_pages.specs.Places.{Places, at_page, is_unused, rectangle_on, used_pages}
 use Rattle.atlas_pages.specs.Promises.{IsPage, KeepsPagesPromises}
 use Rattle.atlas_pages.proofs.KeptBefore.{get-set, kept-before, ready-or_opened}
 use Rattle.atlas_pages.proofs.PageLists.{at_page-set}
@@ -29,7 +29,7 @@ use Rattle.atlas_pages.specs.declared.runs.commands.PageCommand.TheVariants.{All
 use Rattle.atlas_pages.specs.declared.runs.commands.PageReply.{PageReply}
 use Rattle.atlas_pages.specs.declared.runs.commands.PageReply.TheVariants.{Placed, Refused, NoMemory, Returned, Unknown, Cleared, Grown, Fewer, Closed}
 use Rattle.atlas_pages.specs.Runs.Running.{PageStep}
-use Rattle.atlas_pages.specs.Runs.Told.{Told, are, told_after, with_place}
+use Rattle.atlas_pages.specs.Runs.Told.{Told, are, told_after, with_paged}
 
 -- the rectangle on one of some pages under an id
 abbrev among : List AtlasState → ℕ → ℕ → Option Rectangle
@@ -195,17 +195,17 @@ among-used (x ∷ pages) page id =
     by_tests later false here b behind m = stays later m
 
 -- a place that was given is told beside what was there
-pub told-placed : (old : PagesState) (size : Size) (place : PagedAllocation) (new : PagesState) (told : Told)
-    → KeepsPagesPromises old → KeepsPagesPromises new → Places old size place new
+pub told-placed : (old : PagesState) (size : Size) (paged : PagedAllocation) (new : PagesState) (told : Told)
+    → KeepsPagesPromises old → KeepsPagesPromises new → Places old size paged new
     → ((page id : ℕ) → told page id ≡ rectangle_on old page id)
-    → (page id : ℕ) → with_place place told page id ≡ rectangle_on new page id
-told-placed old size place new told was is places tells page id =
+    → (page id : ℕ) → with_paged paged told page id ≡ rectangle_on new page id
+told-placed old size paged new told was is places tells page id =
     let allocates = places.allocates in
-    let before = kept-before old new size place was is places.options allocates in
-    let given = place.allocation in
+    let before = kept-before old new size paged was is places.options allocates in
+    let given = paged.allocation in
     let rest : told page id ≡ among (ready_for old size).pages page id = tells page id ∙ sym (among-ready old size page id) in
-    ap (cond (are place.page given.id page id) (Some given.rectangle)) rest
-    ∙ sym (among-set (ready_for old size).pages place.page allocates.before allocates.after given.id (Some given.rectangle) allocates.is_open
+    ap (cond (are paged.page given.id page id) (Some given.rectangle)) rest
+    ∙ sym (among-set (ready_for old size).pages paged.page allocates.before allocates.after given.id (Some given.rectangle) allocates.is_open
     (seen-allocated allocates.before size given allocates.after before allocates.allocates) page id)
     ∙ sym (ap (λ (l : List AtlasState). among l page id) allocates.others)
 
@@ -214,8 +214,8 @@ pub told-step : (old : PagesState) (command : PageCommand) (reply : PageReply) (
     → KeepsPagesPromises old → KeepsPagesPromises new → PageStep old command reply new
     → ((page id : ℕ) → told page id ≡ rectangle_on old page id)
     → (page id : ℕ) → told_after command reply told page id ≡ rectangle_on new page id
-told-step old (Allocate size) (Placed place) new told was is (places, large) tells page id =
-    told-placed old size place new told was is places tells page id
+told-step old (Allocate size) (Placed paged) new told was is (places, large) tells page id =
+    told-placed old size paged new told was is places tells page id
 told-step old (Allocate size) Refused new told was is (refused, same) tells page id =
     tells page id ∙ sym (ap (λ (s : PagesState). rectangle_on s page id) same)
 told-step old (Allocate size) NoMemory new told was is (needs, same) tells page id =
@@ -250,7 +250,7 @@ as_before old new same = options_stay old new (ap (λ (s : PagesState). s.option
 -- a step changes of the options only how many pages there may be
 pub same-step : (old : PagesState) (command : PageCommand) (reply : PageReply) (new : PagesState) → PageStep old command reply new
     → new.options ≡ record old.options { most_pages = new.options.most_pages }
-same-step old (Allocate size) (Placed place) new (places, large) = options_stay old new places.options
+same-step old (Allocate size) (Placed paged) new (places, large) = options_stay old new places.options
 same-step old (Allocate size) Refused new (refused, same) = as_before old new same
 same-step old (Allocate size) NoMemory new (needs, same) = as_before old new same
 same-step old (Deallocate on gone) Returned new (there, after) = options_stay old new (ap (λ (s : PagesState). s.options) after)

@@ -2,8 +2,8 @@
 use Rattle.std.specs.Prelude.{◌^◌, ◌<◌, ◌≤◌, Option, None, Some, List, [], ◌++◌, drop, length}
 use Rattle.atlas_pages.specs.declared.listing.Iter.TheInside.{Inside}
 use Rattle.atlas_pages.specs.declared.listing.OnPage.{OnPage}
-use Rattle.atlas_pages.specs.declared.places.PagedAllocation.{PagedAllocation}
-use Rattle.atlas_pages.specs.Listing.{on_page, places_from}
+use Rattle.atlas_pages.specs.declared.paged_allocation.PagedAllocation.{PagedAllocation}
+use Rattle.atlas_pages.specs.Listing.{allocations_from, on_page}
 
 -- what is left of a page
 abbrev pub left_on : OnPage → List PagedAllocation
@@ -16,7 +16,7 @@ left_of (Some begun) = left_on begun
 
 -- and what is on the pages that were not begun
 abbrev pub listed_in : Inside → List PagedAllocation
-listed_in fields = left_of fields.begun ++ places_from fields.next (drop fields.next fields.pages.now)
+listed_in fields = left_of fields.begun ++ allocations_from fields.next (drop fields.next fields.pages.now)
 
 -- the next page is one of them, or all were begun
 pub record IsListed (fields : Inside) : Type 0 where

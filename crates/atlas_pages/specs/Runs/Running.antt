@@ -2,9 +2,9 @@
 use Rattle.std.specs.Prelude.{◌≡◌, ℕ, ◌+◌, ◌<◌, ◌≤◌, false, true, Some, List, [], ◌∷◌, length, take}
 use Rattle.etagere_base.specs.Rectangles.{IsLarge}
 use Rattle.atlas_pages.specs.declared.options.PageOptions.{PageOptions}
+use Rattle.atlas_pages.specs.Allocated.{NeedsMemory, Places, cleared, is_allocated_on, rectangle_on, returned_on, shrunk, with_most}
 use Rattle.atlas_pages.specs.Choosing.{IsRefusedByAll}
 use Rattle.atlas_pages.specs.Pages.{ArePageOptions, PagesState, no_pages, page_frame, pages_fault}
-use Rattle.atlas_pages.specs.Places.{NeedsMemory, Places, cleared, is_allocated_on, rectangle_on, returned_on, shrunk, with_most}
 use Rattle.atlas_pages.specs.Promises.{KeepsPagesPromises}
 use Rattle.atlas_pages.specs.declared.runs.commands.PageCommand.{PageCommand}
 use Rattle.atlas_pages.specs.declared.runs.commands.PageCommand.TheVariants.{Allocate, Deallocate, Clear, Grow, Shrink}
@@ -16,8 +16,8 @@ use Rattle.atlas_pages.specs.Runs.Told.{nothing, told_from}
 
 -- pages may give this reply to a command and become the new ones
 abbrev pub PageStep : PagesState → PageCommand → PageReply → PagesState → Type 0
-PageStep old (Allocate size) (Placed place) new =
-    Places old size place new × IsLarge (page_frame old.options) size place.allocation.rectangle
+PageStep old (Allocate size) (Placed paged) new =
+    Places old size paged new × IsLarge (page_frame old.options) size paged.allocation.rectangle
 PageStep old (Allocate size) Refused new = IsRefusedByAll old size × (new ≡ old)
 PageStep old (Allocate size) NoMemory new = NeedsMemory old size × (new ≡ old)
 PageStep old (Deallocate page id) Returned new =

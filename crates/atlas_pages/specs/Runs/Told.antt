@@ -1,7 +1,7 @@
 -- What is allocated on pages, as far as replies tell of it.
 use Rattle.std.specs.Prelude.{ℕ, Bool, ◌&&◌, Option, None, Some, List, ◌∷◌, ◌==◌, if◌then◌else◌}
 use Rattle.etagere_base.specs.declared.geometry.Rectangle.{Rectangle}
-use Rattle.atlas_pages.specs.declared.places.PagedAllocation.{PagedAllocation}
+use Rattle.atlas_pages.specs.declared.paged_allocation.PagedAllocation.{PagedAllocation}
 use Rattle.atlas_pages.specs.declared.runs.commands.PageCommand.{PageCommand}
 use Rattle.atlas_pages.specs.declared.runs.commands.PageCommand.TheVariants.{Deallocate}
 use Rattle.atlas_pages.specs.declared.runs.commands.PageReply.{PageReply}
@@ -19,9 +19,9 @@ abbrev pub are : ℕ → ℕ → ℕ → ℕ → Bool
 are this_page this_id page id = this_page == page && this_id == id
 
 -- and beside it what was given a place
-abbrev pub with_place : PagedAllocation → Told → Told
-with_place place told page id =
-    if are place.page place.allocation.id page id then Some place.allocation.rectangle else told page id
+abbrev pub with_paged : PagedAllocation → Told → Told
+with_paged paged told page id =
+    if are paged.page paged.allocation.id page id then Some paged.allocation.rectangle else told page id
 
 -- but for what was on a page under an id
 abbrev pub but_for : ℕ → ℕ → Told → Told
@@ -29,7 +29,7 @@ but_for gone_page gone_id told page id = if are gone_page gone_id page id then N
 
 -- what one reply changes
 abbrev pub told_after : PageCommand → PageReply → Told → Told
-told_after command (Placed place) told = with_place place told
+told_after command (Placed paged) told = with_paged paged told
 told_after (Deallocate page id) Returned told = but_for page id told
 told_after command Cleared told = nothing
 told_after command reply told = told

@@ -30,7 +30,7 @@ fn allocate(pages: &mut AtlasPages, size: Size) -> PageReply
     ensures promises { KeepsPagesPromises pages.new }
 {
     match pages.allocate(size) {
-        Ok(Some(place)) => PageReply::Placed(place),
+        Ok(Some(paged)) => PageReply::Placed(paged),
         Ok(None) => PageReply::Refused,
         Err(_) => PageReply::NoMemory,
     }

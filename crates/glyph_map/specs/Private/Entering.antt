@@ -37,15 +37,15 @@ module _ {K V : Type 0} where
 
   -- pairs are refused for this fault
   abbrev pub ArePairsRefused : (K → K → Bool) → List (K × V) → MapRestoreFault → Type 0
-  ArePairsRefused eq pairs (SameKey place) = StandsTwice eq pairs place
+  ArePairsRefused eq pairs (SameKey index) = StandsTwice eq pairs index
   ArePairsRefused eq pairs Memory = Unit {0}
   -- no other fault is one of pairs
   ArePairsRefused eq pairs fault = ⊥
 
   -- the last pair is refused for this fault beside entries
   abbrev pub IsLastRefused : (K → K → Bool) → List (K × V) → List (K × Ticketed V) → MapRestoreFault → Type 0
-  IsLastRefused eq pairs entries (SameKey place) =
-      (pair : K × V) × (place ≡ length pairs - 1) × (slice_get pairs place ≡ Some pair)
+  IsLastRefused eq pairs entries (SameKey index) =
+      (pair : K × V) × (index ≡ length pairs - 1) × (slice_get pairs index ≡ Some pair)
       × (is_some (lookup (eq pair.0) entries) ≡ true)
   IsLastRefused eq pairs entries Memory = Unit {0}
   -- no other fault is one of a pair

@@ -23,7 +23,7 @@ use Rattle.moves.specs.Caches.Arranging.{HasMoved, IsLeftOut, key_at, key_left, 
 use Rattle.moves.specs.Caches.Private.Following.{Follows, IsMovedInto}
 use Rattle.moves.specs.declared.caches.rearrangement.KeyMove.{KeyMove}
 use Rattle.moves.specs.declared.caches.rearrangement.UnplacedKey.{UnplacedKey}
-use Rattle.moves.proofs.MovedCaches.Entries.{Entries, ids_of, left-found, moved, moved-found, moved-keys, moved-length, moved-tied, name-found, names, names-ids, places, places-ids}
+use Rattle.moves.proofs.MovedCaches.Entries.{Entries, ids_of, left-found, moved, moved-found, moved-keys, moved-length, moved-tied, moved_by_id, moved_by_id-ids, name-found, names, names-ids}
 use Rattle.moves.proofs.MovedCaches.Found.{each-filter_map, each-map, found-total, mapped-some, present, under, under-absent, under-own, weigh}
 
 -- the keys that are told for what moved, and for what was left
@@ -120,8 +120,8 @@ module _ (old : CacheState) (moves : List Move) (unplaced : List Allocation) (at
   moved-each rooms =
       let all : List Allocation = allocations old.atlas in
       let found = each-map (IsFound all) (λ (m : Move). m.before) moves (Each-front (IsFound all) (moved_from moves) unplaced into.each.found) in
-      let own = each-map (λ (p : ℕ × Allocation). under (places moves) p.0 ≡ Some p.1) (λ (m : Move). (m.before.id, m.after)) moves
-      (under-own (places moves) (λ id. subst (λ (l : List ℕ). times id l ≤ 1) (sym (places-ids moves)) (moved-once id))) in
+      let own = each-map (λ (p : ℕ × Allocation). under (moved_by_id moves) p.0 ≡ Some p.1) (λ (m : Move). (m.before.id, m.after)) moves
+      (under-own (moved_by_id moves) (λ id. subst (λ (l : List ℕ). times id l ≤ 1) (sym (moved_by_id-ids moves)) (moved-once id))) in
       let facts = Each-both (λ (m : Move). IsFound all m.before) (λ (m : Move). (new_place moves m.before.id ≡ Some m.after) × HasRoom m) moves found
       (Each-both (λ (m : Move). new_place moves m.before.id ≡ Some m.after) HasRoom moves own rooms) in
       each-filter_map (λ (m : Move). IsFound all m.before × ((new_place moves m.before.id ≡ Some m.after) × HasRoom m))
@@ -145,8 +145,8 @@ module _ (old : CacheState) (moves : List Move) (unplaced : List Allocation) (at
       let all : List Allocation = allocations old.atlas in
       let found = Each-back (IsFound all) (moved_from moves) unplaced into.each.found in
       let gone = Each-weaken (λ (a : Allocation). 1 ≤ times a.id (ids_of unplaced)) (λ (a : Allocation). new_place moves a.id ≡ None) unplaced
-      (λ a some. under-absent a.id (places moves)
-      (subst (λ (l : List ℕ). times a.id l ≡ 0) (sym (places-ids moves)) (omega (arith, some, counted a.id, once a.id))))
+      (λ a some. under-absent a.id (moved_by_id moves)
+      (subst (λ (l : List ℕ). times a.id l ≡ 0) (sym (moved_by_id-ids moves)) (omega (arith, some, counted a.id, once a.id))))
       (each-map (λ (id : ℕ). 1 ≤ times id (ids_of unplaced)) (λ (a : Allocation). a.id) unplaced (present (ids_of unplaced))) in
       each-filter_map (λ (a : Allocation). IsFound all a × (new_place moves a.id ≡ None))
       (IsLeftOut old (moved_cache old moves atlas)) (key_left old) unplaced

@@ -22,8 +22,8 @@ abbrev pub ids_of : List Allocation → List ℕ
 ids_of all = map (λ (allocation : Allocation). allocation.id) all
 
 -- old ids with what is allocated now, and ids with keys
-abbrev pub places : List Move → Entries
-places moves = map (λ (move : Move). (move.before.id, move.after)) moves
+abbrev pub moved_by_id : List Move → Entries
+moved_by_id moves = map (λ (move : Move). (move.before.id, move.after)) moves
 
 abbrev pub names : Entries → List (ℕ × ℕ)
 names entries = map (λ (entry : ℕ × Allocation). (entry.1.id, entry.0)) entries
@@ -33,9 +33,9 @@ abbrev pub moved : List Move → Entries → Entries
 moved moves entries = filter_map (moved_entry moves) entries
 
 -- ids of what moved, and of entries
-pub places-ids : (moves : List Move) → keys_of (places moves) ≡ ids_of (moved_from moves)
-places-ids [] = refl
-places-ids (m ∷ ms) = ap (λ (l : List ℕ). m.before.id ∷ l) (places-ids ms)
+pub moved_by_id-ids : (moves : List Move) → keys_of (moved_by_id moves) ≡ ids_of (moved_from moves)
+moved_by_id-ids [] = refl
+moved_by_id-ids (m ∷ ms) = ap (λ (l : List ℕ). m.before.id ∷ l) (moved_by_id-ids ms)
 
 pub names-ids : (es : Entries) → keys_of (names es) ≡ ids_of (values_of es)
 names-ids [] = refl
@@ -44,10 +44,10 @@ names-ids (e ∷ es) = ap (λ (l : List ℕ). e.1.id ∷ l) (names-ids es)
 -- how often an id stands among the entries that moved
 moved-ids : (moves : List Move) (id : ℕ) (es : Entries)
     → times id (ids_of (values_of (moved moves es)))
-    ≡ total (λ (i : ℕ). weigh (λ (a : Allocation). hit a.id id) (under (places moves) i)) (ids_of (values_of es))
+    ≡ total (λ (i : ℕ). weigh (λ (a : Allocation). hit a.id id) (under (moved_by_id moves) i)) (ids_of (values_of es))
 moved-ids moves id [] = refl
 moved-ids moves id (e ∷ es) =
-    by_place (under (places moves) e.1.id) (total (λ (i : ℕ). weigh (λ (a : Allocation). hit a.id id) (under (places moves) i)) (ids_of (values_of es)))
+    by_place (under (moved_by_id moves) e.1.id) (total (λ (i : ℕ). weigh (λ (a : Allocation). hit a.id id) (under (moved_by_id moves) i)) (ids_of (values_of es)))
     (moved-ids moves id es)
   where
     by_place : (o : Option Allocation) (n : ℕ) → times id (ids_of (values_of (moved moves es))) ≡ n
@@ -57,21 +57,21 @@ moved-ids moves id (e ∷ es) =
     by_place (Some a) n same = ap (λ (k : ℕ). hit a.id id + k) same
 
 -- and among what moved
-places-total : (moves : List Move) (id : ℕ) → total (λ (p : ℕ × Allocation). hit p.1.id id) (places moves) ≡ times id (ids_of (moved_to moves))
-places-total [] id = refl
-places-total (m ∷ ms) id = ap (λ (k : ℕ). hit m.after.id id + k) (places-total ms id)
+moved_by_id-total : (moves : List Move) (id : ℕ) → total (λ (p : ℕ × Allocation). hit p.1.id id) (moved_by_id moves) ≡ times id (ids_of (moved_to moves))
+moved_by_id-total [] id = refl
+moved_by_id-total (m ∷ ms) id = ap (λ (k : ℕ). hit m.after.id id + k) (moved_by_id-total ms id)
 
 -- what is found of each move
-each-place : (P : Allocation → Type 0) (moves : List Move) → AllByRecursion P (moved_to moves)
-    → AllByRecursion (λ (p : ℕ × Allocation). P p.1) (places moves)
-each-place P [] each = tt
-each-place P (m ∷ ms) each = (each.0, each-place P ms each.1)
+each-moved_by_id : (P : Allocation → Type 0) (moves : List Move) → AllByRecursion P (moved_to moves)
+    → AllByRecursion (λ (p : ℕ × Allocation). P p.1) (moved_by_id moves)
+each-moved_by_id P [] each = tt
+each-moved_by_id P (m ∷ ms) each = (each.0, each-moved_by_id P ms each.1)
 
 moved-each : (P : Allocation → Type 0) (moves : List Move) (es : Entries) → AllByRecursion P (moved_to moves)
     → AllByRecursion P (values_of (moved moves es))
 moved-each P moves [] each = tt
 moved-each P moves (e ∷ es) each =
-    by_place (under (places moves) e.1.id) (under-each P e.1.id (places moves) (each-place P moves each)) (moved-each P moves es each)
+    by_place (under (moved_by_id moves) e.1.id) (under-each P e.1.id (moved_by_id moves) (each-moved_by_id P moves each)) (moved-each P moves es each)
   where
     by_place : (o : Option Allocation) → IfSome o P → AllByRecursion P (values_of (moved moves es))
         → AllByRecursion P (values_of (cons_option (option_map (λ (after : Allocation). (e.0, after)) o) (moved moves es)))
@@ -83,13 +83,13 @@ pub moved-tied : (moves : List Move) (es : Entries) (all : List Allocation) → 
     → AllByRecursion (λ (id : ℕ). times id (ids_of (values_of es)) ≡ 1) (ids_of (moved_from moves))
     → ((id : ℕ) → times id (ids_of (moved_from moves)) ≤ 1) → AreTied (values_of (moved moves es)) all
 moved-tied moves es all tied each once =
-    let same = places-ids moves in
+    let same = moved_by_id-ids moves in
     record {
       found = moved-each (IsFound all) moves es tied.found;
       counted = λ id.
           tied.counted id
-          ∙ sym (places-total moves id)
-          ∙ sym (found-total (λ (a : Allocation). hit a.id id) (places moves) (ids_of (values_of es))
+          ∙ sym (moved_by_id-total moves id)
+          ∙ sym (found-total (λ (a : Allocation). hit a.id id) (moved_by_id moves) (ids_of (values_of es))
           (subst (AllByRecursion (λ (id : ℕ). times id (ids_of (values_of es)) ≡ 1)) (sym same) each)
           (λ id. subst (λ (l : List ℕ). times id l ≤ 1) (sym same) (once id)))
           ∙ sym (moved-ids moves id es);
@@ -98,7 +98,7 @@ moved-tied moves es all tied each once =
 -- no key stands more often than before, and there are no more
 pub moved-keys : (moves : List Move) (key : ℕ) (es : Entries) → times key (keys_of (moved moves es)) ≤ times key (keys_of es)
 moved-keys moves key [] = omega arith
-moved-keys moves key (e ∷ es) = by_place (under (places moves) e.1.id) (moved-keys moves key es)
+moved-keys moves key (e ∷ es) = by_place (under (moved_by_id moves) e.1.id) (moved-keys moves key es)
   where
     by_place : (o : Option Allocation) → times key (keys_of (moved moves es)) ≤ times key (keys_of es)
         → times key (keys_of (cons_option (option_map (λ (after : Allocation). (e.0, after)) o) (moved moves es))) ≤ times key (keys_of (e ∷ es))
@@ -107,7 +107,7 @@ moved-keys moves key (e ∷ es) = by_place (under (places moves) e.1.id) (moved-
 
 pub moved-length : (moves : List Move) (es : Entries) → length (moved moves es) ≤ length es
 moved-length moves [] = omega arith
-moved-length moves (e ∷ es) = by_place (under (places moves) e.1.id) (moved-length moves es)
+moved-length moves (e ∷ es) = by_place (under (moved_by_id moves) e.1.id) (moved-length moves es)
   where
     by_place : (o : Option Allocation) → length (moved moves es) ≤ length es
         → length (cons_option (option_map (λ (after : Allocation). (e.0, after)) o) (moved moves es)) ≤ length (e ∷ es)

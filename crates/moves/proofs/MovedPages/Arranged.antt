@@ -15,10 +15,10 @@ use Rattle.moves.specs.Atlases.Order.{size_of}
 use Rattle.moves.specs.Atlases.Private.Sides.{HasSides}
 use Rattle.atlas_pages.proofs.KeptBefore.{allocated-inside, get-set}
 use Rattle.atlas_pages.specs.declared.options.PageOptions.{PageOptions}
-use Rattle.atlas_pages.specs.declared.places.PagedAllocation.{PagedAllocation}
+use Rattle.atlas_pages.specs.declared.paged_allocation.PagedAllocation.{PagedAllocation}
+use Rattle.atlas_pages.specs.Allocated.{Places}
 use Rattle.atlas_pages.specs.Choosing.{ready_for}
 use Rattle.atlas_pages.specs.Pages.{PagesState, page_frame}
-use Rattle.atlas_pages.specs.Places.{Places}
 use Rattle.atlas_pages.specs.Promises.{IsPage, KeepsPagesPromises}
 use Rattle.moves.proofs.MovedPages.TiedLists.{tied-added, times_on-append}
 use Rattle.moves.specs.Pages.Arranging.{Arranges, nothing, moved, refused, HasRoom, moved_from, moved_to}
@@ -51,14 +51,14 @@ arranges-tied (moved {moves = moves} {state = state} {next = next} {after = afte
 arranges-tied (refused before so_far refuses) keeps none = arranges-tied so_far keeps none
 
 -- pages on which a size was given a place have a frame
-placed-frame : (old new : PagesState) (size : Size) (place : PagedAllocation) → Places old size place new → KeepsPagesPromises new
+placed-frame : (old new : PagesState) (size : Size) (paged : PagedAllocation) → Places old size paged new → KeepsPagesPromises new
     → IsFrame longest_side (page_frame old.options)
-placed-frame old new size place places is =
+placed-frame old new size paged places is =
     let there = places.allocates in
-    let at : slice_get new.pages place.page ≡ Some there.after =
-    ap (λ (l : List AtlasState). slice_get l place.page) there.others
-    ∙ get-set (ready_for old size).pages place.page there.before there.after there.is_open in
-    let after = Each-get (IsPage new.options) new.pages place.page there.after at is.pages in
+    let at : slice_get new.pages paged.page ≡ Some there.after =
+    ap (λ (l : List AtlasState). slice_get l paged.page) there.others
+    ∙ get-set (ready_for old size).pages paged.page there.before there.after there.is_open in
+    let after = Each-get (IsPage new.options) new.pages paged.page there.after at is.pages in
     subst (λ (o : PageOptions). IsFrame longest_side (page_frame o)) places.options
     (subst (IsFrame longest_side) after.frame after.promises.valid.frame)
 
@@ -125,20 +125,20 @@ arranges-once old arranges tied =
     }
 
 -- what is found on pages has sides that can be told
-pub found-sides : (state : PagesState) → KeepsPagesPromises state → (place : PagedAllocation) → IsFoundOn state place → HasSides place.allocation
-found-sides state keeps place found =
-    inside-sides (page_frame state.options) (by_page (slice_get state.pages place.page) refl found) place.allocation
-    (allocated-inside state place.page place.allocation.id place.allocation.rectangle keeps found)
+pub found-sides : (state : PagesState) → KeepsPagesPromises state → (paged : PagedAllocation) → IsFoundOn state paged → HasSides paged.allocation
+found-sides state keeps paged found =
+    inside-sides (page_frame state.options) (by_page (slice_get state.pages paged.page) refl found) paged.allocation
+    (allocated-inside state paged.page paged.allocation.id paged.allocation.rectangle keeps found)
   where
-    by_page : (o : Option AtlasState) → slice_get state.pages place.page ≡ o
-        → option_and_then (λ (atlas : AtlasState). rectangle_of atlas place.allocation.id) o ≡ Some place.allocation.rectangle
+    by_page : (o : Option AtlasState) → slice_get state.pages paged.page ≡ o
+        → option_and_then (λ (atlas : AtlasState). rectangle_of atlas paged.allocation.id) o ≡ Some paged.allocation.rectangle
         → IsFrame longest_side (page_frame state.options)
     by_page None at none = absurd (cc)
     by_page (Some atlas) at some =
-        let page = Each-get (IsPage state.options) state.pages place.page atlas at keeps.pages in
+        let page = Each-get (IsPage state.options) state.pages paged.page atlas at keeps.pages in
         subst (IsFrame longest_side) page.frame page.promises.valid.frame
 
-pub tied-sides : (state : PagesState) (places : List PagedAllocation) → KeepsPagesPromises state → AreTiedOn places state
-    → AllByRecursion (λ (place : PagedAllocation). HasSides place.allocation) places
-tied-sides state places keeps tied =
-    Each-weaken (IsFoundOn state) (λ (place : PagedAllocation). HasSides place.allocation) places (found-sides state keeps) tied.found
+pub tied-sides : (state : PagesState) (listed : List PagedAllocation) → KeepsPagesPromises state → AreTiedOn listed state
+    → AllByRecursion (λ (paged : PagedAllocation). HasSides paged.allocation) listed
+tied-sides state listed keeps tied =
+    Each-weaken (IsFoundOn state) (λ (paged : PagedAllocation). HasSides paged.allocation) listed (found-sides state keeps) tied.found

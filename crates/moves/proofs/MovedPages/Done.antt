@@ -3,8 +3,8 @@ use Rattle.std.proofs.Common.{◌≡◌, List, [], ◌++◌, refl, ap, sym, ◌�
 use Rattle.std.specs.List.{AllByRecursion}
 use Rattle.std.specs.List.Sorted.{IsPermutation}
 use Rattle.atlas_pages.specs.declared.options.PageOptions.{PageOptions}
-use Rattle.atlas_pages.specs.declared.places.PagedAllocation.{PagedAllocation}
-use Rattle.atlas_pages.specs.Listing.{listed_places}
+use Rattle.atlas_pages.specs.declared.paged_allocation.PagedAllocation.{PagedAllocation}
+use Rattle.atlas_pages.specs.Listing.{listed_allocations}
 use Rattle.atlas_pages.specs.Pages.{PagesState, no_pages}
 use Rattle.atlas_pages.specs.Promises.{KeepsPagesPromises}
 use Rattle.moves.proofs.MovedPages.Arranged.{arranges-kept, arranges-once, arranges-options, arranges-room, arranges-tied}
@@ -30,7 +30,7 @@ none-tied options = record { found = tt; counted = λ page id. refl }
 -- they hold where what pages list, in order, has asked new ones
 pub arranged-done : (old start new : PagesState) (listed asked unplaced : List PagedAllocation) (moves : List PageMove)
     → KeepsPagesPromises old → start ≡ no_pages old.options → KeepsPagesPromises start
-    → listed ≡ listed_places old → IsPermutation listed asked → AreTallestFirst old.options.atlas.vertical_shelves asked
+    → listed ≡ listed_allocations old → IsPermutation listed asked → AreTallestFirst old.options.atlas.vertical_shelves asked
     → Arranges start asked moves unplaced new → IsDone old moves unplaced new
 arranged-done old start new listed asked unplaced moves old_kept made start_kept is permuted ordered arranged =
     let all = tied-permuted listed asked old (subst (λ (l : List PagedAllocation). AreTiedOn l old) (sym is) (tied-listed old old_kept)) permuted in

@@ -24,10 +24,10 @@ use Rattle.shelf_model.specs.Listing.{listed}
 use Rattle.shelf_model.specs.Places.{allocations, rectangle_of}
 use Rattle.shelf_model.specs.State.{AtlasState}
 use Rattle.atlas_pages.proofs.PageLists.{Each-map}
-use Rattle.atlas_pages.specs.declared.places.PagedAllocation.{PagedAllocation}
-use Rattle.atlas_pages.specs.Listing.{listed_places, on_page, places_from}
+use Rattle.atlas_pages.specs.declared.paged_allocation.PagedAllocation.{PagedAllocation}
+use Rattle.atlas_pages.specs.Allocated.{Places, is_allocated_on, rectangle_on}
+use Rattle.atlas_pages.specs.Listing.{allocations_from, listed_allocations, on_page}
 use Rattle.atlas_pages.specs.Pages.{PagesState, page_frame}
-use Rattle.atlas_pages.specs.Places.{Places, is_allocated_on, rectangle_on}
 use Rattle.atlas_pages.specs.Promises.{IsPage, KeepsPagesPromises}
 use Rattle.atlas_pages.proofs.PageRuns.StepsTold.{among-ready, told-step}
 use Rattle.atlas_pages.specs.declared.runs.commands.PageCommand.TheVariants.{Allocate}
@@ -65,7 +65,7 @@ shift number page = omega arith
 pub times_on-append : (page id : ℕ) (front back : List PagedAllocation)
     → times_on page id (front ++ back) ≡ times_on page id front + times_on page id back
 times_on-append page id front back =
-    total-append (λ (place : PagedAllocation). cond (are place.page place.allocation.id page id) 1 0) front back
+    total-append (λ (paged : PagedAllocation). cond (are paged.page paged.allocation.id page id) 1 0) front back
 
 -- an id that stands once at most among allocations stands there where it is found
 times-found : (id : ℕ) (all : List Allocation) → times id (ids_of all) ≤ 1
@@ -103,12 +103,12 @@ times-other_page number page id all other =
 
 -- what is listed from a number on is on no page before
 times-before : (pages : List AtlasState) (number page id : ℕ) → page < number
-    → times_on page id (places_from number pages) ≡ 0
+    → times_on page id (allocations_from number pages) ≡ 0
 times-before [] number page id before = refl
 times-before (x ∷ pages) number page id before =
     omega (
       arith,
-      times_on-append page id (on_page number (listed x)) (places_from (number + 1) pages),
+      times_on-append page id (on_page number (listed x)) (allocations_from (number + 1) pages),
       times-other_page number page id (listed x) (unequal-before number page before),
       times-before pages (number + 1) page id (omega arith),
     )
@@ -124,41 +124,41 @@ times-here x number id keeps =
 
 -- each page and id stand once where something is allocated, and nowhere else
 times-listed : (pages : List AtlasState) (number page id : ℕ) → AllByRecursion KeepsPromises pages
-    → times_on (number + page) id (places_from number pages) ≡ cond (is_some (among pages page id)) 1 0
+    → times_on (number + page) id (allocations_from number pages) ≡ cond (is_some (among pages page id)) 1 0
 times-listed [] number page id keeps = refl
 times-listed (x ∷ pages) number zero id keeps =
     omega (
       arith,
-      times_on-append (number + 0) id (on_page number (listed x)) (places_from (number + 1) pages),
+      times_on-append (number + 0) id (on_page number (listed x)) (allocations_from (number + 1) pages),
       times-here x number id keeps.0,
       times-before pages (number + 1) (number + 0) id (omega arith),
     )
 times-listed (x ∷ pages) number (suc page) id keeps =
-    let rest : times_on (number + suc page) id (places_from (number + 1) pages) ≡ cond (is_some (among pages page id)) 1 0 =
-    ap (λ p. times_on p id (places_from (number + 1) pages)) (sym (shift number page))
+    let rest : times_on (number + suc page) id (allocations_from (number + 1) pages) ≡ cond (is_some (among pages page id)) 1 0 =
+    ap (λ p. times_on p id (allocations_from (number + 1) pages)) (sym (shift number page))
     ∙ times-listed pages (number + 1) page id keeps.1 in
     omega (
       arith,
-      times_on-append (number + suc page) id (on_page number (listed x)) (places_from (number + 1) pages),
+      times_on-append (number + suc page) id (on_page number (listed x)) (allocations_from (number + 1) pages),
       times-other_page number (number + suc page) id (listed x) (unequal-behind number page),
       rest,
     )
 
 -- a place is found on pages that are counted from a number on
 abbrev IsThere : List AtlasState → ℕ → PagedAllocation → Type 0
-IsThere pages number place =
-    (page : ℕ) × (place.page ≡ number + page) × (among pages page place.allocation.id ≡ Some place.allocation.rectangle)
+IsThere pages number paged =
+    (page : ℕ) × (paged.page ≡ number + page) × (among pages page paged.allocation.id ≡ Some paged.allocation.rectangle)
 
 listed-there : (pages : List AtlasState) (number : ℕ) → AllByRecursion KeepsPromises pages
-    → AllByRecursion (IsThere pages number) (places_from number pages)
+    → AllByRecursion (IsThere pages number) (allocations_from number pages)
 listed-there [] number keeps = tt
 listed-there (x ∷ pages) number keeps =
-    Each-append (IsThere (x ∷ pages) number) (on_page number (listed x)) (places_from (number + 1) pages)
+    Each-append (IsThere (x ∷ pages) number) (on_page number (listed x)) (allocations_from (number + 1) pages)
     (Each-map (IsFound (allocations x)) (IsThere (x ∷ pages) number) (λ (a : Allocation). record { page = number; allocation = a }) (listed x)
     (λ a found. (0, sym (add-zero number), found-rectangle x a found))
     (listed-tied x keeps.0.valid).found)
-    (Each-weaken (IsThere pages (number + 1)) (IsThere (x ∷ pages) number) (places_from (number + 1) pages)
-    (λ place there. (suc there.0, there.1 ∙ shift there.0, there.2))
+    (Each-weaken (IsThere pages (number + 1)) (IsThere (x ∷ pages) number) (allocations_from (number + 1) pages)
+    (λ paged there. (suc there.0, there.1 ∙ shift there.0, there.2))
     (listed-there pages (number + 1) keeps.1))
   where
     shift : (page : ℕ) → number + 1 + page ≡ number + suc page
@@ -166,41 +166,41 @@ listed-there (x ∷ pages) number keeps =
 
 -- each listed place is found
 pub listed-found : (state : PagesState) → KeepsPagesPromises state
-    → AllByRecursion (λ (place : PagedAllocation). rectangle_on state place.page place.allocation.id ≡ Some place.allocation.rectangle) (listed_places state)
+    → AllByRecursion (λ (paged : PagedAllocation). rectangle_on state paged.page paged.allocation.id ≡ Some paged.allocation.rectangle) (listed_allocations state)
 listed-found state keeps =
-    Each-weaken (IsThere state.pages 0) (λ (place : PagedAllocation). rectangle_on state place.page place.allocation.id ≡ Some place.allocation.rectangle) (listed_places state)
-    (λ place there. ap (λ p. rectangle_on state p place.allocation.id) (there.1 ∙ zero-add there.0) ∙ there.2)
+    Each-weaken (IsThere state.pages 0) (λ (paged : PagedAllocation). rectangle_on state paged.page paged.allocation.id ≡ Some paged.allocation.rectangle) (listed_allocations state)
+    (λ paged there. ap (λ p. rectangle_on state p paged.allocation.id) (there.1 ∙ zero-add there.0) ∙ there.2)
     (listed-there state.pages 0
     (Each-weaken (IsPage state.options) KeepsPromises state.pages (λ atlas it. it.promises) keeps.pages))
 
 -- what is listed is all that is allocated
-pub tied-listed : (state : PagesState) → KeepsPagesPromises state → AreTiedOn (listed_places state) state
+pub tied-listed : (state : PagesState) → KeepsPagesPromises state → AreTiedOn (listed_allocations state) state
 tied-listed state keeps =
     let each = Each-weaken (IsPage state.options) KeepsPromises state.pages (λ atlas it. it.promises) keeps.pages in
     record {
       found = listed-found state keeps;
       counted = λ page id.
-          ap (λ p. times_on p id (listed_places state)) (sym (zero-add page)) ∙ times-listed state.pages 0 page id each;
+          ap (λ p. times_on p id (listed_allocations state)) (sym (zero-add page)) ∙ times-listed state.pages 0 page id each;
     }
 
 -- a count as a sum
-times-sum : (page id : ℕ) (places : List PagedAllocation)
-    → times_on page id places ≡ sum_by (λ (place : PagedAllocation). cond (are place.page place.allocation.id page id) 1 0) places
+times-sum : (page id : ℕ) (ones : List PagedAllocation)
+    → times_on page id ones ≡ sum_by (λ (paged : PagedAllocation). cond (are paged.page paged.allocation.id page id) 1 0) ones
 times-sum page id =
-    is_sum_by (λ (places : List PagedAllocation). times_on page id places)
-    (λ (place : PagedAllocation). cond (are place.page place.allocation.id page id) 1 0) refl (λ _ _. refl)
+    is_sum_by (λ (ones : List PagedAllocation). times_on page id ones)
+    (λ (paged : PagedAllocation). cond (are paged.page paged.allocation.id page id) 1 0) refl (λ _ _. refl)
 
 -- also in another order
-pub tied-permuted : (places other : List PagedAllocation) (state : PagesState) → AreTiedOn places state → IsPermutation places other
+pub tied-permuted : (ones other : List PagedAllocation) (state : PagesState) → AreTiedOn ones state → IsPermutation ones other
     → AreTiedOn other state
-tied-permuted places other state tied moved =
+tied-permuted ones other state tied moved =
     record {
       found = recursion_from_All (IsFoundOn state) other
-          (All-permutation (IsFoundOn state) places other moved (All-from_recursion (IsFoundOn state) places tied.found));
+          (All-permutation (IsFoundOn state) ones other moved (All-from_recursion (IsFoundOn state) ones tied.found));
       counted = λ page id.
           times-sum page id other
-          ∙ sum_by-IsPermutation (λ (place : PagedAllocation). cond (are place.page place.allocation.id page id) 1 0) places other moved
-          ∙ sym (times-sum page id places)
+          ∙ sum_by-IsPermutation (λ (paged : PagedAllocation). cond (are paged.page paged.allocation.id page id) 1 0) ones other moved
+          ∙ sym (times-sum page id ones)
           ∙ tied.counted page id;
     }
 
@@ -221,9 +221,9 @@ module _ (old new : PagesState) (size : Size) (after : PagedAllocation) (was : K
       ∙ ap (λ (o : Option AtlasState). is_some (option_and_then (λ (atlas : AtlasState). rectangle_of atlas after.allocation.id) o)) there.is_open
       ∙ there.allocates.fresh_id
 
-  -- the same page and id are one place
-  same-place : (page id : ℕ) → are after.page after.allocation.id page id ≡ true → is_allocated_on old page id ≡ false
-  same-place page id same = by_tests (after.page == page) refl (after.allocation.id == id) refl same
+  -- the same page and id are one allocation
+  same-allocation : (page id : ℕ) → are after.page after.allocation.id page id ≡ true → is_allocated_on old page id ≡ false
+  same-allocation page id same = by_tests (after.page == page) refl (after.allocation.id == id) refl same
     where
       by_tests : (a : Bool) → (after.page == page) ≡ a → (b : Bool) → (after.allocation.id == id) ≡ b → (a && b) ≡ true
           → is_allocated_on old page id ≡ false
@@ -235,17 +235,17 @@ module _ (old new : PagesState) (size : Size) (after : PagedAllocation) (was : K
       by_tests false here b it same = absurd (cc)
 
   -- what was found before is found still
-  found-still : (place : PagedAllocation) → IsFoundOn old place → IsFoundOn new place
-  found-still place found = by_test (are after.page after.allocation.id place.page place.allocation.id) refl
+  found-still : (paged : PagedAllocation) → IsFoundOn old paged → IsFoundOn new paged
+  found-still paged found = by_test (are after.page after.allocation.id paged.page paged.allocation.id) refl
     where
-      by_test : (b : Bool) → are after.page after.allocation.id place.page place.allocation.id ≡ b → IsFoundOn new place
+      by_test : (b : Bool) → are after.page after.allocation.id paged.page paged.allocation.id ≡ b → IsFoundOn new paged
       by_test true same =
-          let some : is_allocated_on old place.page place.allocation.id ≡ true = ap is_some found in
-          let none = same-place place.page place.allocation.id same in
+          let some : is_allocated_on old paged.page paged.allocation.id ≡ true = ap is_some found in
+          let none = same-allocation paged.page paged.allocation.id same in
           absurd (cc)
       by_test false other =
-          sym (seen place.page place.allocation.id)
-          ∙ ap (λ (b : Bool). cond b (Some after.allocation.rectangle) (rectangle_on old place.page place.allocation.id)) other
+          sym (seen paged.page paged.allocation.id)
+          ∙ ap (λ (b : Bool). cond b (Some after.allocation.rectangle) (rectangle_on old paged.page paged.allocation.id)) other
           ∙ found
 
   found-new : IsFoundOn new after
@@ -273,5 +273,5 @@ module _ (old new : PagesState) (size : Size) (after : PagedAllocation) (was : K
       by_test : (page id : ℕ) (b : Bool) → are after.page after.allocation.id page id ≡ b
           → cond (is_allocated_on old page id) 1 0 + (cond b 1 0 + 0)
           ≡ cond (is_some (cond b (Some after.allocation.rectangle) (rectangle_on old page id))) 1 0
-      by_test page id true same = ap (λ (b : Bool). cond b 1 0 + (1 + 0)) (same-place page id same)
+      by_test page id true same = ap (λ (b : Bool). cond b 1 0 + (1 + 0)) (same-allocation page id same)
       by_test page id false other = add-zero (cond (is_allocated_on old page id) 1 0)

@@ -11,7 +11,7 @@ use denote.Param.Members.{Mut}
 use Rattle.std.proofs.lemmas.Bool.Decides.{nat_tests}
 use Rattle.moves.specs.Atlases.Order.{height_across}
 use Rattle.moves.proofs.MovedAtlases.Sorting.{sorted-neighbours}
-use Rattle.atlas_pages.specs.declared.places.PagedAllocation.{PagedAllocation}
+use Rattle.atlas_pages.specs.declared.paged_allocation.PagedAllocation.{PagedAllocation}
 use Rattle.moves.specs.Pages.Order.{AreTallestFirst, is_out_of_turn}
 
 -- the order of the keys of a sort is that of heights, pages and ids
@@ -22,8 +22,8 @@ turn-lt h k p q i j = grind (arith, nat_tests)
 
 -- the key by which places are sorted
 abbrev key_of : Bool → PagedAllocation → Reverse ℕ × ℕ × ℕ
-key_of vertical place =
-    (record { 0 = height_across vertical place.allocation.rectangle }, place.page, place.allocation.id)
+key_of vertical paged =
+    (record { 0 = height_across vertical paged.allocation.rectangle }, paged.page, paged.allocation.id)
 
 -- the order of these keys
 abbrev key_cmp : Reverse ℕ × ℕ × ℕ → Reverse ℕ × ℕ × ℕ → Ordering

@@ -3,10 +3,10 @@ use Rattle.std.specs.Prelude.{List, [], ◌∷◌, ◌++◌, map}
 use Rattle.etagere_base.specs.Rectangles.{IsLarge}
 use Rattle.moves.specs.Atlases.Arranging.{IsAsLarge}
 use Rattle.moves.specs.Atlases.Order.{size_of}
-use Rattle.atlas_pages.specs.declared.places.PagedAllocation.{PagedAllocation}
+use Rattle.atlas_pages.specs.declared.paged_allocation.PagedAllocation.{PagedAllocation}
+use Rattle.atlas_pages.specs.Allocated.{Places}
 use Rattle.atlas_pages.specs.Choosing.{IsRefusedByAll}
 use Rattle.atlas_pages.specs.Pages.{PagesState, no_pages, page_frame}
-use Rattle.atlas_pages.specs.Places.{Places}
 use Rattle.atlas_pages.specs.Promises.{KeepsPagesPromises}
 use Rattle.moves.specs.Pages.Order.{AreTallestFirst}
 use Rattle.moves.specs.Pages.Tied.{AreTiedOn}

@@ -3,7 +3,7 @@
 use Rattle.std.specs.Prelude.{Bool, ◌&&◌, ◌||◌, ◌==◌, nat_lt, List}
 use Rattle.etagere_base.specs.Lists.{NoNeighbours}
 use Rattle.moves.specs.Atlases.Order.{height_across}
-use Rattle.atlas_pages.specs.declared.places.PagedAllocation.{PagedAllocation}
+use Rattle.atlas_pages.specs.declared.paged_allocation.PagedAllocation.{PagedAllocation}
 
 -- a place comes after another one: it is on a later page, or on the same one under a higher id
 abbrev pub comes_after : PagedAllocation → PagedAllocation → Bool
@@ -19,4 +19,4 @@ is_out_of_turn vertical one next =
 
 -- the tallest stand first, and of equally tall ones in the order of pages and ids
 abbrev pub AreTallestFirst : Bool → List PagedAllocation → Type 0
-AreTallestFirst vertical places = NoNeighbours (is_out_of_turn vertical) places
+AreTallestFirst vertical allocations = NoNeighbours (is_out_of_turn vertical) allocations

@@ -7,7 +7,7 @@ ghost use Rattle.std.specs.List.{AllByRecursion};
 ghost use Rattle.std.specs.List.Sorted.{IsPermutation};
 ghost use Rattle.moves.specs.Atlases.Private.Sides.{HasSides};
 ghost use Rattle.atlas_pages.specs.Promises.{KeepsPagesPromises};
-ghost use Rattle.atlas_pages.specs.declared.places.PagedAllocation as places;
+ghost use Rattle.atlas_pages.specs.declared.paged_allocation.PagedAllocation as model;
 ghost use Rattle.moves.specs.Pages.Arranging.{Arranges, HasRoom, IsRearranged, moved_from, moved_to};
 ghost use Rattle.moves.specs.Pages.Order.{AreTallestFirst};
 ghost use Rattle.moves.specs.Pages.Tied.{AreTiedOn};
@@ -72,7 +72,7 @@ fn place_each(
     pages: AtlasPages,
     asked: &[PagedAllocation],
 ) -> Result<RearrangedPages, AllocError>
-    requires { AllByRecursion (λ (place : places.PagedAllocation). HasSides place.allocation) asked.now }
+    requires { AllByRecursion (λ (paged : model.PagedAllocation). HasSides paged.allocation) asked.now }
     ensures { IfOk result
         (λ done. Arranges pages asked.now done.moves.items done.unplaced.items done.pages) }
 {

@@ -12,15 +12,15 @@ use std::cmp::Reverse;
 /// Sorts what is allocated on pages: the tallest first, and of equally tall ones in the order of pages and ids.
 ///
 /// Takes no memory. Makes as many comparisons as a sort.
-pub fn sort_tallest_first(places: &mut Vec<PagedAllocation>, vertical: bool)
-    ensures same { IsPermutation places.old.items places.new.items }
-    ensures ordered { AreTallestFirst vertical places.new.items }
+pub fn sort_tallest_first(allocations: &mut Vec<PagedAllocation>, vertical: bool)
+    ensures same { IsPermutation allocations.old.items allocations.new.items }
+    ensures ordered { AreTallestFirst vertical allocations.new.items }
 {
-    places.sort_unstable_by_key(|place| {
+    allocations.sort_unstable_by_key(|paged| {
         (
-            Reverse(height_across(vertical, place.allocation.rectangle)),
-            place.page,
-            place.allocation.id.serialize(),
+            Reverse(height_across(vertical, paged.allocation.rectangle)),
+            paged.page,
+            paged.allocation.id.serialize(),
         )
     });
 }

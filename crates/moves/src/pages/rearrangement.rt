@@ -5,7 +5,7 @@
 ghost use Rattle.std.specs.Prelude.{[], ◌∷◌, ◌++◌, List, OnOk};
 ghost use Rattle.moves.specs.Atlases.Private.Sides.{HasSides};
 ghost use Rattle.atlas_pages.specs.Pages as state;
-ghost use Rattle.atlas_pages.specs.declared.places.PagedAllocation as places;
+ghost use Rattle.atlas_pages.specs.declared.paged_allocation.PagedAllocation as model;
 ghost use Rattle.moves.specs.Pages.Arranging.{Arranges};
 
 use atlas_pages::{AtlasPages, PagedAllocation};
@@ -34,7 +34,7 @@ pub struct RearrangedPages {
 /// Asks the new pages for a place as large as a rectangle of the old ones, and keeps the answer.
 pub fn place_next(done: &mut RearrangedPages, before: PagedAllocation) -> Result<(), AllocError>
     requires { HasSides before.allocation }
-    ensures { OnOk result ((start : state.PagesState) (asked : List places.PagedAllocation)
+    ensures { OnOk result ((start : state.PagesState) (asked : List model.PagedAllocation)
         → Arranges start asked done.old.moves.items done.old.unplaced.items done.old.pages
         → Arranges start (asked ++ before ∷ []) done.new.moves.items done.new.unplaced.items done.new.pages) }
 {

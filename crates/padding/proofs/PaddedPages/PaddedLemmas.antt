@@ -19,12 +19,12 @@ use Rattle.shelf_model.specs.Choice.{IsRefused, placement_of}
 use Rattle.shelf_model.specs.Listing.{allocations_at, listed}
 use Rattle.shelf_model.specs.Places.{allocations, record_number}
 use Rattle.shelf_model.specs.State.{AtlasState}
-use Rattle.atlas_pages.specs.declared.places.PagedAllocation.{PagedAllocation}
+use Rattle.atlas_pages.specs.declared.paged_allocation.PagedAllocation.{PagedAllocation}
 use Rattle.atlas_pages.specs.Choosing.{IsRefusedByAll}
-use Rattle.atlas_pages.specs.Listing.{listed_places, on_page, places_from}
-use Rattle.padding.specs.Pages.Padded.{IsPaddedPage, KeepsPadding, PlacesPadded, trimmed_place}
+use Rattle.atlas_pages.specs.Listing.{allocations_from, listed_allocations, on_page}
+use Rattle.padding.specs.Pages.Padded.{IsPaddedPage, KeepsPadding, PlacesPadded, trimmed_paged}
+use Rattle.atlas_pages.specs.Allocated.{Places, rectangle_on}
 use Rattle.atlas_pages.specs.Pages.{PagesState, empty_page, page_frame}
-use Rattle.atlas_pages.specs.Places.{Places, rectangle_on}
 use Rattle.atlas_pages.specs.Promises.{IsPage, KeepsPagesPromises}
 use Rattle.atlas_pages.proofs.Accepted.{atlas-accepted}
 use Rattle.atlas_pages.proofs.KeptBefore.{allocated-inside, placed-inside}
@@ -47,10 +47,10 @@ page-near state rectangle keeps inside =
     near-inside (page_frame state.options) rectangle frame.width.1 frame.height.1 inside
 
 -- so what is given is near, and what is found
-pub given-near : (old new : PagesState) (size : Size) (place : PagedAllocation) → KeepsPagesPromises old → KeepsPagesPromises new
-    → Places old size place new → IsNear place.allocation.rectangle
-given-near old new size place was is places =
-    page-near new place.allocation.rectangle is (placed-inside old new size place was is places)
+pub given-near : (old new : PagesState) (size : Size) (paged : PagedAllocation) → KeepsPagesPromises old → KeepsPagesPromises new
+    → Places old size paged new → IsNear paged.allocation.rectangle
+given-near old new size paged was is places =
+    page-near new paged.allocation.rectangle is (placed-inside old new size paged was is places)
 
 pub found-near : (state : PagesState) (page id : ℕ) (rectangle : Rectangle) → KeepsPagesPromises state
     → Some rectangle ≡ rectangle_on state page id → IsNear rectangle
@@ -69,11 +69,11 @@ each-listed P page each = by_numbers (range_with_len 0 page.peak_items)
 
 -- so is everything that is listed
 pub listed-near : (state : PagesState) → KeepsPagesPromises state
-    → AllByRecursion (λ (place : PagedAllocation). IsNear place.allocation.rectangle) (listed_places state)
+    → AllByRecursion (λ (paged : PagedAllocation). IsNear paged.allocation.rectangle) (listed_allocations state)
 listed-near state keeps = from 0 state.pages keeps.pages
   where
     numbered : (number : ℕ) (given : List Allocation) → AllByRecursion (λ (a : Allocation). IsNear a.rectangle) given
-        → AllByRecursion (λ (place : PagedAllocation). IsNear place.allocation.rectangle) (on_page number given)
+        → AllByRecursion (λ (paged : PagedAllocation). IsNear paged.allocation.rectangle) (on_page number given)
     numbered number [] near = tt
     numbered number (a ∷ given) near = (near.0, numbered number given near.1)
 
@@ -85,19 +85,19 @@ listed-near state keeps = from 0 state.pages keeps.pages
         is.promises.inside)
 
     from : (number : ℕ) (pages : List AtlasState) → AllByRecursion (IsPage state.options) pages
-        → AllByRecursion (λ (place : PagedAllocation). IsNear place.allocation.rectangle) (places_from number pages)
+        → AllByRecursion (λ (paged : PagedAllocation). IsNear paged.allocation.rectangle) (allocations_from number pages)
     from number [] is = tt
     from number (page ∷ pages) is =
-        Each-append (λ (place : PagedAllocation). IsNear place.allocation.rectangle) (on_page number (listed page)) (places_from (number + 1) pages)
+        Each-append (λ (paged : PagedAllocation). IsNear paged.allocation.rectangle) (on_page number (listed page)) (allocations_from (number + 1) pages)
         (numbered number (listed page) (near_on page is.0)) (from (number + 1) pages is.1)
 
 -- with its padding a place that was trimmed is what the pages gave
-pub places-padded : (old new : PagesState) (padding : Padding) (size : Size) (place : PagedAllocation)
-    → Places old (padded padding size) place new
-    → PlacesPadded (record { padding = padding; pages = old }) size (trimmed_place padding place) (record { padding = padding; pages = new })
-places-padded old new padding size place places =
+pub places-padded : (old new : PagesState) (padding : Padding) (size : Size) (paged : PagedAllocation)
+    → Places old (padded padding size) paged new
+    → PlacesPadded (record { padding = padding; pages = old }) size (trimmed_paged padding paged) (record { padding = padding; pages = new })
+places-padded old new padding size paged places =
     record {
-      places = rw (taken-back padding place.allocation.rectangle) places;
+      places = rw (taken-back padding paged.allocation.rectangle) places;
       padding = refl;
     }
 

@@ -6,9 +6,9 @@ use Rattle.std.specs.Prelude.{option_map}
 use Rattle.etagere_base.specs.declared.geometry.Rectangle.{Rectangle}
 use Rattle.padding.specs.declared.sides.Padding.{Padding}
 use Rattle.padding.specs.Padding.{padded, trimmed, with_padding}
-use Rattle.atlas_pages.specs.declared.places.PagedAllocation.{PagedAllocation}
-use Rattle.padding.specs.Pages.Padded.{KeepsPadding, PaddedState, padded_place, trimmed_on}
-use Rattle.atlas_pages.specs.Places.{rectangle_on}
+use Rattle.atlas_pages.specs.declared.paged_allocation.PagedAllocation.{PagedAllocation}
+use Rattle.padding.specs.Pages.Padded.{KeepsPadding, PaddedState, padded_paged, trimmed_on}
+use Rattle.atlas_pages.specs.Allocated.{rectangle_on}
 use Rattle.atlas_pages.specs.Promises.{KeepsPagesPromises}
 use Rattle.padding.proofs.PaddedPages.PaddedLemmas.{keeps-padding}
 use Rattle.atlas_pages.specs.declared.runs.commands.PageCommand.{PageCommand}
@@ -16,7 +16,7 @@ use Rattle.atlas_pages.specs.declared.runs.commands.PageCommand.TheVariants.{All
 use Rattle.atlas_pages.specs.declared.runs.commands.PageReply.{PageReply}
 use Rattle.atlas_pages.specs.declared.runs.commands.PageReply.TheVariants.{Placed, Refused, NoMemory, Returned, Unknown, Cleared, Grown, Fewer, Closed}
 use Rattle.padding.specs.Pages.Runs.{EveryRunKeepsPadding, MayAnswer, PaddedRuns, Step}
-use Rattle.atlas_pages.specs.Runs.Told.{Told, are, but_for, told_after, told_from, with_place}
+use Rattle.atlas_pages.specs.Runs.Told.{Told, are, but_for, told_after, told_from, with_paged}
 use Rattle.atlas_pages.proofs.PageRuns.StepsTold.{told-placed, told-step}
 
 -- what was given trimmed is trimmed of what has the padding
@@ -34,12 +34,12 @@ given-back padding rectangle =
 abbrev trimmed_told : Padding → Told → Told
 trimmed_told padding told page id = option_map (trimmed padding) (told page id)
 
-trimmed-place : (padding : Padding) (place : PagedAllocation) (told : Told) (page id : ℕ)
-    → trimmed_told padding (with_place (padded_place padding place) told) page id ≡ with_place place (trimmed_told padding told) page id
-trimmed-place padding place told page id = by_test (are place.page place.allocation.id page id)
+trimmed-paged : (padding : Padding) (paged : PagedAllocation) (told : Told) (page id : ℕ)
+    → trimmed_told padding (with_paged (padded_paged padding paged) told) page id ≡ with_paged paged (trimmed_told padding told) page id
+trimmed-paged padding paged told page id = by_test (are paged.page paged.allocation.id page id)
   where
     given : Rectangle
-    given = place.allocation.rectangle
+    given = paged.allocation.rectangle
 
     by_test : (b : Bool) → option_map (trimmed padding) (cond b (Some (with_padding padding given)) (told page id))
         ≡ cond b (Some given) (option_map (trimmed padding) (told page id))
@@ -56,7 +56,7 @@ trimmed-but padding gone_page gone_id told page id = by_test (are gone_page gone
 
 -- a step leaves the padding as it was
 padding-step : (old : PaddedState) (command : PageCommand) (reply : PageReply) (new : PaddedState) → MayAnswer old command reply new → new.padding ≡ old.padding
-padding-step old (Allocate size) (Placed place) new (places, large) = places.padding
+padding-step old (Allocate size) (Placed paged) new (places, large) = places.padding
 padding-step old (Allocate size) Refused new (refused, same) = ap (λ (s : PaddedState). s.padding) same
 padding-step old (Allocate size) NoMemory new (needs, same) = ap (λ (s : PaddedState). s.padding) same
 padding-step old (Deallocate page id) reply new (step, same) = same
@@ -69,10 +69,10 @@ padding-step old command reply new (step, same) = same
 seen-step : (old : PaddedState) (command : PageCommand) (reply : PageReply) (new : PaddedState) → KeepsPagesPromises old.pages
     → KeepsPagesPromises new.pages → MayAnswer old command reply new → (page id : ℕ)
     → told_after command reply (trimmed_on old) page id ≡ trimmed_told old.padding (rectangle_on new.pages) page id
-seen-step old (Allocate size) (Placed place) new was is (places, large) page id =
-    sym (trimmed-place old.padding place (rectangle_on old.pages) page id)
+seen-step old (Allocate size) (Placed paged) new was is (places, large) page id =
+    sym (trimmed-paged old.padding paged (rectangle_on old.pages) page id)
     ∙ ap (option_map (trimmed old.padding))
-    (told-placed old.pages (padded old.padding size) (padded_place old.padding place) new.pages (rectangle_on old.pages) was is places.places (λ p i. refl) page id)
+    (told-placed old.pages (padded old.padding size) (padded_paged old.padding paged) new.pages (rectangle_on old.pages) was is places.places (λ p i. refl) page id)
 seen-step old (Allocate size) Refused new was is (refused, same) page id =
     ap (λ (s : PaddedState). trimmed_told old.padding (rectangle_on s.pages) page id) (sym same)
 seen-step old (Allocate size) NoMemory new was is (needs, same) page id =
@@ -97,7 +97,7 @@ seen-step old command reply new was is (never, same) page id = absurd never
 -- what is told of the same is the same
 told-same : (command : PageCommand) (reply : PageReply) (told other : Told) → ((page id : ℕ) → told page id ≡ other page id) → (page id : ℕ)
     → told_after command reply told page id ≡ told_after command reply other page id
-told-same command (Placed place) told other same page id = ap (cond (are place.page place.allocation.id page id) (Some place.allocation.rectangle)) (same page id)
+told-same command (Placed paged) told other same page id = ap (cond (are paged.page paged.allocation.id page id) (Some paged.allocation.rectangle)) (same page id)
 told-same (Deallocate on gone) Returned told other same page id = ap (cond (are on gone page id) None) (same page id)
 told-same command Cleared told other same page id = refl
 told-same command reply told other same page id = same page id

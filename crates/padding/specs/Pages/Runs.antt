@@ -3,7 +3,7 @@ use Rattle.std.specs.Prelude.{◌≡◌, ℕ, ◌≤◌, List, [], ◌∷◌, le
 use Rattle.padding.specs.Padding.{HasSize, padded}
 use Rattle.atlas_pages.specs.Choosing.{IsRefusedByAll}
 use Rattle.padding.specs.Pages.Padded.{KeepsPadding, PaddedState, PlacesPadded, trimmed_on}
-use Rattle.atlas_pages.specs.Places.{NeedsMemory}
+use Rattle.atlas_pages.specs.Allocated.{NeedsMemory}
 use Rattle.atlas_pages.specs.Promises.{KeepsPagesPromises}
 use Rattle.atlas_pages.specs.declared.runs.commands.PageCommand.{PageCommand}
 use Rattle.atlas_pages.specs.declared.runs.commands.PageCommand.TheVariants.{Allocate}
@@ -15,8 +15,8 @@ use Rattle.atlas_pages.specs.Runs.Told.{told_from}
 -- Pages may give this reply to a command and become the new ones. A size gets a place for itself with its padding, in a
 -- rectangle of at least the size, and none exactly where no page has one and none may be opened for it.
 abbrev pub MayAnswer : PaddedState → PageCommand → PageReply → PaddedState → Type 0
-MayAnswer old (Allocate size) (Placed place) new =
-    PlacesPadded old size place new × HasSize size place.allocation.rectangle
+MayAnswer old (Allocate size) (Placed paged) new =
+    PlacesPadded old size paged new × HasSize size paged.allocation.rectangle
 MayAnswer old (Allocate size) Refused new = IsRefusedByAll old.pages (padded old.padding size) × (new ≡ old)
 MayAnswer old (Allocate size) NoMemory new = NeedsMemory old.pages (padded old.padding size) × (new ≡ old)
 -- any other command does what it does on pages

@@ -6,7 +6,7 @@ ghost use Rattle.std.specs.Prelude.{◌≡◌, map};
 ghost use Rattle.std.specs.Iterator.{YieldsFirst, item_count};
 ghost use Rattle.std.specs.List.{AllByRecursion};
 ghost use Rattle.padding.specs.Padding.{IsNear};
-ghost use Rattle.atlas_pages.specs.declared.places.PagedAllocation as model;
+ghost use Rattle.atlas_pages.specs.declared.paged_allocation.PagedAllocation as model;
 ghost use Rattle.padding.specs.Pages.Padded as spec;
 
 use crate::Padding;
@@ -21,13 +21,13 @@ use std::marker::Model;
 /// All steps together take time linear in the numbers of pages and of their records.
 #[derive(Drop)]
 pub struct PaddedIter<'a> {
-    places: Iter<'a>,
+    allocations: Iter<'a>,
     padding: Padding,
 }
 
 impl<'a> Model for PaddedIter<'a> {
     ghost use Rattle.std.specs.Prelude.{List};
-    ghost use Rattle.atlas_pages.specs.declared.places.PagedAllocation.{PagedAllocation};
+    ghost use Rattle.atlas_pages.specs.declared.paged_allocation.PagedAllocation.{PagedAllocation};
 
     ghost Value = { List PagedAllocation };
 
@@ -40,11 +40,14 @@ impl<'a> Model for PaddedIter<'a> {
 
 impl<'a> PaddedIter<'a> {
     /// These places, of which each rectangle has the padding.
-    pub(crate) fn new(places: Iter<'a>, padding: Padding) -> PaddedIter<'a>
-        requires { AllByRecursion (λ (place : model.PagedAllocation). IsNear place.allocation.rectangle) places }
-        ensures { result ≡ map (spec.trimmed_place padding) places.entry }
+    pub(crate) fn new(allocations: Iter<'a>, padding: Padding) -> PaddedIter<'a>
+        requires { AllByRecursion (λ (paged : model.PagedAllocation). IsNear paged.allocation.rectangle) allocations }
+        ensures { result ≡ map (spec.trimmed_paged padding) allocations.entry }
     {
-        PaddedIter { places, padding }
+        PaddedIter {
+            allocations,
+            padding,
+        }
     }
 }
 
@@ -56,21 +59,21 @@ impl<'a> Iterator for PaddedIter<'a> {
     ghost remaining = { item_count (λ rest. rest) };
 
     fn next(&mut self) -> Option<PagedAllocation> {
-        let place = self.places.next()?;
-        Some(trimmed_place(self.padding, &place))
+        let paged = self.allocations.next()?;
+        Some(trimmed_paged(self.padding, &paged))
     }
 }
 
 impl<'a> FusedIterator for PaddedIter<'a> {}
 
 /// A place without the padding of its rectangle, which is near the origin.
-pub(crate) fn trimmed_place(padding: Padding, place: &PagedAllocation) -> PagedAllocation
-    requires { IsNear place.now.allocation.rectangle }
-    ensures { result ≡ spec.trimmed_place padding place.now }
+pub(crate) fn trimmed_paged(padding: Padding, paged: &PagedAllocation) -> PagedAllocation
+    requires { IsNear paged.now.allocation.rectangle }
+    ensures { result ≡ spec.trimmed_paged padding paged.now }
 {
-    let Allocation { id, rectangle } = place.allocation;
+    let Allocation { id, rectangle } = paged.allocation;
     PagedAllocation {
-        page: place.page,
+        page: paged.page,
         allocation: Allocation {
             id,
             rectangle: padding.trimmed(rectangle),

@@ -5,13 +5,13 @@
 ghost use Rattle.std.specs.Prelude.{◌≡◌, ◌↔◌, ◌+◌, ◌<◌, false, Err, IfOk, IfErr, IfSome, IfNone, OnOk, OnErr, IsErr, MatchOption, length};
 ghost use Rattle.padding.specs.Padding.{HasSize, padded};
 ghost use Rattle.atlas_pages.specs.Choosing.{IsRefusedByAll};
-ghost use Rattle.padding.specs.Pages.Padded.{KeepsPadding, PlacesPadded, trimmed_on, trimmed_places};
+ghost use Rattle.padding.specs.Pages.Padded.{KeepsPadding, PlacesPadded, trimmed_allocations, trimmed_on};
+ghost use Rattle.atlas_pages.specs.Allocated.{NeedsMemory, cleared, is_allocated_on, returned_on, shrunk, with_most};
 ghost use Rattle.atlas_pages.specs.Pages as model;
 ghost use Rattle.atlas_pages.specs.Pages.{ArePageOptions, no_pages};
-ghost use Rattle.atlas_pages.specs.Places.{NeedsMemory, cleared, is_allocated_on, returned_on, shrunk, with_most};
 
 use crate::Padding;
-use crate::pages::listing::{PaddedIter, trimmed_place};
+use crate::pages::listing::{PaddedIter, trimmed_paged};
 use atlas_pages::{AtlasPages, FewerPages, PageOptions, PagedAllocation, PagesFault};
 use etagere_shelves::{AllocId, Rectangle, Size, UnknownId};
 use std::alloc::{AllocError, Global};
@@ -87,9 +87,9 @@ impl PaddedPages {
     /// and costs are those of `AtlasPages::allocate`.
     pub fn allocate(&mut self, size: Size) -> Result<Option<PagedAllocation>, AllocError>
         ensures placed { IfOk result
-            (λ answer. IfSome answer (λ place. PlacesPadded self.old size place self.new)) }
+            (λ answer. IfSome answer (λ paged. PlacesPadded self.old size paged self.new)) }
         ensures large { IfOk result
-            (λ answer. IfSome answer (λ place. HasSize size place.allocation.rectangle)) }
+            (λ answer. IfSome answer (λ paged. HasSize size paged.allocation.rectangle)) }
         ensures refused { IfOk result
             (λ answer. IfNone answer (IsRefusedByAll self.old.pages (padded self.old.padding size))) }
         ensures none { IfOk result (λ answer. IfNone answer (self.new ≡ self.old)) }
@@ -100,10 +100,10 @@ impl PaddedPages {
         let Ok(asked) = self.padding.padded(size) else {
             return Ok(None);
         };
-        let Some(place) = self.pages.allocate(asked)? else {
+        let Some(paged) = self.pages.allocate(asked)? else {
             return Ok(None);
         };
-        Ok(Some(trimmed_place(self.padding, &place)))
+        Ok(Some(trimmed_paged(self.padding, &paged)))
     }
 
     /// Takes back the rectangle that is allocated on a page under an id, with its padding.
@@ -136,7 +136,7 @@ impl PaddedPages {
     ///
     /// Takes no memory. All steps together take time linear in the numbers of pages and of their records.
     pub fn iter(&self) -> PaddedIter<'_>
-        ensures listed { result ≡ trimmed_places self.now }
+        ensures listed { result ≡ trimmed_allocations self.now }
         ensures promises { KeepsPadding self.now }
     {
         PaddedIter::new(self.pages.iter(), self.padding)
@@ -198,7 +198,7 @@ impl<'a> IntoIterator for &'a PaddedPages {
 
     type IntoIter = PaddedIter<'a>;
 
-    ghost into_iter_gives = { λ pages iter. iter ≡ trimmed_places pages.now };
+    ghost into_iter_gives = { λ pages iter. iter ≡ trimmed_allocations pages.now };
 
     fn into_iter(self) -> PaddedIter<'a> {
         self.iter()

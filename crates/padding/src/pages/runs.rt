@@ -33,7 +33,7 @@ fn allocate(pages: &mut PaddedPages, size: Size) -> PageReply
     ensures { Step pages.old (PageCommand.Allocate size) result pages.new }
 {
     match pages.allocate(size) {
-        Ok(Some(place)) => PageReply::Placed(place),
+        Ok(Some(paged)) => PageReply::Placed(paged),
         Ok(None) => PageReply::Refused,
         Err(_) => PageReply::NoMemory,
     }

@@ -1,4 +1,4 @@
--- An atlas gives places to sizes by the laws of what does.
+-- An atlas allocates sizes by the laws of what does.
 use Rattle.std.proofs.Common.{◌≡◌, true, List, [], ◌∷◌, ◌++◌, refl, ap, ◌∙◌}
 use Rattle.std.specs.Prelude.{is_some}
 use Rattle.etagere_base.specs.declared.geometry.Size.{Size}

@@ -1,4 +1,4 @@
--- Pages give places to sizes by the laws of what does: what they hold, and that an empty page is there again once nothing
+-- Pages allocate sizes by the laws of what does: what they hold, and that an empty page is there again once nothing
 -- is held.
 use Rattle.std.proofs.Common.{◌≡◌, ◌⊎◌, ℕ, zero, suc, ◌<◌, Bool, true, false, cond, ◌==◌, Option, Some, List, [], ◌∷◌, ◌++◌, inl, inr, refl, ap, sym, ◌∙◌, subst, ⊎_elim, arith}
 use Rattle.std.proofs.lemmas.Bool.Decides.{nat_tests}
@@ -22,17 +22,17 @@ use Rattle.shelf_model.specs.State.{AtlasState}
 use Rattle.shelf_model.proofs.Callers.{allocates-adds, found-rectangle, fresh-allocated, not_allocated-any, returned-allocated, tied-added, tied-empty, tied-none, tied-returned}
 use Rattle.atlas_pages.specs.declared.faults.PagesFault.TheVariants.{NoPages}
 use Rattle.atlas_pages.specs.declared.options.PageOptions.{PageOptions}
-use Rattle.atlas_pages.specs.declared.places.PagedAllocation.{PagedAllocation}
+use Rattle.atlas_pages.specs.declared.paged_allocation.PagedAllocation.{PagedAllocation}
+use Rattle.atlas_pages.specs.Allocated.{at_page, cleared}
 use Rattle.atlas_pages.specs.Choosing.{chosen_of, chosen_page, has_place, may_open, opened, ready_for}
 use Rattle.atlas_pages.specs.Pages.{ArePageOptions, PagesState, empty_page, or_no_pages, page_frame}
-use Rattle.atlas_pages.specs.Places.{at_page, cleared}
 use Rattle.atlas_pages.specs.Promises.{IsPage, KeepsPagesPromises}
 use Rattle.atlas_pages.proofs.Chosen.{refused-chosen}
 use Rattle.atlas_pages.proofs.Keeping.{keeps-returned}
 use Rattle.atlas_pages.proofs.KeptBefore.{get-set, kept-before, ready-or_opened}
 use Rattle.atlas_pages.proofs.PageLists.{length-at_page}
 use Rattle.atlas_pages.proofs.Ready.{page_for-chosen, page_for-opened}
-use Rattle.paged_cache.specs.Held.{AreAllPlaces, GivesPlace, fits_page, has_page, is_place_held, kept_on, place_returned}
+use Rattle.paged_cache.specs.Held.{AreAllPaged, GivesPaged, fits_page, has_page, is_paged_held, kept_on, paged_returned}
 
 -- what stands in a list, by its number
 get-within : {X : Type 0} (xs : List X) (n : ℕ) → n < length xs → (x : X) × (slice_get xs n ≡ Some x)
@@ -94,43 +94,43 @@ mapped-some f (Some x) y h = (x, refl, cc)
 same_number : (m n : ℕ) → (m == n) ≡ true → m ≡ n
 same_number m n is = grind (arith, nat_tests)
 
--- what is kept on a page, of a place and others
-kept-here : (n : ℕ) (place : PagedAllocation) (places : List PagedAllocation) → (place.page == n) ≡ true → kept_on n (place ∷ places) ≡ place.allocation ∷ kept_on n places
-kept-here n place places is = ap (λ b. cond b (place.allocation ∷ kept_on n places) (kept_on n places)) is
+-- what is kept on a page, of an allocation and others
+kept-here : (n : ℕ) (paged : PagedAllocation) (kept : List PagedAllocation) → (paged.page == n) ≡ true → kept_on n (paged ∷ kept) ≡ paged.allocation ∷ kept_on n kept
+kept-here n paged kept is = ap (λ b. cond b (paged.allocation ∷ kept_on n kept) (kept_on n kept)) is
 
-kept-elsewhere : (n : ℕ) (place : PagedAllocation) (places : List PagedAllocation) → (place.page == n) ≡ false → kept_on n (place ∷ places) ≡ kept_on n places
-kept-elsewhere n place places is = ap (λ b. cond b (place.allocation ∷ kept_on n places) (kept_on n places)) is
+kept-elsewhere : (n : ℕ) (paged : PagedAllocation) (kept : List PagedAllocation) → (paged.page == n) ≡ false → kept_on n (paged ∷ kept) ≡ kept_on n kept
+kept-elsewhere n paged kept is = ap (λ b. cond b (paged.allocation ∷ kept_on n kept) (kept_on n kept)) is
 
 kept-append : (n : ℕ) (front back : List PagedAllocation) → kept_on n (front ++ back) ≡ kept_on n front ++ kept_on n back
 kept-append n [] back = refl
-kept-append n (place ∷ front) back = by_test (place.page == n) (kept-append n front back)
+kept-append n (paged ∷ front) back = by_test (paged.page == n) (kept-append n front back)
   where
     by_test : (b : Bool) → kept_on n (front ++ back) ≡ kept_on n front ++ kept_on n back
-        → cond b (place.allocation ∷ kept_on n (front ++ back)) (kept_on n (front ++ back))
-        ≡ cond b (place.allocation ∷ kept_on n front) (kept_on n front) ++ kept_on n back
-    by_test true rest = ap (λ l. place.allocation ∷ l) rest
+        → cond b (paged.allocation ∷ kept_on n (front ++ back)) (kept_on n (front ++ back))
+        ≡ cond b (paged.allocation ∷ kept_on n front) (kept_on n front) ++ kept_on n back
+    by_test true rest = ap (λ l. paged.allocation ∷ l) rest
     by_test false rest = rest
 
-kept-among : (n : ℕ) (front back : List PagedAllocation) (place : PagedAllocation) → (place.page == n) ≡ true
-    → Adds (kept_on n (front ++ back)) place.allocation (kept_on n (front ++ place ∷ back))
-kept-among n front back place is =
+kept-among : (n : ℕ) (front back : List PagedAllocation) (paged : PagedAllocation) → (paged.page == n) ≡ true
+    → Adds (kept_on n (front ++ back)) paged.allocation (kept_on n (front ++ paged ∷ back))
+kept-among n front back paged is =
     record {
       front = kept_on n front;
       back = kept_on n back;
       before = kept-append n front back;
-      after = kept-append n front (place ∷ back) ∙ ap (λ l. kept_on n front ++ l) (kept-here n place back is);
+      after = kept-append n front (paged ∷ back) ∙ ap (λ l. kept_on n front ++ l) (kept-here n paged back is);
     }
 
-kept-without : (n : ℕ) (front back : List PagedAllocation) (place : PagedAllocation) → (place.page == n) ≡ false
-    → kept_on n (front ++ place ∷ back) ≡ kept_on n (front ++ back)
-kept-without n front back place is =
-    kept-append n front (place ∷ back) ∙ ap (λ l. kept_on n front ++ l) (kept-elsewhere n place back is) ∙ sym (kept-append n front back)
+kept-without : (n : ℕ) (front back : List PagedAllocation) (paged : PagedAllocation) → (paged.page == n) ≡ false
+    → kept_on n (front ++ paged ∷ back) ≡ kept_on n (front ++ back)
+kept-without n front back paged is =
+    kept-append n front (paged ∷ back) ∙ ap (λ l. kept_on n front ++ l) (kept-elsewhere n paged back is) ∙ sym (kept-append n front back)
 
-kept-none : (n : ℕ) (places : List PagedAllocation) → AllByRecursion (λ (place : PagedAllocation). place.page < n) places → kept_on n places ≡ []
+kept-none : (n : ℕ) (kept : List PagedAllocation) → AllByRecursion (λ (paged : PagedAllocation). paged.page < n) kept → kept_on n kept ≡ []
 kept-none n [] below = refl
-kept-none n (place ∷ places) below =
-    let other : (place.page == n) ≡ false = (let few = below.0 in grind (arith, nat_tests)) in
-    kept-elsewhere n place places other ∙ kept-none n places below.1
+kept-none n (paged ∷ kept) below =
+    let other : (paged.page == n) ≡ false = (let few = below.0 in grind (arith, nat_tests)) in
+    kept-elsewhere n paged kept other ∙ kept-none n kept below.1
 
 -- a fact by whether a number is another
 by_number : (P : Type 0) (m n : ℕ) → ((m == n) ≡ true → P) → ((m == n) ≡ false → P) → P
@@ -141,127 +141,127 @@ by_number P m n same other = by_test (m == n) refl
     by_test false is = other is
 
 -- a page that is opened holds nothing
-held-opened : (state : PagesState) (places : List PagedAllocation) → AreAllPlaces state places → AreAllPlaces (opened state) places
-held-opened state places held =
+held-opened : (state : PagesState) (kept : List PagedAllocation) → AreAllPaged state kept → AreAllPaged (opened state) kept
+held-opened state kept held =
     record {
-      open_pages = Each-weaken (λ (place : PagedAllocation). place.page < length state.pages) (λ (place : PagedAllocation). place.page < length (opened state).pages) places
-          (λ place few. omega (arith, few, length-append state.pages (empty_page state.options ∷ []))) held.open_pages;
+      open_pages = Each-weaken (λ (paged : PagedAllocation). paged.page < length state.pages) (λ (paged : PagedAllocation). paged.page < length (opened state).pages) kept
+          (λ paged few. omega (arith, few, length-append state.pages (empty_page state.options ∷ []))) held.open_pages;
       tied = λ number page at.
           ⊎_elim (λ here. held.tied number page here)
-          (λ last. subst (λ (p : AtlasState). AreTied (kept_on number places) (allocations p)) last.1
-          (rw (kept-none number places (rw last.0 held.open_pages)) (tied-none (allocations (empty_page state.options)) (fresh-allocated (page_frame state.options)))))
+          (λ last. subst (λ (p : AtlasState). AreTied (kept_on number kept) (allocations p)) last.1
+          (rw (kept-none number kept (rw last.0 held.open_pages)) (tied-none (allocations (empty_page state.options)) (fresh-allocated (page_frame state.options)))))
           (get-last state.pages (empty_page state.options) number page at);
     }
 
-held-ready : (state : PagesState) (size : Size) (places : List PagedAllocation) → AreAllPlaces state places → AreAllPlaces (ready_for state size) places
-held-ready state size places held =
-    ⊎_elim (λ same. subst (λ (s : PagesState). AreAllPlaces s places) (sym same) held)
-    (λ opens. subst (λ (s : PagesState). AreAllPlaces s places) (sym opens) (held-opened state places held))
+held-ready : (state : PagesState) (size : Size) (kept : List PagedAllocation) → AreAllPaged state kept → AreAllPaged (ready_for state size) kept
+held-ready state size kept held =
+    ⊎_elim (λ same. subst (λ (s : PagesState). AreAllPaged s kept) (sym same) held)
+    (λ opens. subst (λ (s : PagesState). AreAllPaged s kept) (sym opens) (held-opened state kept held))
     (ready-or_opened state size)
 
--- a place that was given is held with the others
-pub one-more : (old : PagesState) (size : Size) (place : PagedAllocation) (new : PagesState) (places : List PagedAllocation) → KeepsPagesPromises old
-    → KeepsPagesPromises new → GivesPlace old size place new → AreAllPlaces old places → AreAllPlaces new (place ∷ places)
-one-more old size place new places was is gives held_old =
+-- what was given is held with the others
+pub one-more : (old : PagesState) (size : Size) (paged : PagedAllocation) (new : PagesState) (kept : List PagedAllocation) → KeepsPagesPromises old
+    → KeepsPagesPromises new → GivesPaged old size paged new → AreAllPaged old kept → AreAllPaged new (paged ∷ kept)
+one-more old size paged new kept was is gives held_old =
     let given = gives.places in
     let there = given.allocates in
     let ready = ready_for old size in
-    let held = held-ready old size places held_old in
-    let before = kept-before old new size place was is given.options there in
-    let long : length new.pages ≡ length ready.pages = ap length there.others ∙ length-set ready.pages place.page there.after in
+    let held = held-ready old size kept held_old in
+    let before = kept-before old new size paged was is given.options there in
+    let long : length new.pages ≡ length ready.pages = ap length there.others ∙ length-set ready.pages paged.page there.after in
     record {
       open_pages = (
-        omega (arith, long, within-get ready.pages place.page there.before there.is_open),
-        Each-weaken (λ (p : PagedAllocation). p.page < length ready.pages) (λ (p : PagedAllocation). p.page < length new.pages) places
+        omega (arith, long, within-get ready.pages paged.page there.before there.is_open),
+        Each-weaken (λ (p : PagedAllocation). p.page < length ready.pages) (λ (p : PagedAllocation). p.page < length new.pages) kept
             (λ p few. omega (arith, few, long)) held.open_pages,
       );
       tied = λ number page at.
-          let written : slice_get (slice_set ready.pages place.page there.after) number ≡ Some page =
+          let written : slice_get (slice_set ready.pages paged.page there.after) number ≡ Some page =
           sym (ap (λ (l : List AtlasState). slice_get l number) there.others) ∙ at in
-          by_number (AreTied (kept_on number (place ∷ places)) (allocations page)) place.page number
+          by_number (AreTied (kept_on number (paged ∷ kept)) (allocations page)) paged.page number
           (λ same.
-          let n = same_number place.page number same in
+          let n = same_number paged.page number same in
           let page_is : there.after ≡ page =
-          same_page (sym (get-set ready.pages place.page there.before there.after there.is_open)
-          ∙ ap (slice_get (slice_set ready.pages place.page there.after)) n ∙ written) in
-          rw (kept-here number place places same)
-          (subst (λ (p : AtlasState). AreTied (place.allocation ∷ kept_on number places) (allocations p)) page_is
-          (tied-added (kept_on number places) (place.allocation ∷ kept_on number places) (allocations there.before) (allocations there.after) place.allocation
+          same_page (sym (get-set ready.pages paged.page there.before there.after there.is_open)
+          ∙ ap (slice_get (slice_set ready.pages paged.page there.after)) n ∙ written) in
+          rw (kept-here number paged kept same)
+          (subst (λ (p : AtlasState). AreTied (paged.allocation ∷ kept_on number kept) (allocations p)) page_is
+          (tied-added (kept_on number kept) (paged.allocation ∷ kept_on number kept) (allocations there.before) (allocations there.after) paged.allocation
           (held.tied number there.before (subst (λ k. slice_get ready.pages k ≡ Some there.before) n there.is_open))
-          (first-added place.allocation (kept_on number places))
-          (allocates-adds there.before size place.allocation there.after before.valid there.allocates)
-          (not_allocated-any there.before place.allocation.id there.allocates.fresh_id))))
+          (first-added paged.allocation (kept_on number kept))
+          (allocates-adds there.before size paged.allocation there.after before.valid there.allocates)
+          (not_allocated-any there.before paged.allocation.id there.allocates.fresh_id))))
           (λ other.
-          rw (kept-elsewhere number place places other)
-          (held.tied number page (sym (get-set_other ready.pages place.page number there.after other) ∙ written)));
+          rw (kept-elsewhere number paged kept other)
+          (held.tied number page (sym (get-set_other ready.pages paged.page number there.after other) ∙ written)));
     }
   where
     same_page : {one two : AtlasState} → Some one ≡ Some two → one ≡ two
     same_page {one} {two} h = cc
 
--- a place that was given back is held no more
-pub one-less : (state : PagesState) (front back : List PagedAllocation) (place : PagedAllocation) → KeepsPagesPromises state
-    → AreAllPlaces state (front ++ place ∷ back) → AreAllPlaces (place_returned state place) (front ++ back)
-one-less state front back place keeps held =
-    let change : AtlasState → AtlasState = λ atlas. returned atlas place.allocation.id in
+-- what was given back is held no more
+pub one-less : (state : PagesState) (front back : List PagedAllocation) (paged : PagedAllocation) → KeepsPagesPromises state
+    → AreAllPaged state (front ++ paged ∷ back) → AreAllPaged (paged_returned state paged) (front ++ back)
+one-less state front back paged keeps held =
+    let change : AtlasState → AtlasState = λ atlas. returned atlas paged.allocation.id in
     record {
-      open_pages = Each-weaken (λ (p : PagedAllocation). p.page < length state.pages) (λ (p : PagedAllocation). p.page < length (at_page place.page change state.pages)) (front ++ back)
-          (λ p few. omega (arith, few, length-at_page change state.pages place.page))
-          (Each-remove_place (λ (p : PagedAllocation). p.page < length state.pages) front place back held.open_pages);
+      open_pages = Each-weaken (λ (p : PagedAllocation). p.page < length state.pages) (λ (p : PagedAllocation). p.page < length (at_page paged.page change state.pages)) (front ++ back)
+          (λ p few. omega (arith, few, length-at_page change state.pages paged.page))
+          (Each-remove_place (λ (p : PagedAllocation). p.page < length state.pages) front paged back held.open_pages);
       tied = λ number page at.
-          by_number (AreTied (kept_on number (front ++ back)) (allocations page)) place.page number
+          by_number (AreTied (kept_on number (front ++ back)) (allocations page)) paged.page number
           (λ same.
-          let n = same_number place.page number same in
-          let there = mapped-some change (slice_get state.pages place.page) page
-          (sym (get-at_page change state.pages place.page) ∙ subst (λ k. slice_get (at_page place.page change state.pages) k ≡ Some page) (sym n) at) in
-          let before = (Each-get (IsPage state.options) state.pages place.page there.0 there.1 keeps.pages).promises in
+          let n = same_number paged.page number same in
+          let there = mapped-some change (slice_get state.pages paged.page) page
+          (sym (get-at_page change state.pages paged.page) ∙ subst (λ k. slice_get (at_page paged.page change state.pages) k ≡ Some page) (sym n) at) in
+          let before = (Each-get (IsPage state.options) state.pages paged.page there.0 there.1 keeps.pages).promises in
           subst (λ (p : AtlasState). AreTied (kept_on number (front ++ back)) (allocations p)) there.2
-          (tied-returned (kept_on number (front ++ place ∷ back)) (kept_on number (front ++ back)) (allocations there.0)
-          (allocations (returned there.0 place.allocation.id)) place.allocation
+          (tied-returned (kept_on number (front ++ paged ∷ back)) (kept_on number (front ++ back)) (allocations there.0)
+          (allocations (returned there.0 paged.allocation.id)) paged.allocation
           (held.tied number there.0 (subst (λ k. slice_get state.pages k ≡ Some there.0) n there.1))
-          (kept-among number front back place same) before.ids (returned-allocated there.0 place.allocation.id before.valid)))
+          (kept-among number front back paged same) before.ids (returned-allocated there.0 paged.allocation.id before.valid)))
           (λ other.
-          subst (λ (l : List Allocation). AreTied l (allocations page)) (kept-without number front back place other)
-          (held.tied number page (sym (get-at_other change state.pages place.page number other) ∙ at)));
+          subst (λ (l : List Allocation). AreTied l (allocations page)) (kept-without number front back paged other)
+          (held.tied number page (sym (get-at_other change state.pages paged.page number other) ∙ at)));
     }
 
--- the order of places says nothing
-pub to-front : (state : PagesState) (front back : List PagedAllocation) (place : PagedAllocation)
-    → AreAllPlaces state (front ++ place ∷ back) → AreAllPlaces state (place ∷ front ++ back)
-to-front state front back place held =
+-- the order of allocations says nothing
+pub to-front : (state : PagesState) (front back : List PagedAllocation) (paged : PagedAllocation)
+    → AreAllPaged state (front ++ paged ∷ back) → AreAllPaged state (paged ∷ front ++ back)
+to-front state front back paged held =
     record {
       open_pages = (
-        Each-middle (λ (p : PagedAllocation). p.page < length state.pages) front place back held.open_pages,
-        Each-remove_place (λ (p : PagedAllocation). p.page < length state.pages) front place back held.open_pages,
+        Each-middle (λ (p : PagedAllocation). p.page < length state.pages) front paged back held.open_pages,
+        Each-remove_place (λ (p : PagedAllocation). p.page < length state.pages) front paged back held.open_pages,
       );
       tied = λ number page at.
-          by_number (AreTied (kept_on number (place ∷ front ++ back)) (allocations page)) place.page number
+          by_number (AreTied (kept_on number (paged ∷ front ++ back)) (allocations page)) paged.page number
           (λ same.
-          rw (kept-here number place (front ++ back) same)
-          (tied-front (kept_on number (front ++ back)) (kept_on number (front ++ place ∷ back)) (allocations page) place.allocation
-          (kept-among number front back place same) (held.tied number page at)))
+          rw (kept-here number paged (front ++ back) same)
+          (tied-front (kept_on number (front ++ back)) (kept_on number (front ++ paged ∷ back)) (allocations page) paged.allocation
+          (kept-among number front back paged same) (held.tied number page at)))
           (λ other.
-          rw (kept-elsewhere number place (front ++ back) other)
-          (subst (λ (l : List Allocation). AreTied l (allocations page)) (kept-without number front back place other) (held.tied number page at)));
+          rw (kept-elsewhere number paged (front ++ back) other)
+          (subst (λ (l : List Allocation). AreTied l (allocations page)) (kept-without number front back paged other) (held.tied number page at)));
     }
 
--- each place that is held is allocated
-pub among-held : (state : PagesState) (front back : List PagedAllocation) (place : PagedAllocation)
-    → AreAllPlaces state (front ++ place ∷ back) → is_place_held state place ≡ true
-among-held state front back place held =
-    let page = get-within state.pages place.page (Each-middle (λ (p : PagedAllocation). p.page < length state.pages) front place back held.open_pages) in
-    let adds = kept-among place.page front back place (grind (arith, nat_tests)) in
-    let found : IsFound (allocations page.0) place.allocation =
-    Each-middle (IsFound (allocations page.0)) adds.front place.allocation adds.back
-    (subst (AllByRecursion (IsFound (allocations page.0))) adds.after (held.tied place.page page.0 page.1).found) in
-    ap (λ o. is_some (option_and_then (λ (atlas : AtlasState). rectangle_of atlas place.allocation.id) o)) page.1
-    ∙ ap is_some (found-rectangle page.0 place.allocation found)
+-- each that is held is allocated
+pub among-held : (state : PagesState) (front back : List PagedAllocation) (paged : PagedAllocation)
+    → AreAllPaged state (front ++ paged ∷ back) → is_paged_held state paged ≡ true
+among-held state front back paged held =
+    let page = get-within state.pages paged.page (Each-middle (λ (p : PagedAllocation). p.page < length state.pages) front paged back held.open_pages) in
+    let adds = kept-among paged.page front back paged (grind (arith, nat_tests)) in
+    let found : IsFound (allocations page.0) paged.allocation =
+    Each-middle (IsFound (allocations page.0)) adds.front paged.allocation adds.back
+    (subst (AllByRecursion (IsFound (allocations page.0))) adds.after (held.tied paged.page page.0 page.1).found) in
+    ap (λ o. is_some (option_and_then (λ (atlas : AtlasState). rectangle_of atlas paged.allocation.id) o)) page.1
+    ∙ ap is_some (found-rectangle page.0 paged.allocation found)
 
-pub still-keeps : (state : PagesState) (place : PagedAllocation) → KeepsPagesPromises state → KeepsPagesPromises (place_returned state place)
-still-keeps state place keeps = keeps-returned state place.page place.allocation.id keeps
+pub still-keeps : (state : PagesState) (paged : PagedAllocation) → KeepsPagesPromises state → KeepsPagesPromises (paged_returned state paged)
+still-keeps state paged keeps = keeps-returned state paged.page paged.allocation.id keeps
 
 -- pages that were emptied hold nothing
-pub all-cleared : (state : PagesState) → KeepsPagesPromises state → AreAllPlaces (cleared state) []
+pub all-cleared : (state : PagesState) → KeepsPagesPromises state → AreAllPaged (cleared state) []
 all-cleared state keeps =
     record {
       open_pages = tt;
@@ -295,7 +295,7 @@ unused-fits options page size is none fits =
 -- a page has a place where the first one has
 some-chosen : (state : PagesState) (size : Size) (page : AtlasState) (pages : List AtlasState) → state.pages ≡ page ∷ pages
     → has_place size page ≡ true → has_page state size ≡ true
-some-chosen state size page pages is place = by_chosen (chosen_page state size) refl
+some-chosen state size page pages is has = by_chosen (chosen_page state size) refl
   where
     by_chosen : (o : Option ℕ) → chosen_page state size ≡ o → has_page state size ≡ true
     by_chosen None none =
@@ -307,7 +307,7 @@ some-chosen state size page pages is place = by_chosen (chosen_page state size) 
     by_chosen (Some n) chosen = ap is_some (page_for-chosen state size n chosen)
 
 -- where nothing is held, what fits on an empty page has a page
-pub none-held : (state : PagesState) (size : Size) → KeepsPagesPromises state → AreAllPlaces state [] → fits_page state size ≡ true
+pub none-held : (state : PagesState) (size : Size) → KeepsPagesPromises state → AreAllPaged state [] → fits_page state size ≡ true
     → has_page state size ≡ true
 none-held state size keeps held fits = by_pages state.pages refl
   where
@@ -325,6 +325,6 @@ none-held state size keeps held fits = by_pages state.pages refl
         (unused-fits state.options page size one (tied-empty (allocations page) (held.tied 0 page at)) fits)
 
 -- what fits stays
-pub fits-given : (old : PagesState) (size asked : Size) (place : PagedAllocation) (new : PagesState) → GivesPlace old asked place new
+pub fits-given : (old : PagesState) (size asked : Size) (paged : PagedAllocation) (new : PagesState) → GivesPaged old asked paged new
     → fits_page new size ≡ fits_page old size
-fits-given old size asked place new given = ap (λ (o : PageOptions). has_place size (empty_page o)) given.places.options
+fits-given old size asked paged new given = ap (λ (o : PageOptions). has_place size (empty_page o)) given.places.options

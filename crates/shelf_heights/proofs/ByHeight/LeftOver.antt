@@ -124,14 +124,14 @@ stretch-both (suc start) from end (x ∷ xs) within =
     ∙ stretch-both start from end xs (omega (arith, within))
 
 -- the first that is wide enough is the first behind those that are left over
-pub first-drop : (start from width place : ℕ) (xs : List BoundedShelf) → start ≤ length xs → IsFirstAsWide (start + from) width xs (Some place)
-    → IsFirstAsWide from width (drop start xs) (Some (place - start))
-first-drop start from width place xs within first =
-    let here : place ≡ start + (place - start) = omega (arith, first.0) in (
+pub first-drop : (start from width position : ℕ) (xs : List BoundedShelf) → start ≤ length xs → IsFirstAsWide (start + from) width xs (Some position)
+    → IsFirstAsWide from width (drop start xs) (Some (position - start))
+first-drop start from width position xs within first =
+    let here : position ≡ start + (position - start) = omega (arith, first.0) in (
       omega (arith, first.0),
       omega (arith, first.0, first.1, length-drop start xs),
       subst (AllByRecursion (λ (one : BoundedShelf). one.widest < width))
-          (ap (λ (n : ℕ). drop (start + from) (take n xs)) here ∙ stretch-both start from (place - start) xs within) first.2,
+          (ap (λ (n : ℕ). drop (start + from) (take n xs)) here ∙ stretch-both start from (position - start) xs within) first.2,
       subst (AllByRecursion (λ (one : BoundedShelf). width ≤ one.widest))
-          (ap (take 1) (ap (λ (n : ℕ). drop n xs) here ∙ drop-both start (place - start) xs within)) first.3,
+          (ap (take 1) (ap (λ (n : ℕ). drop n xs) here ∙ drop-both start (position - start) xs within)) first.3,
     )

@@ -222,9 +222,9 @@ tells-after shelves number order one at is =
     omega (arith, more, ap (order_of shelves) at)
 
 -- the order of a record that was read
-pub order-read : (shelves : List LinkedShelf) (shelf height place : ℕ) (one : LinkedShelf) → shelf < length shelves → one ≡ slice_index_or shelves shelf one
-    → height ≡ one.height → place ≡ one.x * 65536 + one.y → order_at height place ≡ order_of shelves shelf
-order-read shelves shelf height place one within is high here =
+pub order-read : (shelves : List LinkedShelf) (shelf height in_chain : ℕ) (one : LinkedShelf) → shelf < length shelves → one ≡ slice_index_or shelves shelf one
+    → height ≡ one.height → in_chain ≡ one.x * 65536 + one.y → order_at height in_chain ≡ order_of shelves shelf
+order-read shelves shelf height in_chain one within is high here =
     let own : height_of shelves shelf ≡ one.height = field_at-read (λ (s : LinkedShelf). s.height) 0 shelves shelf one within is in
     let along : along_of shelves shelf ≡ one.x = field_at-read (λ (s : LinkedShelf). s.x) 0 shelves shelf one within is in
     let across : across_of shelves shelf ≡ one.y = field_at-read (λ (s : LinkedShelf). s.y) 0 shelves shelf one within is in

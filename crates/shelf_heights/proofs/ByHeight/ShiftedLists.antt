@@ -27,20 +27,20 @@ module _ (a k : ℕ) (xs ys : List ℕ) (starts : a ≤ length xs) where
   -- in the part stands what was written
   pub put-within : (n : ℕ) → n < length ys → get_or (put_mid a k xs ys) (a + n) 0 ≡ get_or ys n 0
   put-within n within =
-      let place : a + n - length (take a xs) ≡ n = omega (arith, front) in
+      let reached : a + n - length (take a xs) ≡ n = omega (arith, front) in
       get_or-append_right (take a xs) (ys ++ post_of a k xs) (a + n) 0 (omega (arith, front))
-      ∙ ap (λ m. get_or (ys ++ post_of a k xs) m 0) place
+      ∙ ap (λ m. get_or (ys ++ post_of a k xs) m 0) reached
       ∙ get_or_append_left ys (post_of a k xs) 0 n within
 
   -- behind the part all stand as they did
   pub put-behind : (n : ℕ) → length ys ≡ k → a + k ≤ n → get_or (put_mid a k xs ys) n 0 ≡ get_or xs n 0
   put-behind n same behind =
-      let place : a + (k + (n - length (take a xs) - length ys)) ≡ n = omega (arith, front, behind, same) in
+      let reached : a + (k + (n - length (take a xs) - length ys)) ≡ n = omega (arith, front, behind, same) in
       get_or-append_right (take a xs) (ys ++ post_of a k xs) n 0 (omega (arith, front, behind))
       ∙ get_or-append_right ys (post_of a k xs) (n - length (take a xs)) 0 (omega (arith, front, behind, same))
       ∙ get_or-drop k (drop a xs) (n - length (take a xs) - length ys) 0
       ∙ get_or-drop a xs (k + (n - length (take a xs) - length ys)) 0
-      ∙ ap (λ m. get_or xs m 0) place
+      ∙ ap (λ m. get_or xs m 0) reached
 
   -- there are as many as before
   pub length-put : length ys ≡ k → a + k ≤ length xs → length (put_mid a k xs ys) ≡ length xs

@@ -17,7 +17,7 @@ module _ (by_height : Inside) (value : ListByHeight) (rules : HasFrontRoom by_he
       let size : length (drop by_height.start by_height.list.items) ≡ length value.items = ap (λ (v : ListByHeight). length v.items) is in
       omega (arith, rules.within, size, length-drop by_height.start by_height.list.items)
 
-  -- a position is a place of the whole list
+  -- a position is one of the whole list
   pub used-place : (index : ℕ) → index < length value.items → by_height.start + index < length by_height.list.items
   used-place index within = omega (arith, within, used-count)
 

@@ -87,43 +87,43 @@ none-found at end width bounds (Some index) none low k after before within = abs
 -- a bound does not pass the widest of its block
 pub covered-at : (widest bounds : List ℕ) (block k : ℕ) → AreCovered widest bounds → block * 64 ≤ k → k < (block + 1) * 64 → get_or bounds k 0 ≤ get_or widest block 0
 covered-at widest bounds block k covered after before =
-    let place : block * 64 + (k - block * 64) ≡ k = omega (arith, after) in
-    omega (arith, ap (λ n. get_or bounds n 0) place, covered block (k - block * 64) (omega (arith, before)))
+    let reached : block * 64 + (k - block * 64) ≡ k = omega (arith, after) in
+    omega (arith, ap (λ n. get_or bounds n 0) reached, covered block (k - block * 64) (omega (arith, before)))
 
 -- a block whose widest is found anew is covered as the others are
 pub block-covered : (widest bounds : List ℕ) (block value size : ℕ) → AreCovered widest bounds → block < length widest
     → ((k : ℕ) → k < length bounds → k < (block + 1) * 64 → k < block * 64 + size) → AllByRecursion (λ bound. bound ≤ value) (take size (drop (block * 64) bounds))
     → AreCovered (set widest block value) bounds
-block-covered widest bounds block value size covered within inside low other place less =
-    by_block (nat_eq other block) refl (nat_lt (other * 64 + place) (length bounds)) refl
+block-covered widest bounds block value size covered within inside low other offset less =
+    by_block (nat_eq other block) refl (nat_lt (other * 64 + offset) (length bounds)) refl
   where
-    by_block : (b : Bool) → nat_eq other block ≡ b → (d : Bool) → nat_lt (other * 64 + place) (length bounds) ≡ d
-        → get_or bounds (other * 64 + place) 0 ≤ get_or (set widest block value) other 0
+    by_block : (b : Bool) → nat_eq other block ≡ b → (d : Bool) → nat_lt (other * 64 + offset) (length bounds) ≡ d
+        → get_or bounds (other * 64 + offset) 0 ≤ get_or (set widest block value) other 0
     by_block true e true f =
         let same : other ≡ block = grind (arith, nat_tests) in
-        let here : other * 64 + place < length bounds = grind (arith, nat_tests) in
+        let here : other * 64 + offset < length bounds = grind (arith, nat_tests) in
         let read : get_or (set widest block value) other 0 ≡ value = ap (λ n. get_or (set widest block value) n 0) same ∙ get_or-set_same widest block value 0 within in
         omega (
           arith,
           read,
-          slice-at (λ bound. bound ≤ value) bounds (block * 64) size (other * 64 + place) (omega (arith, same))
-              (inside (other * 64 + place) here (omega (arith, same, less))) here low,
+          slice-at (λ bound. bound ≤ value) bounds (block * 64) size (other * 64 + offset) (omega (arith, same))
+              (inside (other * 64 + offset) here (omega (arith, same, less))) here low,
         )
     by_block true e false f =
-        let past : length bounds ≤ other * 64 + place = grind (arith, nat_tests) in
-        omega (arith, get_or_past bounds (other * 64 + place) 0 past)
+        let past : length bounds ≤ other * 64 + offset = grind (arith, nat_tests) in
+        omega (arith, get_or_past bounds (other * 64 + offset) 0 past)
     by_block false e d f =
         let apart : other ≢ block = grind (arith, nat_tests) in
-        omega (arith, get_or-set_other widest block other value 0 apart, covered other place less)
+        omega (arith, get_or-set_other widest block other value 0 apart, covered other offset less)
 
 -- once a bound is put in, each block holds what it held, the bound, or the last one of the block before it
 pub insert-covered : (old new bounds : List ℕ) (index bound : ℕ) → index ≤ length bounds → AreCovered old bounds → AreRaised old new → bound ≤ get_or new (index / 64) 0
     → ((block : ℕ) → index / 64 < block → block < length bounds / 64 + 1 → get_or bounds (block * 64 - 1) 0 ≤ get_or new block 0)
     → AreCovered new (insert bounds index bound)
-insert-covered old new bounds index bound within covered raised here moved block place less =
-    by_order (nat_lt (block * 64 + place) index) refl (nat_lt index (block * 64 + place)) refl
+insert-covered old new bounds index bound within covered raised here moved block offset less =
+    by_order (nat_lt (block * 64 + offset) index) refl (nat_lt index (block * 64 + offset)) refl
   where
-    above : (place : ℕ) → place < 64 → index < block * 64 + place → get_or (insert bounds index bound) (block * 64 + place) 0 ≤ get_or new block 0
+    above : (offset : ℕ) → offset < 64 → index < block * 64 + offset → get_or (insert bounds index bound) (block * 64 + offset) 0 ≤ get_or new block 0
     above zero less more =
         let back : block * 64 + 0 ≡ (block * 64 - 1) + 1 = omega (arith, more) in
         let read : get_or (insert bounds index bound) (block * 64 + 0) 0 ≡ get_or bounds (block * 64 - 1) 0 =
@@ -139,25 +139,25 @@ insert-covered old new bounds index bound within covered raised here moved block
         by_end false e read =
             let outside : length bounds ≤ block * 64 - 1 = grind (arith, nat_tests) in
             omega (arith, read, get_or_past bounds (block * 64 - 1) 0 outside)
-    above (suc place) less more =
-        let next : block * 64 + suc place ≡ (block * 64 + place) + 1 = omega arith in
-        let read : get_or (insert bounds index bound) (block * 64 + suc place) 0 ≡ get_or bounds (block * 64 + place) 0 =
+    above (suc offset) less more =
+        let next : block * 64 + suc offset ≡ (block * 64 + offset) + 1 = omega arith in
+        let read : get_or (insert bounds index bound) (block * 64 + suc offset) 0 ≡ get_or bounds (block * 64 + offset) 0 =
         ap (λ n. get_or (insert bounds index bound) n 0) next
-        ∙ get_or-insert_above bounds index bound 0 (block * 64 + place) (omega (arith, more)) within in
-        omega (arith, read, covered block place (omega (arith, less)), raised block)
+        ∙ get_or-insert_above bounds index bound 0 (block * 64 + offset) (omega (arith, more)) within in
+        omega (arith, read, covered block offset (omega (arith, less)), raised block)
 
-    by_order : (b : Bool) → nat_lt (block * 64 + place) index ≡ b → (d : Bool) → nat_lt index (block * 64 + place) ≡ d
-        → get_or (insert bounds index bound) (block * 64 + place) 0 ≤ get_or new block 0
+    by_order : (b : Bool) → nat_lt (block * 64 + offset) index ≡ b → (d : Bool) → nat_lt index (block * 64 + offset) ≡ d
+        → get_or (insert bounds index bound) (block * 64 + offset) 0 ≤ get_or new block 0
     by_order true e d f =
-        let before : block * 64 + place < index = grind (arith, nat_tests) in
-        omega (arith, get_or-insert_below bounds index bound 0 (block * 64 + place) before within, covered block place less, raised block)
+        let before : block * 64 + offset < index = grind (arith, nat_tests) in
+        omega (arith, get_or-insert_below bounds index bound 0 (block * 64 + offset) before within, covered block offset less, raised block)
     by_order false e true f =
-        let after : index < block * 64 + place = grind (arith, nat_tests) in
-        above place less after
+        let after : index < block * 64 + offset = grind (arith, nat_tests) in
+        above offset less after
     by_order false e false f =
-        let equal : block * 64 + place ≡ index = grind (arith, nat_tests) in
+        let equal : block * 64 + offset ≡ index = grind (arith, nat_tests) in
         let same : block ≡ index / 64 = omega (arith, equal, less) in
-        let read : get_or (insert bounds index bound) (block * 64 + place) 0 ≡ bound =
+        let read : get_or (insert bounds index bound) (block * 64 + offset) 0 ≡ bound =
         ap (λ n. get_or (insert bounds index bound) n 0) equal ∙ get_or-insert_at bounds index bound 0 within in
         omega (arith, read, here, ap (λ n. get_or new n 0) same)
 
@@ -165,30 +165,30 @@ insert-covered old new bounds index bound within covered raised here moved block
 pub remove-covered : (old new bounds : List ℕ) (index : ℕ) → index < length bounds → AreCovered old bounds → AreRaised old new
     → ((block : ℕ) → index / 64 ≤ block → block < (length bounds - 1) / 64 → get_or bounds ((block + 1) * 64) 0 ≤ get_or new block 0)
     → AreCovered new (remove bounds index)
-remove-covered old new bounds index within covered raised moved block place less =
-    by_order (nat_lt (block * 64 + place) index) refl (nat_lt place 63) refl (nat_lt ((block + 1) * 64) (length bounds)) refl
+remove-covered old new bounds index within covered raised moved block offset less =
+    by_order (nat_lt (block * 64 + offset) index) refl (nat_lt offset 63) refl (nat_lt ((block + 1) * 64) (length bounds)) refl
   where
-    by_order : (b : Bool) → nat_lt (block * 64 + place) index ≡ b → (d : Bool) → nat_lt place 63 ≡ d → (i : Bool) → nat_lt ((block + 1) * 64) (length bounds) ≡ i
-        → get_or (remove bounds index) (block * 64 + place) 0 ≤ get_or new block 0
+    by_order : (b : Bool) → nat_lt (block * 64 + offset) index ≡ b → (d : Bool) → nat_lt offset 63 ≡ d → (i : Bool) → nat_lt ((block + 1) * 64) (length bounds) ≡ i
+        → get_or (remove bounds index) (block * 64 + offset) 0 ≤ get_or new block 0
     by_order true e d f i g =
-        let before : block * 64 + place < index = grind (arith, nat_tests) in
-        omega (arith, get_or-remove_below bounds index 0 (block * 64 + place) before within, covered block place less, raised block)
+        let before : block * 64 + offset < index = grind (arith, nat_tests) in
+        omega (arith, get_or-remove_below bounds index 0 (block * 64 + offset) before within, covered block offset less, raised block)
     by_order false e true f i g =
-        let after : index ≤ block * 64 + place = grind (arith, nat_tests) in
-        let inner : place < 63 = grind (arith, nat_tests) in
-        let next : (block * 64 + place) + 1 ≡ block * 64 + (place + 1) = omega arith in
-        omega (arith, get_or-remove_above bounds index 0 (block * 64 + place) after within, ap (λ n. get_or bounds n 0) next, covered block (place + 1) (omega (arith, inner)), raised block)
+        let after : index ≤ block * 64 + offset = grind (arith, nat_tests) in
+        let inner : offset < 63 = grind (arith, nat_tests) in
+        let next : (block * 64 + offset) + 1 ≡ block * 64 + (offset + 1) = omega arith in
+        omega (arith, get_or-remove_above bounds index 0 (block * 64 + offset) after within, ap (λ n. get_or bounds n 0) next, covered block (offset + 1) (omega (arith, inner)), raised block)
     by_order false e false f true g =
-        let after : index ≤ block * 64 + place = grind (arith, nat_tests) in
-        let outer : 63 ≤ place = grind (arith, nat_tests) in
+        let after : index ≤ block * 64 + offset = grind (arith, nat_tests) in
+        let outer : 63 ≤ offset = grind (arith, nat_tests) in
         let inside : (block + 1) * 64 < length bounds = grind (arith, nat_tests) in
-        let next : (block * 64 + place) + 1 ≡ (block + 1) * 64 = omega (arith, outer, less) in
-        omega (arith, get_or-remove_above bounds index 0 (block * 64 + place) after within, ap (λ n. get_or bounds n 0) next, moved block (omega (arith, after, less)) (omega (arith, inside)))
+        let next : (block * 64 + offset) + 1 ≡ (block + 1) * 64 = omega (arith, outer, less) in
+        omega (arith, get_or-remove_above bounds index 0 (block * 64 + offset) after within, ap (λ n. get_or bounds n 0) next, moved block (omega (arith, after, less)) (omega (arith, inside)))
     by_order false e false f false g =
-        let after : index ≤ block * 64 + place = grind (arith, nat_tests) in
-        let outer : 63 ≤ place = grind (arith, nat_tests) in
+        let after : index ≤ block * 64 + offset = grind (arith, nat_tests) in
+        let outer : 63 ≤ offset = grind (arith, nat_tests) in
         let outside : length bounds ≤ (block + 1) * 64 = grind (arith, nat_tests) in
-        omega (arith, get_or-remove_above bounds index 0 (block * 64 + place) after within, get_or_past bounds ((block * 64 + place) + 1) 0 (omega (arith, outside, outer)))
+        omega (arith, get_or-remove_above bounds index 0 (block * 64 + offset) after within, get_or_past bounds ((block * 64 + offset) + 1) 0 (omega (arith, outside, outer)))
 
 -- where the widest of blocks are low, so are the bounds in them
 pub blocks-low : (widest bounds : List ℕ) (at blocks width : ℕ) → AreCovered widest bounds → blocks ≤ length widest → AllByRecursion (λ bound. bound < width) (drop (at / 64) (take blocks widest))

@@ -16,9 +16,9 @@ use Rattle.shelf_heights.specs.declared.by_height.BoundedShelf.{BoundedShelf}
 abbrev pub chain_order : List LinkedShelf → ℕ → ℕ
 chain_order shelves shelf = along_of shelves shelf * 65536 + across_of shelves shelf
 
--- where a shelf of this height that begins there stands in the order: by height, and then by place
+-- where a shelf of this height and order in the chain stands: by height, and then by the chain
 abbrev pub order_at : ℕ → ℕ → ℕ
-order_at height place = height * (65536 * 65536) + place
+order_at height in_chain = height * (65536 * 65536) + in_chain
 
 -- where a shelf stands in the order
 abbrev pub order_of : List LinkedShelf → ℕ → ℕ
@@ -54,7 +54,7 @@ AreBounds atlas entries by_height =
     entries)
     by_height
 
--- the number of each shelf in use once, in the order of heights and places, each with a bound
+-- the number of each shelf in use once, in the order of heights and of the chain, each with a bound
 pub record IsByHeight (atlas : AtlasRecords) (entries : List Entry) (by_height : List BoundedShelf)
     : Type 0 where
   pub once : (shelf : ℕ) → times shelf (numbers_by_height by_height)

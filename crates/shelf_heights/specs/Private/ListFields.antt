@@ -22,8 +22,8 @@ AreRaised old new = (block : ℕ) → get_or old block 0 ≤ get_or new block 0
 
 -- no bound passes the widest of its block, of which each has 64
 abbrev pub AreCovered : List ℕ → List ℕ → Type 0
-AreCovered widest bounds = (block place : ℕ) → place < 64
-    → get_or bounds (block * 64 + place) 0 ≤ get_or widest block 0
+AreCovered widest bounds = (block offset : ℕ) → offset < 64
+    → get_or bounds (block * 64 + offset) 0 ≤ get_or widest block 0
 
 -- what the fields stand for
 abbrev pub list_in : Inside → ListByHeight

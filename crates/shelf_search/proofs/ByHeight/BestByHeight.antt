@@ -16,7 +16,7 @@ use Rattle.shelf_search.specs.Private.Searching.{best_candidate, earlier, earlie
 use Rattle.shelf_search.specs.declared.choosing.Candidate.{Candidate}
 use Rattle.shelf_heights.specs.declared.by_height.BoundedShelf.{BoundedShelf}
 use Rattle.shelf_search.proofs.ByHeight.LeastOffers.{IsLeast, IsOffer, IsOutcome, least-first, least-later, lowest-outcome, none-less, offer-is, outcome-same, weight}
-use Rattle.shelf_heights.proofs.ByHeight.PlacesRise.{LiesWithin, kept-within, places-rise}
+use Rattle.shelf_heights.proofs.ByHeight.OrdersRise.{LiesWithin, kept-within, orders-rise}
 use Rattle.shelf_heights.proofs.ByHeight.RisingNumbers.{of-each, rise-low}
 use Rattle.shelf_records.proofs.Recorded.Members.{Each-member}
 use Rattle.shelf_search.proofs.Searched.SearchSteps.{offers-parts}
@@ -57,7 +57,7 @@ module _ (frame : Frame) (records : Records) (width height : ℕ) where
           let later = rest is in
           let here : IsOffer records.shelves candidate.shelf candidate = offer-is frame records width height candidate.shelf candidate (Each-member (LiesWithin frame records.shelves) shelves candidate.shelf within.1 later.0.stands) later.0.offer in (
             least-later frame records width height shelf shelves candidate
-                (λ other offers. omega (arith, later.1, here.place, bad-is shelf other good offers)) later.0,
+                (λ other offers. omega (arith, later.1, here.in_chain, bad-is shelf other good offers)) later.0,
             later.1,
           )
       by_offer (Some own) good is rest =
@@ -116,7 +116,7 @@ module _ (frame : Frame) (records : Records) (width height : ℕ) where
           let weighs : weight records.shelves first ≡ weight records.shelves other = ap (weight records.shelves) same in
           omega (arith, ranks, after, weighs)) least
 
-  -- where all offers rank alike, that of the earliest place weighs least
+  -- where all offers rank alike, that of the earliest in the chain weighs least
   earliest-outcome : (shelves : List ℕ) → ((k : ℕ) → 1 ≤ times k shelves → OffersBad k) → AllByRecursion (LiesWithin frame records.shelves) shelves
       → IsOutcome frame records width height shelves (earliest records.shelves (map (offered records width height) shelves))
   earliest-outcome [] bad within = λ k stands. absurd (omega (arith, stands))
@@ -151,7 +151,7 @@ best-by-height frame records by_height width height kept are =
     let within : AllByRecursion (LiesWithin frame records.shelves) chain = kept-within frame records kept in
     let same : (k : ℕ) → times k (numbers_by_height by_height) ≡ times k chain = λ k. are.once k ∙ ap (times k) (walked-numbers records chain) in
     outcome-same frame records width height 0 chain (numbers_by_height by_height) (best_candidate records width height) (first_by_height records width height (numbers_by_height by_height)) within
-    (places-rise frame records kept) same
-    (lowest-outcome frame records width height 0 chain within (places-rise frame records kept))
+    (orders-rise frame records kept) same
+    (lowest-outcome frame records width height 0 chain within (orders-rise frame records kept))
     (by_height-outcome frame records width height 0 (numbers_by_height by_height)
     (each-of (LiesWithin frame records.shelves) chain (numbers_by_height by_height) (λ k stands. omega (arith, stands, same k)) within) are.rising)

@@ -63,11 +63,11 @@ offered-of records width height shelf candidate offers = by_parts (nat_le height
     by_parts true None offers = absurd (cc)
     by_parts true (Some item) offers = cc
 
--- the number at a position, and what a list of offers comes to where each has a later place
+-- the number at a position, and what a list of offers comes to where each is later in the chain
 module _ (shelves : List LinkedShelf) (offers : ℕ → Option Candidate) where
-  -- each offer of these shelves is of one whose place is later
+  -- each offer of these shelves is of one that is later in the chain
   abbrev AreLater : ℕ → List ℕ → Type 0
-  AreLater place ns = (k : ℕ) → k < length ns → (candidate : Candidate) → offers (get_or ns k 0) ≡ Some candidate → place < chain_order shelves candidate.shelf
+  AreLater in_chain ns = (k : ℕ) → k < length ns → (candidate : Candidate) → offers (get_or ns k 0) ≡ Some candidate → in_chain < chain_order shelves candidate.shelf
 
   later-stays : (one : Candidate) (ns : List ℕ) → AreLater (chain_order shelves one.shelf) ns → earlier shelves (Some one) (earliest shelves (map offers ns)) ≡ Some one
   later-stays one [] later = refl
@@ -123,8 +123,8 @@ chosen-earliest records width height start index by_height candidate searchable 
     own : chain_order records.shelves candidate.shelf ≡ chain_order_at records.shelves by_height index
     own = ap (chain_order records.shelves) (offered-of records width height (bounded_at by_height index).shelf candidate offers)
 
-    number_is : (k place : ℕ) → start + k ≡ place → place < length by_height → offered records width height (get_or (drop start numbers) k 0) ≡ offered records width height (bounded_at by_height place).shelf
-    number_is k place sum within = ap (offered records width height) (get_or-drop start numbers k 0 ∙ ap (λ n. get_or numbers n 0) sum ∙ get_or-map (λ (x : BoundedShelf). x.shelf) by_height place (record { widest = 0; shelf = 0 }) 0 within)
+    number_is : (k position : ℕ) → start + k ≡ position → position < length by_height → offered records width height (get_or (drop start numbers) k 0) ≡ offered records width height (bounded_at by_height position).shelf
+    number_is k position sum within = ap (offered records width height) (get_or-drop start numbers k 0 ∙ ap (λ n. get_or numbers n 0) sum ∙ get_or-map (λ (x : BoundedShelf). x.shelf) by_height position (record { widest = 0; shelf = 0 }) 0 within)
 
     offer_at : (k : ℕ) → start + k < length by_height → (other : Candidate) → offered records width height (get_or (drop start numbers) k 0) ≡ Some other → offered records width height (bounded_at by_height (start + k)).shelf ≡ Some other
     offer_at k within other offer = sym (number_is k (start + k) refl within) ∙ offer

@@ -11,7 +11,7 @@ use Rattle.shelf_records.specs.declared.records.LinkedShelf.{LinkedShelf}
 use Rattle.shelf_records.specs.AtlasRecords.{height_of}
 use Rattle.shelf_model.specs.Listing.{RiseFrom}
 use Rattle.shelf_heights.specs.Private.ByHeight.{AreInOrder, IsFirstAsWide, IsStart, order_at, order_of, chain_order, bounded_at, numbers_by_height}
-use Rattle.shelf_search.specs.Private.Opening.{ArePlaced, IsBehind, IsEarliest, IsEarliestWide, earlier_position, chain_order_at}
+use Rattle.shelf_search.specs.Private.Opening.{AreInChain, IsBehind, IsEarliest, IsEarliestWide, earlier_position, chain_order_at}
 use Rattle.shelf_search.specs.Private.Searching.{earliest}
 use Rattle.shelf_heights.specs.declared.by_height.BoundedShelf.{BoundedShelf}
 use Rattle.shelf_heights.proofs.ByHeight.Positions.{rise-read}
@@ -68,7 +68,7 @@ orders-rise shelves from (one ∷ others) zero (suc next) less within rise =
 orders-rise shelves from (one ∷ others) (suc k) (suc next) less within rise = orders-rise shelves (order_of shelves one.shelf + 1) others k next (omega arith) (omega arith) rise.1
 
 module _ (shelves : List LinkedShelf) (by_height : List BoundedShelf) where
-  -- the next shelf that is as wide is found, unless that before it has the earlier place
+  -- the next shelf that is as wide is found, unless that before it is earlier in the chain
   pub next-earliest : (start from index next width : ℕ) (first : Option ℕ) → start ≤ from → IsEarliest shelves by_height start from width first → IsFirstAsWide from width by_height (Some index) → IsBehind shelves by_height index next
       → IsEarliest shelves by_height start next width (Some (earlier_position shelves by_height first index))
   next-earliest start from index next width first after earliest reached behind = by_first first earliest
@@ -151,7 +151,7 @@ module _ (shelves : List LinkedShelf) (by_height : List BoundedShelf) where
           let here : from ≤ k = grind (arith, nat_tests) in
           absurd (omega (arith, wide, each-from (λ (one : BoundedShelf). one.widest < width) by_height from k here before low))
 
-  pub height-behind : (index next probes : ℕ) → AreInOrder shelves by_height → ArePlaced shelves by_height → index < length by_height → IsStart shelves by_height (order_at (height_of shelves (bounded_at by_height index).shelf + 1) 0) next probes → IsBehind shelves by_height index next
+  pub height-behind : (index next probes : ℕ) → AreInOrder shelves by_height → AreInChain shelves by_height → index < length by_height → IsStart shelves by_height (order_at (height_of shelves (bounded_at by_height index).shelf + 1) 0) next probes → IsBehind shelves by_height index next
   height-behind index next probes order placed within start =
       record {
         after = by_test (nat_lt index next) refl;
@@ -165,8 +165,8 @@ module _ (shelves : List LinkedShelf) (by_height : List BoundedShelf) where
             later (height_of shelves (bounded_at by_height index).shelf) (chain_order_at shelves by_height index) (height_of shelves (bounded_at by_height k).shelf) (chain_order_at shelves by_height k) here there above below;
       }
     where
-      later : (height place other behind : ℕ) → place < 65536 * 65536 → behind < 65536 * 65536 → order_at height place < order_at other behind → order_at other behind < order_at (height + 1) 0 → place < behind
-      later height place other behind here there above below = omega (arith, here, there, above, below)
+      later : (height in_chain other behind : ℕ) → in_chain < 65536 * 65536 → behind < 65536 * 65536 → order_at height in_chain < order_at other behind → order_at other behind < order_at (height + 1) 0 → in_chain < behind
+      later height in_chain other behind here there above below = omega (arith, here, there, above, below)
 
       by_test : (b : Bool) → nat_lt index next ≡ b → index < next
       by_test true e = grind (arith, nat_tests)
@@ -176,5 +176,5 @@ module _ (shelves : List LinkedShelf) (by_height : List BoundedShelf) where
           let here = each-at (λ (one : BoundedShelf). chain_order shelves one.shelf < 65536 * 65536) by_height index within placed in
           absurd (too_high (height_of shelves (bounded_at by_height index).shelf) (chain_order_at shelves by_height index) here high)
         where
-          too_high : (height place : ℕ) → place < 65536 * 65536 → order_at (height + 1) 0 ≤ order_at height place → ⊥
-          too_high height place here high = omega (arith, here, high)
+          too_high : (height in_chain : ℕ) → in_chain < 65536 * 65536 → order_at (height + 1) 0 ≤ order_at height in_chain → ⊥
+          too_high height in_chain here high = omega (arith, here, high)

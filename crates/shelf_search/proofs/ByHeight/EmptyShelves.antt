@@ -45,7 +45,7 @@ lowered records column_width one searchable whole busy =
       stands = searchable.stands;
       within = searchable.within;
       low = searchable.low;
-      place = searchable.place;
+      in_chain = searchable.in_chain;
       bound = Each-weaken (λ item. (item_at records.items item).width < column_width) (λ item. (item_at records.items item).width ≤ column_width - 1) (free_walk records one.shelf).met
           (λ item low. omega (arith, low)) ((whole one.shelf searchable.stands).other busy);
     }

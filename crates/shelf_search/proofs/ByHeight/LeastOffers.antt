@@ -1,4 +1,4 @@
--- What shelves offer, weighed by rank and then by place: the least of it is one in whichever order they stand.
+-- What shelves offer, weighed by rank and then by the chain: the least of it is one in whichever order they stand.
 use Rattle.std.proofs.Common.{◌≡◌, ℕ, ◌+◌, ◌*◌, ◌<◌, ◌≤◌, Bool, true, false, cond, Option, None, Some, List, [], ◌∷◌, map, refl, ap, arith, sym, ◌∙◌}
 use Rattle.std.proofs.lemmas.Bool.Decides.{nat_tests}
 use Rattle.std.specs.Prelude.{◌/◌, ◌||◌, nat_le, nat_lt}
@@ -13,32 +13,32 @@ use Rattle.shelf_model.specs.Listing.{RiseFrom}
 use Rattle.shelf_heights.specs.Private.ByHeight.{order_at, order_of, chain_order}
 use Rattle.shelf_search.specs.Private.Searching.{better, lowest, offered}
 use Rattle.shelf_search.specs.declared.choosing.Candidate.{Candidate}
-use Rattle.shelf_heights.proofs.ByHeight.PlacesRise.{LiesWithin, same-place}
+use Rattle.shelf_heights.proofs.ByHeight.OrdersRise.{LiesWithin, same-in_chain}
 use Rattle.shelf_heights.proofs.ByHeight.RisingNumbers.{of-each, rise-low, rise-same}
 use Rattle.shelf_records.proofs.Recorded.Members.{Each-member}
 use Rattle.shelf_search.proofs.Searched.SearchSteps.{Offers, offers-parts}
 
--- how a candidate weighs: by its rank, and then by the place of its shelf
+-- how a candidate weighs: by its rank, and then by the order of its shelf in the chain
 abbrev pub weight : List LinkedShelf → Candidate → ℕ
 weight shelves candidate = order_at candidate.rank (chain_order shelves candidate.shelf)
 
 -- what is known of what a shelf offers
 pub record IsOffer (shelves : List LinkedShelf) (shelf : ℕ) (candidate : Candidate) : Type 0 where
   pub own : candidate.shelf ≡ shelf
-  pub place : chain_order shelves candidate.shelf < 65536 * 65536
+  pub in_chain : chain_order shelves candidate.shelf < 65536 * 65536
   pub above : order_of shelves shelf ≤ weight shelves candidate
   pub good : candidate.rank < bad_fit_rank → candidate.rank ≡ height_of shelves shelf
   pub most : candidate.rank ≤ bad_fit_rank
 
 -- a rank is the height, or that of a bad fit
-rank-is : (b : Bool) (height place rank : ℕ) → height < 65536 → rank ≡ cond b height bad_fit_rank
-    → (order_at height place ≤ order_at rank place) × (rank < bad_fit_rank → rank ≡ height) × (rank ≤ bad_fit_rank)
-rank-is true height place rank low is = (omega (arith, is), λ _. is, omega (arith, is, low))
-rank-is false height place rank low is = (omega (arith, is, low), λ below. absurd (omega (arith, is, below)), omega (arith, is))
+rank-is : (b : Bool) (height in_chain rank : ℕ) → height < 65536 → rank ≡ cond b height bad_fit_rank
+    → (order_at height in_chain ≤ order_at rank in_chain) × (rank < bad_fit_rank → rank ≡ height) × (rank ≤ bad_fit_rank)
+rank-is true height in_chain rank low is = (omega (arith, is), λ _. is, omega (arith, is, low))
+rank-is false height in_chain rank low is = (omega (arith, is, low), λ below. absurd (omega (arith, is, below)), omega (arith, is))
 
 -- of two candidates the one that weighs no more ranks no higher
-lower-rank : (rank other place second : ℕ) → second < 65536 * 65536 → order_at rank place ≤ order_at other second → rank ≤ other
-lower-rank rank other place second low less = omega arith
+lower-rank : (rank other in_chain second : ℕ) → second < 65536 * 65536 → order_at rank in_chain ≤ order_at other second → rank ≤ other
+lower-rank rank other in_chain second low less = omega arith
 
 module _ (frame : Frame) (records : Records) (width height : ℕ) where
   -- what is known of what one of these shelves offers
@@ -46,11 +46,11 @@ module _ (frame : Frame) (records : Records) (width height : ℕ) where
   offer-is shelf candidate within offer =
       let parts : Offers records width height shelf candidate = offers-parts records width height shelf candidate offer in
       let is = rank-is (is_empty_at records.shelves shelf || nat_le (height_of records.shelves shelf) (height + height / 2)) (height_of records.shelves shelf) (chain_order records.shelves shelf) candidate.rank within.low parts.rank in
-      let places : chain_order records.shelves candidate.shelf ≡ chain_order records.shelves shelf = ap (chain_order records.shelves) parts.shelf_is in
+      let in_chain : chain_order records.shelves candidate.shelf ≡ chain_order records.shelves shelf = ap (chain_order records.shelves) parts.shelf_is in
       record {
         own = parts.shelf_is;
-        place = omega (arith, places, within.along, within.across);
-        above = omega (arith, places, is.0);
+        in_chain = omega (arith, in_chain, within.along, within.across);
+        above = omega (arith, in_chain, is.0);
         good = is.1;
         most = is.2;
       }
@@ -90,7 +90,7 @@ module _ (frame : Frame) (records : Records) (width height : ℕ) where
   pub none-less : (shelf : ℕ) (candidate : Candidate) → offered records width height shelf ≡ None → NoLess candidate shelf
   none-less shelf candidate none other offers = absurd (cc)
 
-  -- the outcome is one, in whichever order shelves stand whose places rise in one
+  -- the outcome is one, in whichever order shelves stand whose orders rise in one
   pub outcome-same : (from : ℕ) (shelves others : List ℕ) (o p : Option Candidate) → AllByRecursion (LiesWithin frame records.shelves) shelves
       → RiseFrom from (map (chain_order records.shelves) shelves) → ((k : ℕ) → times k others ≡ times k shelves)
       → IsOutcome shelves o → IsOutcome others p → o ≡ p
@@ -115,7 +115,7 @@ module _ (frame : Frame) (records : Records) (width height : ℕ) where
       let more : weight records.shelves second ≤ weight records.shelves candidate = other.least candidate.shelf (omega (arith, one.stands, same candidate.shelf)) candidate one.offer in
       let shelf : candidate.shelf ≡ second.shelf =
       rise-same (chain_order records.shelves) from shelves rise candidate.shelf second.shelf one.stands stands
-      (same-place candidate.rank second.rank (chain_order records.shelves candidate.shelf) (chain_order records.shelves second.shelf) here.place there.place (omega (arith, less, more))) in
+      (same-in_chain candidate.rank second.rank (chain_order records.shelves candidate.shelf) (chain_order records.shelves second.shelf) here.in_chain there.in_chain (omega (arith, less, more))) in
       sym one.offer ∙ ap (offered records width height) shelf ∙ other.offer
 
   -- one more shelf in front, against the outcome of those after it
@@ -138,7 +138,7 @@ module _ (frame : Frame) (records : Records) (width height : ℕ) where
       no_less ranks k stands other offers =
           let there : IsOffer records.shelves k other = offer-is k other (Each-member (LiesWithin frame records.shelves) shelves k within.1 stands) offers in
           let above : later.rank ≤ other.rank =
-          lower-rank later.rank other.rank (chain_order records.shelves later.shelf) (chain_order records.shelves other.shelf) there.place (least.least k stands other offers) in
+          lower-rank later.rank other.rank (chain_order records.shelves later.shelf) (chain_order records.shelves other.shelf) there.in_chain (least.least k stands other offers) in
           let rises : chain_order records.shelves shelf + 1 ≤ chain_order records.shelves k = rise-low (chain_order records.shelves) (chain_order records.shelves shelf + 1) shelves rise k stands in
           omega (arith, ranks, above, rises, ap (chain_order records.shelves) own.own, ap (chain_order records.shelves) there.own)
 
@@ -149,10 +149,10 @@ module _ (frame : Frame) (records : Records) (width height : ℕ) where
           (λ other offers.
           let same : first ≡ other = cc in
           let weighs : weight records.shelves first ≡ weight records.shelves other = ap (weight records.shelves) same in
-          omega (arith, less, next.place, weighs)) least
+          omega (arith, less, next.in_chain, weighs)) least
       by_test false e = least-first shelf shelves first own.own offer (no_less (grind (arith, nat_tests)))
 
-  -- the first of least rank weighs least, where places rise
+  -- the first of least rank weighs least, where orders rise
   pub lowest-outcome : (from : ℕ) (shelves : List ℕ) → AllByRecursion (LiesWithin frame records.shelves) shelves → RiseFrom from (map (chain_order records.shelves) shelves)
       → IsOutcome shelves (lowest (map (offered records width height) shelves))
   lowest-outcome from [] within rise = λ k stands. absurd (omega (arith, stands))

@@ -123,7 +123,7 @@ too-tall-from records height index by_height order searchable within low bad =
     each-tall [] searchable after = tt
     each-tall (one ∷ others) searchable after =
         let here : height + height / 2 + 1 ≤ height_of records.shelves (bounded_at by_height index).shelf = not-good records height (bounded_at by_height index).shelf low bad in
-        (omega (arith, here, searchable.0.place, after.0), each-tall others searchable.1 after.1)
+        (omega (arith, here, searchable.0.in_chain, after.0), each-tall others searchable.1 after.1)
 
 -- behind the shelves that have no place, the same is found
 pub rest-same : (records : Records) (width height start rest : ℕ) (numbers : List ℕ) → IsFirstGood records width height start numbers (Rest rest)

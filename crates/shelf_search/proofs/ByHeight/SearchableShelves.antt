@@ -16,7 +16,7 @@ use Rattle.shelf_model.specs.State.{Item, is_free, is_one_free, total_width}
 use Rattle.shelf_model.specs.Valid.{IsItem, IsShelf}
 use Rattle.shelf_heights.specs.declared.by_height.BoundedShelf.{BoundedShelf}
 use Rattle.shelf_heights.proofs.ByHeight.FreeBounds.{bound-listed, free-bound, listed, listed-bound}
-use Rattle.shelf_heights.proofs.ByHeight.PlacesRise.{LiesWithin, kept-within}
+use Rattle.shelf_heights.proofs.ByHeight.OrdersRise.{LiesWithin, kept-within}
 use Rattle.shelf_records.proofs.Recorded.Members.{Each-member, Each-times}
 use Rattle.shelf_records.proofs.AllLists.LinkedParts.{shelf-within}
 use Rattle.shelf_records.proofs.Spelled.Witnesses.{Each-unmap}
@@ -59,7 +59,7 @@ module _ (frame : Frame) (records : Records) (kept : AreKept frame records) wher
         stands = stands;
         within = shelf-within records one.shelf (witnesses kept).linked stands;
         low = lies.low;
-        place = omega (arith, lies.along, lies.across);
+        in_chain = omega (arith, lies.along, lies.across);
         bound = bound-listed records.items entry.items entry.free_list (listed frame records kept one.shelf stands) one.widest bound;
       }
 

@@ -66,7 +66,7 @@ fallen records width widest one searchable found =
       stands = searchable.stands;
       within = searchable.within;
       low = searchable.low;
-      place = searchable.place;
+      in_chain = searchable.in_chain;
       bound = bounds-widest records.items (free_walk records one.shelf).met widest (by_first (first_wide records width one.shelf) found);
     }
   where

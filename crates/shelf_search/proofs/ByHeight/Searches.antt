@@ -184,7 +184,7 @@ tall-from records height start probes by_height searchable is =
   where
     each-tall : (ones : List BoundedShelf) → AreSearchable records ones → AllByRecursion (λ (one : BoundedShelf). order_at height 0 ≤ order_of records.shelves one.shelf) ones → AreTall records.shelves height (numbers_by_height ones)
     each-tall [] searchable after = tt
-    each-tall (one ∷ others) searchable after = (omega (arith, searchable.0.place, after.0), each-tall others searchable.1 after.1)
+    each-tall (one ∷ others) searchable after = (omega (arith, searchable.0.in_chain, after.0), each-tall others searchable.1 after.1)
 
 -- those before offer nothing, so the search may start behind them
 pub found-from : (records : Records) (width height start probes : ℕ) (by_height : List BoundedShelf) → IsStart records.shelves by_height (order_at height 0) start probes

@@ -25,13 +25,13 @@ searched records width shelf =
     option_map_or Found (first_wide records width shelf)
     (Widest (widest_of records.items (free_walk records shelf).met))
 
--- a shelf in use, whose height is below the rank of bad fits and whose place below the unit of heights, with a bound on
--- the items of its free list
+-- a shelf in use, whose height is below the rank of bad fits and whose order in the chain below the unit of heights, with
+-- a bound on the items of its free list
 pub record IsSearchable (records : Records) (one : BoundedShelf) : Type 0 where
   pub stands : 1 ≤ times one.shelf (shelf_walk records).met
   pub within : one.shelf < length records.shelves
   pub low : height_of records.shelves one.shelf < bad_fit_rank
-  pub place : chain_order records.shelves one.shelf < 65536 * 65536
+  pub in_chain : chain_order records.shelves one.shelf < 65536 * 65536
   pub bound : AllByRecursion (λ item. (item_at records.items item).width ≤ one.widest)
       (free_walk records one.shelf).met
 
@@ -63,22 +63,22 @@ looked_into records width one =
     option_map_or (λ _. one) (first_wide records width one.shelf)
     (record one { widest = widest_of records.items (free_walk records one.shelf).met })
 
--- the places of these shelves are below the unit of heights
-abbrev pub ArePlaced : List LinkedShelf → List BoundedShelf → Type 0
-ArePlaced shelves by_height =
+-- the orders of these shelves in the chain are below the unit of heights
+abbrev pub AreInChain : List LinkedShelf → List BoundedShelf → Type 0
+AreInChain shelves by_height =
     AllByRecursion (λ (one : BoundedShelf). chain_order shelves one.shelf < 65536 * 65536) by_height
 
 -- where the shelf at a position begins
 abbrev pub chain_order_at : List LinkedShelf → List BoundedShelf → ℕ → ℕ
 chain_order_at shelves by_height index = chain_order shelves (bounded_at by_height index).shelf
 
--- of two positions the one whose shelf has the earlier place
+-- of two positions the one whose shelf is earlier in the chain
 abbrev pub earlier_position : List LinkedShelf → List BoundedShelf → Option ℕ → ℕ → ℕ
 earlier_position shelves by_height None other = other
 earlier_position shelves by_height (Some one) other =
     if nat_lt (chain_order_at shelves by_height one) (chain_order_at shelves by_height other) then one else other
 
--- of the shelves between two positions whose bound is not below a width, the one in the first place
+-- of the shelves between two positions whose bound is not below a width, the earliest in the chain
 pub record IsEarliestWide (shelves : List LinkedShelf) (by_height : List BoundedShelf)
     (start end width index : ℕ) : Type 0 where
   pub after : start ≤ index
@@ -96,7 +96,7 @@ IsEarliest shelves by_height start end width None =
 IsEarliest shelves by_height start end width (Some index) =
     IsEarliestWide shelves by_height start end width index
 
--- a later position, up to which each shelf has a later place than this one
+-- a later position, up to which each shelf is later in the chain than this one
 pub record IsBehind (shelves : List LinkedShelf) (by_height : List BoundedShelf) (index next : ℕ)
     : Type 0 where
   pub after : index < next

@@ -89,7 +89,7 @@ IsFirstGood records width height start shelves (Rest rest) =
     × AllByRecursion (λ shelf. offered records width height shelf ≡ None) (drop start (take rest shelves))
     × AreTooTall records.shelves height (drop rest shelves)
 
--- of two candidates the one whose shelf has the earlier place
+-- of two candidates the one whose shelf is earlier in the chain
 abbrev pub earlier : List LinkedShelf → Option Candidate → Option Candidate → Option Candidate
 earlier shelves None other = other
 earlier shelves (Some one) None = Some one
@@ -98,13 +98,13 @@ earlier shelves (Some one) (Some other) =
     then Some one
     else Some other
 
--- the one whose shelf has the earliest place
+-- the one whose shelf is the earliest in the chain
 abbrev pub earliest : List LinkedShelf → List (Option Candidate) → Option Candidate
 earliest shelves [] = None
 earliest shelves (candidate ∷ candidates) =
     earlier shelves candidate (earliest shelves candidates)
 
--- the first good fit of these shelves; where there is none, what the shelf in the earliest place offers
+-- the first good fit of these shelves; where there is none, what the earliest shelf in the chain offers
 abbrev pub first_by_height : Records → ℕ → ℕ → List ℕ → Option Candidate
 first_by_height records width height shelves =
     option_map_or Some (first_offer (good_offer records width height) shelves)

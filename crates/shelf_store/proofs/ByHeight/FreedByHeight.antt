@@ -45,11 +45,11 @@ frees-by_height atlas around shelf number front back free valid spelled merges s
     let along : (k : ℕ) → along_of two.shelves k ≡ along_of old k = λ k. field_at-kept (λ (x : LinkedShelf). x.x) 0 change one.shelves shelf k (λ x. refl) ∙ (merges.same k).along in
     let across : (k : ℕ) → across_of two.shelves k ≡ across_of old k = λ k. field_at-kept (λ (x : LinkedShelf). x.y) 0 change one.shelves shelf k (λ x. refl) ∙ (merges.same k).across in
     let height : (k : ℕ) → height_of two.shelves k ≡ height_of old k = λ k. field_at-kept (λ (x : LinkedShelf). x.height) 0 change one.shelves shelf k (λ x. refl) ∙ (merges.same k).height in
-    let places : (k : ℕ) → chain_order two.shelves k ≡ chain_order old k = λ k. omega (arith, along k, across k) in
+    let in_chain : (k : ℕ) → chain_order two.shelves k ≡ chain_order old k = λ k. omega (arith, along k, across k) in
     let lengths : SameLengths atlas.records two = emptied-lengths shelf number atlas.records in
     let is : IsEntry atlas.records entry = Each-middle (IsEntry atlas.records) around.before entry around.after spelled.linked.entries in
     let others = map-parts (spelled_shelf new) (spelled_shelf middle) around.before edited (spelled_shelf middle edited) around.after (said ∙ map-append (spelled_shelf middle) around.before (edited ∷ around.after)) in
-    λ notes by_height holds. raised-holds atlas new around.before around.after entry edited (freed_width atlas.records.items number) notes by_height refl lengths.shelves places height
+    λ notes by_height holds. raised-holds atlas new around.before around.after entry edited (freed_width atlas.records.items number) notes by_height refl lengths.shelves in_chain height
     (others.0 ∙ merges.before_same) (others.1 ∙ merges.after_same)
     (λ widest bound wide. subst (λ (s : Shelf). AllByRecursion (IsWithin widest) s.items) (sym merges.returned) (freed-within atlas shelf number front back free widest is valid.apart bound wide))
     holds

@@ -41,7 +41,7 @@ bounds-same atlas new shelf widest other (entry ∷ entries) same less bounds =
 
 -- what an item that became free leaves by height, where the bound of its shelf was raised, unless that has changed
 pub raised-holds : (atlas new : AtlasRecords) (before after : List Entry) (entry edited : Entry) (width : ℕ) (notes : Notes) (by_height : List BoundedShelf) → edited.number ≡ entry.number → length new.records.shelves ≡ length atlas.records.shelves → ((k : ℕ) → chain_order new.records.shelves k ≡ chain_order atlas.records.shelves k) → ((k : ℕ) → height_of new.records.shelves k ≡ height_of atlas.records.shelves k) → map (spelled_shelf new) before ≡ map (spelled_shelf atlas) before → map (spelled_shelf new) after ≡ map (spelled_shelf atlas) after → ((widest : ℕ) → IsBound widest (spelled_shelf atlas entry) → width ≤ widest → IsBound widest (spelled_shelf new edited)) → HoldsButNoted atlas (before ++ entry ∷ after) notes by_height → HoldsButNoted new (before ++ edited ∷ after) notes (raised_unless (is_noted notes entry.number) entry.number width by_height)
-raised-holds atlas new before after entry edited width notes by_height number lengths places heights before_same after_same own holds = by_note (is_noted notes entry.number) refl
+raised-holds atlas new before after entry edited width notes by_height number lengths in_chain heights before_same after_same own holds = by_note (is_noted notes entry.number) refl
   where
     Old : BoundedShelf → Type 0
     Old one = is_noted notes one.shelf ≡ false → AllByRecursion (IsBoundOf atlas one.shelf one.widest) (before ++ entry ∷ after)
@@ -60,7 +60,7 @@ raised-holds atlas new before after entry edited width notes by_height number le
         let is = holds.settled k none in
         record {
           listed = is.listed;
-          place = λ stands. is.place stands ∙ sym (places k);
+          in_chain = λ stands. is.in_chain stands ∙ sym (in_chain k);
           height = λ stands. is.height stands ∙ sym (heights k);
         }
 
@@ -204,7 +204,7 @@ module _ (atlas : AtlasRecords) (records : Records) (before after : List Entry) 
             let listed : is_listed two k ≡ is_listed notes k = ap (λ (s : Standing). s.listed) standing in
             record {
               listed = listed ∙ is.listed ∙ sym (ap (λ (s : Standing). s.in_use) standing);
-              place = λ stands. is.place (sym listed ∙ stands) ∙ omega (arith, same.along, same.across);
+              in_chain = λ stands. is.in_chain (sym listed ∙ stands) ∙ omega (arith, same.along, same.across);
               height = λ stands. is.height (sym listed ∙ stands) ∙ sym same.height;
             };
         bounds = Each-weaken (λ (bounded : BoundedShelf). is_noted notes bounded.shelf ≡ false → AllByRecursion (IsBoundOf atlas bounded.shelf bounded.widest) (before ++ entry ∷ gone ∷ after))

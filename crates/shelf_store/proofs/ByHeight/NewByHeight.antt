@@ -26,7 +26,7 @@ use Rattle.shelf_model.specs.State.{Item, is_free, total_width}
 use Rattle.shelf_model.specs.Valid.{IsShelf}
 use Rattle.shelf_heights.specs.declared.by_height.BoundedShelf.{BoundedShelf}
 use Rattle.shelf_store.proofs.ByHeight.CollectedShelves.{in_use}
-use Rattle.shelf_heights.proofs.ByHeight.PlacesRise.{LiesWithin, kept-within, places-rise, same-place}
+use Rattle.shelf_heights.proofs.ByHeight.OrdersRise.{LiesWithin, kept-within, orders-rise, same-in_chain}
 use Rattle.shelf_heights.proofs.ByHeight.RisingNumbers.{rise-same}
 use Rattle.shelf_records.proofs.Judged.EqualTimes.{length-fewer}
 use Rattle.shelf_model.proofs.Places.ColumnShelves.{columns-le-shelves}
@@ -174,8 +174,8 @@ ordered-by_height frame records by_height kept same sorted widths =
         let there : 1 ≤ times l chain = omega (arith, also, same l) in
         let one : LiesWithin frame records.shelves k = Each-member (LiesWithin frame records.shelves) chain k (kept-within frame records kept) here in
         let other : LiesWithin frame records.shelves l = Each-member (LiesWithin frame records.shelves) chain l (kept-within frame records kept) there in
-        rise-same (chain_order records.shelves) 0 chain (places-rise frame records kept) k l here there
-        (same-place (height_of records.shelves k) (height_of records.shelves l) (chain_order records.shelves k) (chain_order records.shelves l)
+        rise-same (chain_order records.shelves) 0 chain (orders-rise frame records kept) k l here there
+        (same-in_chain (height_of records.shelves k) (height_of records.shelves l) (chain_order records.shelves k) (chain_order records.shelves l)
         (omega (arith, one.along, one.across)) (omega (arith, other.along, other.across)) alike)
 
     low : AllByRecursion (λ n. 0 ≤ order_of records.shelves n) (take 1 (numbers_by_height by_height))

@@ -67,7 +67,7 @@ field-other field other (x ∷ xs) one (suc n) (suc k) differ = field-other fiel
 written-other : (shelves : List LinkedShelf) (n : ℕ) (one : LinkedShelf) (k : ℕ) → k ≢ n → StandsSame shelves (set shelves n one) k
 written-other shelves n one k differ =
     record {
-      place = omega (arith, field-other (λ (s : LinkedShelf). s.x) 0 shelves one n k differ, field-other (λ (s : LinkedShelf). s.y) 0 shelves one n k differ);
+      in_chain = omega (arith, field-other (λ (s : LinkedShelf). s.x) 0 shelves one n k differ, field-other (λ (s : LinkedShelf). s.y) 0 shelves one n k differ);
       height = field-other (λ (s : LinkedShelf). s.height) 0 shelves one n k differ;
     }
 
@@ -81,7 +81,7 @@ field-read field other (x ∷ xs) (suc k) one below read = field-read field othe
 written-own : (kept shelves : List LinkedShelf) (n : ℕ) (one : LinkedShelf) → n < length kept → n < length shelves → one ≡ get_or shelves n one → StandsSame shelves (set kept n one) n
 written-own kept shelves n one below there read =
     record {
-      place = omega (
+      in_chain = omega (
         arith,
         field-own (λ (s : LinkedShelf). s.x) 0 kept one n below,
         field-own (λ (s : LinkedShelf). s.y) 0 kept one n below,
@@ -113,7 +113,7 @@ module _ (frame : Frame) (records : Records) (notes : Notes) (by_height : List B
   pub unnoted-as_listed : (k : ℕ) → is_noted notes k ≡ false → BeginsAsListed records.shelves notes k
   unnoted-as_listed k unnoted =
       let is = holds.settled k unnoted in
-      record { in_use = λ stands. sym is.listed ∙ stands; place = is.place }
+      record { in_use = λ stands. sym is.listed ∙ stands; in_chain = is.in_chain }
 
   -- how often a number stands without a shelf
   times-without : (shelf k : ℕ) → k ≢ shelf → times k (numbers_by_height (taken_out shelf by_height)) ≡ times k (numbers_by_height by_height)
@@ -149,7 +149,7 @@ module _ (frame : Frame) (records : Records) (notes : Notes) (by_height : List B
               let listed : is_listed (unlisted shelf notes) k ≡ is_listed notes k = ap (λ (s : Standing). s.listed) same in
               record {
                 listed = listed ∙ is.listed ∙ sym (ap (λ (s : Standing). s.in_use) same);
-                place = λ stands. is.place (sym listed ∙ stands);
+                in_chain = λ stands. is.in_chain (sym listed ∙ stands);
                 height = λ stands. is.height (sym listed ∙ stands);
               };
           bounds = Each-taken_out (λ (one : BoundedShelf). is_noted notes one.shelf ≡ false → IsBoundIn (bare frame records) (walked_lists records).entries one)
@@ -170,7 +170,7 @@ module _ (frame : Frame) (records : Records) (notes : Notes) (by_height : List B
     pub gone-as_listed : BeginsAsListed records.shelves (unlisted shelf notes) shelf
     gone-as_listed =
         let none : is_listed (unlisted shelf notes) shelf ≡ false = unlisted-so notes shelf known in
-        record { in_use = λ stands. absurd (cc); place = λ stands. absurd (cc) }
+        record { in_use = λ stands. absurd (cc); in_chain = λ stands. absurd (cc) }
 
     pub others-as_listed : (k : ℕ) → BeginsAsListed records.shelves notes k → BeginsAsListed records.shelves (unlisted shelf notes) k
     others-as_listed k is = by_number (k == shelf) refl
@@ -182,7 +182,7 @@ module _ (frame : Frame) (records : Records) (notes : Notes) (by_height : List B
             let same = unlisted-other notes shelf known k other in
             record {
               in_use = λ stands. ap (λ (s : Standing). s.in_use) same ∙ is.in_use (sym (ap (λ (s : Standing). s.listed) same) ∙ stands);
-              place = λ stands. is.place (sym (ap (λ (s : Standing). s.listed) same) ∙ stands);
+              in_chain = λ stands. is.in_chain (sym (ap (λ (s : Standing). s.listed) same) ∙ stands);
             }
 
     -- or is put where its record puts it, where each that is listed is in use and begins where it began
@@ -219,8 +219,8 @@ module _ (frame : Frame) (records : Records) (notes : Notes) (by_height : List B
           (orders-apart frame records after.kept k shelf kept
           (in_use-met k ((as_listed k).in_use (other-listed shelf k stands)))
           (in_use-met shelf in_use)
-          ((other-stands k (other-differs shelf k stands)).place ∙ (as_listed k).place (other-listed shelf k stands))
-          own-stands.place
+          ((other-stands k (other-differs shelf k stands)).in_chain ∙ (as_listed k).in_chain (other-listed shelf k stands))
+          own-stands.in_chain
           (other-differs shelf k stands)))
           others-order
 
@@ -253,7 +253,7 @@ module _ (frame : Frame) (records : Records) (notes : Notes) (by_height : List B
                 let listed : is_listed after k ≡ is_listed notes k = ap (λ (s : Standing). s.listed) same in
                 record {
                   listed = listed ∙ is.listed ∙ sym (ap (λ (s : Standing). s.in_use) same);
-                  place = λ stands. (other-stands k other).place ∙ is.place (sym listed ∙ stands);
+                  in_chain = λ stands. (other-stands k other).in_chain ∙ is.in_chain (sym listed ∙ stands);
                   height = λ stands. (other-stands k other).height ∙ is.height (sym listed ∙ stands);
                 };
             bounds = Each-put_in New after.kept one Others own
@@ -279,20 +279,20 @@ module _ (frame : Frame) (records : Records) (notes : Notes) (by_height : List B
           by_number : (b : Bool) → (k == shelf) ≡ b → BeginsAsListed records.shelves after k
           by_number true e =
               let own : k ≡ shelf = grind arith in
-              rw own (record { in_use = λ stands. listed-in_use notes shelf read known shelf ∙ in_use; place = λ stands. own-stands.place })
+              rw own (record { in_use = λ stands. listed-in_use notes shelf read known shelf ∙ in_use; in_chain = λ stands. own-stands.in_chain })
           by_number false e =
               let other : k ≢ shelf = grind arith in
               let same = listed-other notes shelf read known k other in
               record {
                 in_use = λ stands. ap (λ (s : Standing). s.in_use) same ∙ (as_listed k).in_use (sym (ap (λ (s : Standing). s.listed) same) ∙ stands);
-                place = λ stands. (other-stands k other).place ∙ (as_listed k).place (sym (ap (λ (s : Standing). s.listed) same) ∙ stands);
+                in_chain = λ stands. (other-stands k other).in_chain ∙ (as_listed k).in_chain (sym (ap (λ (s : Standing). s.listed) same) ∙ stands);
               }
 
       pub put-settled : IsSettled records.shelves after shelf
       put-settled =
           record {
             listed = listed-so notes shelf read known ∙ sym (listed-in_use notes shelf read known shelf ∙ in_use);
-            place = λ stands. own-stands.place;
+            in_chain = λ stands. own-stands.in_chain;
             height = λ stands. own-stands.height;
           }
 
@@ -358,7 +358,7 @@ module _ (frame : Frame) (records : Records) (notes : Notes) (by_height : List B
             let listed = forgotten-listed notes shelf left known k in
             record {
               listed = listed ∙ is.listed ∙ sym (forgotten-in_use notes shelf left known k);
-              place = λ stands. is.place (sym listed ∙ stands);
+              in_chain = λ stands. is.in_chain (sym listed ∙ stands);
               height = λ stands. is.height (sym listed ∙ stands);
             }
 
@@ -374,7 +374,7 @@ module _ (frame : Frame) (records : Records) (notes : Notes) (by_height : List B
         let listed = forgotten-listed notes shelf left known k in
         record {
           in_use = λ stands. forgotten-in_use notes shelf left known k ∙ (as_listed k).in_use (sym listed ∙ stands);
-          place = λ stands. (as_listed k).place (sym listed ∙ stands);
+          in_chain = λ stands. (as_listed k).in_chain (sym listed ∙ stands);
         }
 
   -- a shelf out of use is settled, where each that is listed is in use
@@ -390,7 +390,7 @@ module _ (frame : Frame) (records : Records) (notes : Notes) (by_height : List B
     unused-settled =
         record {
           listed = unused-unlisted ∙ sym unused;
-          place = λ stands. absurd (cc (unused-unlisted, stands));
+          in_chain = λ stands. absurd (cc (unused-unlisted, stands));
           height = λ stands. absurd (cc (unused-unlisted, stands));
         }
 
@@ -411,7 +411,7 @@ module _ (frame : Frame) (records : Records) (notes : Notes) (by_height : List B
           rising = (in_order-among notes.kept records.shelves by_height
               (λ k stands. in_use-there k (sym (holds.settled k (unchanged k)).listed ∙ stands-listed k stands))
               (λ k stands. order-stands notes.kept records.shelves k
-              (record { place = sym ((holds.settled k (unchanged k)).place (stands-listed k stands)); height = sym ((holds.settled k (unchanged k)).height (stands-listed k stands)) }))
+              (record { in_chain = sym ((holds.settled k (unchanged k)).in_chain (stands-listed k stands)); height = sym ((holds.settled k (unchanged k)).height (stands-listed k stands)) }))
               holds.order).rising;
           bounds = Each-weaken (λ (one : BoundedShelf). is_noted notes one.shelf ≡ false → IsBoundIn (bare frame records) (walked_lists records).entries one)
               (IsBoundIn (bare frame records) (walked_lists records).entries) by_height (λ one bounds. bounds (unchanged one.shelf)) holds.bounds;
@@ -435,7 +435,7 @@ follows-settled frame records notes by_height kept are follows =
       in_use = λ k. sym (are.once k) ∙ follows.listed k ∙ sym (ap once_where (follows.in_use k));
       settled = λ k. record {
         listed = sym (follows.in_use k);
-        place = λ stands. ap (λ (shelves : List LinkedShelf). chain_order shelves k) follows.kept;
+        in_chain = λ stands. ap (λ (shelves : List LinkedShelf). chain_order shelves k) follows.kept;
         height = λ stands. ap (λ (shelves : List LinkedShelf). height_of shelves k) follows.kept;
       };
       known = omega (arith, follows.known);

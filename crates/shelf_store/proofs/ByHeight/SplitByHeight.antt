@@ -64,7 +64,7 @@ order-settled frame records notes by_height kept are settled =
     let so : (k : ℕ) → 1 ≤ times k (numbers_by_height by_height) → is_listed notes k ≡ true = λ k stands. once-true (is_listed notes k) (omega (arith, stands, listed-once frame records notes by_height k are settled)) in
     in_order-among records.shelves notes.kept by_height
     (λ k stands. settled.within k (so k stands))
-    (λ k stands. ap (λ (h : ℕ). h * (65536 * 65536) + chain_order notes.kept k) ((settled.settled k).height (so k stands)) ∙ ap (λ (place : ℕ). height_of records.shelves k * (65536 * 65536) + place) ((settled.settled k).place (so k stands)))
+    (λ k stands. ap (λ (h : ℕ). h * (65536 * 65536) + chain_order notes.kept k) ((settled.settled k).height (so k stands)) ∙ ap (λ (in_chain : ℕ). height_of records.shelves k * (65536 * 65536) + in_chain) ((settled.settled k).in_chain (so k stands)))
     (by_height-in_order frame records by_height kept are)
 
 -- what holds of a list that follows the records holds but for those that have changed, of which there are none
@@ -102,10 +102,10 @@ entry-stands notes rest any k below = by_test (rest == length notes.standing) re
     by_test true e =
         rw e
         (record {
-          place = omega (arith, field-before (λ (s : LinkedShelf). s.x) 0 notes.kept any k below, field-before (λ (s : LinkedShelf). s.y) 0 notes.kept any k below);
+          in_chain = omega (arith, field-before (λ (s : LinkedShelf). s.x) 0 notes.kept any k below, field-before (λ (s : LinkedShelf). s.y) 0 notes.kept any k below);
           height = field-before (λ (s : LinkedShelf). s.height) 0 notes.kept any k below;
         })
-    by_test false e = rw e (record { place = refl; height = refl })
+    by_test false e = rw e (record { in_chain = refl; height = refl })
 
 -- a shelf was split, by the numbers of the shelves and where they begin
 pub record IsSplitByHeight (frame : Frame) (records new : Records) (notes : Notes) (by_height : List BoundedShelf) (shelf rest : ℕ) (front back : List ℕ) : Type 0 where
@@ -216,9 +216,9 @@ module _ (frame : Frame) (records new : Records) (notes : Notes) (by_height : Li
       let same : StandsSame records.shelves new.shelves k = is.others k (λ e. not-shelf k unnoted (sym e)) (λ e. not-rest k unnoted (sym e)) in
       record {
         listed = listed-same k ∙ before.listed ∙ sym (standing-other k (not-rest k unnoted) (not-shelf k unnoted));
-        place = λ stands.
+        in_chain = λ stands.
             let there : is_listed notes k ≡ true = sym (listed-same k) ∙ stands in
-            (entry-stands one rest any k (listed-within k there)).place ∙ before.place there ∙ sym same.place;
+            (entry-stands one rest any k (listed-within k there)).in_chain ∙ before.in_chain there ∙ sym same.in_chain;
         height = λ stands.
             let there : is_listed notes k ≡ true = sym (listed-same k) ∙ stands in
             (entry-stands one rest any k (listed-within k there)).height ∙ before.height there ∙ sym same.height;

@@ -19,7 +19,7 @@ use Rattle.shelf_model.specs.Choice.{Placement}
 use Rattle.shelf_heights.specs.Private.ByHeight.{order_of, chain_order}
 use Rattle.shelf_records.specs.Private.Kept.{AreKept}
 use Rattle.shelf_store.specs.Private.PlacementTaken.{placement_taken, shelf_split_for, with_item_given, with_rest_written}
-use Rattle.shelf_heights.proofs.ByHeight.PlacesRise.{LiesWithin, kept-within, places-rise}
+use Rattle.shelf_heights.proofs.ByHeight.OrdersRise.{LiesWithin, kept-within, orders-rise}
 use Rattle.shelf_heights.proofs.ByHeight.RisingNumbers.{rise-same}
 use Rattle.shelf_records.proofs.Recorded.Members.{Each-member}
 use Rattle.shelf_store.proofs.Spelled.GivenItems.{front-shelves, given-shelves}
@@ -30,20 +30,20 @@ use Rattle.shelf_store.proofs.Spelled.SpelledUses.{same-shelf, shelves-used}
 
 -- a shelf begins where it began, and is as tall
 pub record StandsSame (shelves new : List LinkedShelf) (k : ℕ) : Type 0 where
-  pub place : chain_order new k ≡ chain_order shelves k
+  pub in_chain : chain_order new k ≡ chain_order shelves k
   pub height : height_of new k ≡ height_of shelves k
 
 -- so does one that says the same
 pub stands-same : (shelves new : List LinkedShelf) (k : ℕ) → SameShelf shelves new k → StandsSame shelves new k
-stands-same shelves new k same = record { place = omega (arith, same.along, same.across); height = same.height }
+stands-same shelves new k same = record { in_chain = omega (arith, same.along, same.across); height = same.height }
 
 -- one change after another
 pub stands-then : (old middle new : List LinkedShelf) (k : ℕ) → StandsSame old middle k → StandsSame middle new k → StandsSame old new k
-stands-then old middle new k one two = record { place = two.place ∙ one.place; height = two.height ∙ one.height }
+stands-then old middle new k one two = record { in_chain = two.in_chain ∙ one.in_chain; height = two.height ∙ one.height }
 
 -- it stands where it stood in the order
 pub order-stands : (shelves new : List LinkedShelf) (k : ℕ) → StandsSame shelves new k → order_of new k ≡ order_of shelves k
-order-stands shelves new k same = ap (λ (h : ℕ). h * (65536 * 65536) + chain_order new k) same.height ∙ ap (λ (place : ℕ). height_of shelves k * (65536 * 65536) + place) same.place
+order-stands shelves new k same = ap (λ (h : ℕ). h * (65536 * 65536) + chain_order new k) same.height ∙ ap (λ (in_chain : ℕ). height_of shelves k * (65536 * 65536) + in_chain) same.in_chain
 
 -- shelves say the same once records were put to use
 pub same-used : (of_shelf of_item : Bool) (records : Records) (k : ℕ) → SameShelf records.shelves (rests_used of_shelf of_item records).shelves k
@@ -110,7 +110,7 @@ stands-taken column_width found records k =
     let new : List LinkedShelf = changed_by (Some found.shelf) marked given.shelves in
     stands-then split.shelves given.shelves new k (stands-same split.shelves given.shelves k same)
     (record {
-      place = omega (arith, field_at-kept (λ (x : LinkedShelf). x.x) 0 marked given.shelves found.shelf k (λ x. refl), field_at-kept (λ (x : LinkedShelf). x.y) 0 marked given.shelves found.shelf k (λ x. refl));
+      in_chain = omega (arith, field_at-kept (λ (x : LinkedShelf). x.x) 0 marked given.shelves found.shelf k (λ x. refl), field_at-kept (λ (x : LinkedShelf). x.y) 0 marked given.shelves found.shelf k (λ x. refl));
       height = field_at-kept (λ (x : LinkedShelf). x.height) 0 marked given.shelves found.shelf k (λ x. refl);
     })
 
@@ -123,23 +123,23 @@ length-taken column_width found records =
     length-changed_by (λ (here : LinkedShelf). record here { is_empty = false }) (with_item_given found rest split).shelves (Some found.shelf)
     ∙ length-given found rest split
 
--- two of one order begin at one place, where these are below a bound
-one-place : (height place high other : ℕ) → place < 65536 * 65536 → other < 65536 * 65536 → height * (65536 * 65536) + place ≡ high * (65536 * 65536) + other → place ≡ other
-one-place height place high other below above same = omega (arith, below, above, same)
+-- two of one order stand at one in the chain, where these are below a bound
+one-in_chain : (height in_chain high other : ℕ) → in_chain < 65536 * 65536 → other < 65536 * 65536 → height * (65536 * 65536) + in_chain ≡ high * (65536 * 65536) + other → in_chain ≡ other
+one-in_chain height in_chain high other below above same = omega (arith, below, above, same)
 
--- a place is below the bound
-place-low : (along across : ℕ) → along < 65536 → across < 65536 → along * 65536 + across < 65536 * 65536
-place-low along across low short = omega (arith, low, short)
+-- an order in the chain is below the bound
+in_chain-low : (along across : ℕ) → along < 65536 → across < 65536 → along * 65536 + across < 65536 * 65536
+in_chain-low along across low short = omega (arith, low, short)
 
 -- no two shelves in use of kept records share a place in the order, also among records that keep the places alone
 pub orders-apart : (frame : Frame) (records : Records) (kept_as : List LinkedShelf) (k other : ℕ) → AreKept frame records → 1 ≤ times k (shelf_walk records).met → 1 ≤ times other (shelf_walk records).met
     → chain_order kept_as k ≡ chain_order records.shelves k → chain_order kept_as other ≡ chain_order records.shelves other
     → k ≢ other → order_of kept_as k ≢ order_of kept_as other
-orders-apart frame records kept_as k other kept stands other_stands place other_place differ same =
+orders-apart frame records kept_as k other kept stands other_stands in_chain other_in_chain differ same =
     let here : LiesWithin frame records.shelves k = Each-member (LiesWithin frame records.shelves) (shelf_walk records).met k (kept-within frame records kept) stands in
     let there : LiesWithin frame records.shelves other = Each-member (LiesWithin frame records.shelves) (shelf_walk records).met other (kept-within frame records kept) other_stands in
     let one : chain_order kept_as k ≡ chain_order kept_as other =
-    one-place (height_of kept_as k) (chain_order kept_as k) (height_of kept_as other) (chain_order kept_as other)
-    (omega (arith, place, place-low (along_of records.shelves k) (across_of records.shelves k) here.along here.across))
-    (omega (arith, other_place, place-low (along_of records.shelves other) (across_of records.shelves other) there.along there.across)) same in
-    differ (rise-same (chain_order records.shelves) 0 (shelf_walk records).met (places-rise frame records kept) k other stands other_stands (sym place ∙ one ∙ other_place))
+    one-in_chain (height_of kept_as k) (chain_order kept_as k) (height_of kept_as other) (chain_order kept_as other)
+    (omega (arith, in_chain, in_chain-low (along_of records.shelves k) (across_of records.shelves k) here.along here.across))
+    (omega (arith, other_in_chain, in_chain-low (along_of records.shelves other) (across_of records.shelves other) there.along there.across)) same in
+    differ (rise-same (chain_order records.shelves) 0 (shelf_walk records).met (orders-rise frame records kept) k other stands other_stands (sym in_chain ∙ one ∙ other_in_chain))

@@ -41,7 +41,7 @@ unsplit-holds frame records new notes by_height shelf front back fronts backs wh
       order = holds.order;
       settled = λ k unnoted.
           let is = holds.settled k unnoted in
-          record { listed = is.listed; place = λ there. is.place there ∙ sym (stands k).place; height = λ there. is.height there ∙ sym (stands k).height };
+          record { listed = is.listed; in_chain = λ there. is.in_chain there ∙ sym (stands k).in_chain; height = λ there. is.height there ∙ sym (stands k).height };
       bounds = Each-weaken (λ one. is_noted notes one.shelf ≡ false → Old one) (λ one. is_noted notes one.shelf ≡ false → New one) by_height (λ one bounds unnoted. after one (bounds unnoted)) holds.bounds;
       known = omega (arith, few, holds.known);
       few = (witnesses new_kept).counts.shelves.1;

@@ -85,7 +85,7 @@ pub kept-area : (frame : Frame) (records : Records) (id number : ℕ) → AreKep
 kept-area frame records id number kept named =
     by_place (position (is_allocated_in id) (state_of frame records).shelves) refl (kept-allocated frame records id kept ∙ ap is_some named)
   where
-    by_place : (place : Option ℕ) → position (is_allocated_in id) (state_of frame records).shelves ≡ place → is_allocated (state_of frame records) id ≡ true
+    by_place : (index : Option ℕ) → position (is_allocated_in id) (state_of frame records).shelves ≡ index → is_allocated (state_of frame records) id ≡ true
         → allocated_space (returned (state_of frame records) id) + recorded_area records number ≡ allocated_space (state_of frame records)
     by_place None e is_there =
         let not_there : is_allocated (state_of frame records) id ≡ false = not_found-not_allocated (state_of frame records) id e in absurd (cc)

@@ -96,8 +96,8 @@ placement-kept frame records size placement found kept h locates =
     let is : IsLocated frame records placement shelf number = is_ready.is in
     let entry : Entry = entry_of shelf (is.front ++ number ∷ is.back) (is.free_front ++ number ∷ is.free_back) in
     let entries : List Entry = is.before ++ entry ∷ is.after in
-    let place : Placement = record placement { shelf = shelf; item = number } in
-    let new : Records = placement_taken frame.column_width place records in
+    let numbered : Placement = record placement { shelf = shelf; item = number } in
+    let new : Records = placement_taken frame.column_width numbered records in
     let last : AtlasRecords = with_records atlas new in
     let flags : AllByRecursion (HasFlag atlas) entries =
     subst (AllByRecursion (HasFlag atlas)) is.entries (Each-weaken (HasFlag (atlas_of frame records)) (HasFlag atlas) lists.entries (λ entry flag. flag) (witnesses kept).flags) in
@@ -156,7 +156,7 @@ placement-kept frame records size placement found kept h locates =
     } in
     let done = kept-of frame new takes.lists new_state witnessed in
     let met : walked_lists new ≡ takes.lists = linked-lists new takes.lists (linked-walks new takes.lists witnessed.counts.shelves.1 witnessed.counts.items.1 witnessed.linked) in
-    let spells : SpellsTaken frame records new placement place =
+    let spells : SpellsTaken frame records new placement numbered =
     record {
       front = shelf_numbers is.before;
       back = shelf_numbers is.after;
@@ -174,7 +174,7 @@ placement-kept frame records size placement found kept h locates =
       new_numbers = ap (λ (l : Lists). shelf_numbers l.entries) met ∙ takes.numbers;
       new_shelves = ap (λ (l : Lists). map (spelled_shelf last) l.entries) met ∙ takes.shelves;
     } in
-    let same : place ≡ found = ap (λ n. record placement { shelf = n; item = number }) (sym locates.shelf) ∙ sym locates.same in
+    let same : numbered ≡ found = ap (λ n. record placement { shelf = n; item = number }) (sym locates.shelf) ∙ sym locates.same in
     subst (KeepsTaken frame records placement) same
     (record {
       state = done.0;

@@ -112,7 +112,7 @@ can-take frame records size placement found kept h locates =
     let numbers : List ℕ = is.front ++ number ∷ is.back in
     let entry : Entry = entry_of shelf numbers (is.free_front ++ number ∷ is.free_back) in
     let entries : List Entry = is.before ++ entry ∷ is.after in
-    let place : Placement = record placement { shelf = shelf; item = number } in
+    let numbered : Placement = record placement { shelf = shelf; item = number } in
     let used : Records = rests_used of_shelf of_item records in
     let rests : AreRests of_shelf of_item atlas entries =
     are-rests of_shelf of_item atlas (lists_of entries lists.unused_items lists.unused_shelves) (witnesses kept).counts.shelves.1 is_ready.room (is_ready.spelled atlas.allocated_space) in
@@ -121,14 +121,14 @@ can-take frame records size placement found kept h locates =
     let height : placement.height ≤ height_of records.shelves shelf = fits placement.height (height_of records.shelves shelf) of_shelf is.takes.shorter is.takes.full in
     let rest : List Shelf = if of_shelf then empty_shelf frame (along_of records.shelves shelf / frame.column_width) (height_of records.shelves shelf - placement.height) ∷ [] else [] in
     let Split : Option ℕ → Option ℕ → Type 0 = λ a b.
-    HasShelfSplit atlas (with_shelf_rest frame.column_width place a b used) (around_of is.before is.after rests.unused_items rests.unused_shelves) (added_where of_shelf rests.shelf rests.shelf_item) entry (list_where of_item rests.item) placement.height rest in
+    HasShelfSplit atlas (with_shelf_rest frame.column_width numbered a b used) (around_of is.before is.after rests.unused_items rests.unused_shelves) (added_where of_shelf rests.shelf rests.shelf_item) entry (list_where of_item rests.item) placement.height rest in
     let one : Split (link_where of_shelf rests.shelf) (link_where of_shelf rests.shelf_item) =
     split-where of_shelf atlas used (around_of is.before is.after rests.unused_items rests.unused_shelves) entry placement number rests.shelf rests.shelf_item (list_where of_item rests.item) (λ e. height) is.takes.full rests.used in
     let two : Split (number_used of_shelf records.unused_shelves records.shelves) (link_where of_shelf rests.shelf_item) =
     subst (λ (o : Option ℕ). Split o (link_where of_shelf rests.shelf_item)) (sym rests.shelf_is) one in
     let is_split : Split (number_used of_shelf records.unused_shelves records.shelves) (number_used of_shelf records.unused_items records.items) =
     subst (λ (o : Option ℕ). Split (number_used of_shelf records.unused_shelves records.shelves) o) (sym rests.shelf_item_is) two in
-    let split_records : Records = with_shelf_rest frame.column_width place (number_used of_shelf records.unused_shelves records.shelves) (number_used of_shelf records.unused_items records.items) used in
+    let split_records : Records = with_shelf_rest frame.column_width numbered (number_used of_shelf records.unused_shelves records.shelves) (number_used of_shelf records.unused_items records.items) used in
     let added : List Entry = added_where of_shelf rests.shelf rests.shelf_item in
     let apart_split = linked-apart (around_of is.before (added ++ is.after) rests.unused_items rests.unused_shelves) entry is_split.spelled.linked in
     let stands : 1 ≤ times number numbers = omega (arith, times-append number is.front (number ∷ is.back), times-here number is.back) in
@@ -151,7 +151,7 @@ can-take frame records size placement found kept h locates =
     (omega (arith, loose-count of_shelf of_item rests.shelf_item rests.item, (placement_of-placed state size placement h).room)) (witnesses kept).counts.items.1 rests.used.made in
     let ends = placed-within state size placement (witnesses kept).valid h in
     let used_shelf = rests.used.shelves shelf in
-    let done : CanTakeFrom frame.column_width place records =
+    let done : CanTakeFrom frame.column_width numbered records =
     record {
       item = is_ready.within;
       small = omega (arith, is_ready.shelf_within, (witnesses kept).counts.shelves.1);
@@ -177,8 +177,8 @@ can-take frame records size placement found kept h locates =
       splits_item =
           record {
             item = apart_split.within number stands;
-            few = omega (arith, split-length frame.column_width place (number_used of_shelf records.unused_shelves records.shelves) (number_used of_shelf records.unused_items records.items) used, few_items);
-            right = omega (arith, read-record (λ (x : LinkedItem). x.x) (item_record [] number) split_records.items number, same.place, is.item.along, ends.right);
+            few = omega (arith, split-length frame.column_width numbered (number_used of_shelf records.unused_shelves records.shelves) (number_used of_shelf records.unused_items records.items) used, few_items);
+            right = omega (arith, read-record (λ (x : LinkedItem). x.x) (item_record [] number) split_records.items number, same.numbered, is.item.along, ends.right);
             narrower = omega (arith, width-read split_records.items number number, ap (λ (i : Item). i.width) same.item, fits placement.width (item_at records.items number).width of_item is.item.split is.item.whole);
           };
       there =
@@ -189,5 +189,5 @@ can-take frame records size placement found kept h locates =
             for_rest = subst (λ (o : Option ℕ). IfSome o (λ number. number < length split_records.items)) (sym rests.item_is) (wanted-there of_item rests.item (length split_records.items) apart_split.loose_within);
           };
     } in
-    let equal : place ≡ found = ap (λ n. record placement { shelf = n; item = number }) (sym locates.shelf) ∙ sym locates.same in
+    let equal : numbered ≡ found = ap (λ n. record placement { shelf = n; item = number }) (sym locates.shelf) ∙ sym locates.same in
     subst (λ (p : Placement). CanTakeFrom frame.column_width p records) equal done

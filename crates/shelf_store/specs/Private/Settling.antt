@@ -26,7 +26,7 @@ pub record Follows (shelves : List LinkedShelf) (by_height : List BoundedShelf) 
 -- a shelf is listed if it is in use, and then where its record puts it
 pub record IsSettled (shelves : List LinkedShelf) (notes : Notes) (shelf : ℕ) : Type 0 where
   pub listed : is_listed notes shelf ≡ is_in_use notes shelf
-  pub place : is_listed notes shelf ≡ true → chain_order notes.kept shelf ≡ chain_order shelves shelf
+  pub in_chain : is_listed notes shelf ≡ true → chain_order notes.kept shelf ≡ chain_order shelves shelf
   pub height : is_listed notes shelf ≡ true → height_of notes.kept shelf ≡ height_of shelves shelf
 
 -- a width that none of the free items of a shelf passes, whichever of the entries it is
@@ -50,8 +50,8 @@ bounded_anew frame records shelf =
       shelf = shelf;
     }
 
--- the list has the shelves in use in the order of their heights and places, each with a bound, but for those that have
--- changed since it followed them
+-- the list has the shelves in use in the order of their heights and of the chain, each with a bound, but for those that
+-- have changed since it followed them
 pub record HoldsButNoted (atlas : AtlasRecords) (entries : List Entry) (notes : Notes) (by_height : List BoundedShelf)
     : Type 0 where
   pub listed : (k : ℕ) → times k (numbers_by_height by_height) ≡ once_where (is_listed notes k)
@@ -78,7 +78,7 @@ pub record AreSettled (records : Records) (notes : Notes) : Type 0 where
 -- a listed shelf is in use, and begins where it began when the list followed it
 pub record BeginsAsListed (shelves : List LinkedShelf) (notes : Notes) (shelf : ℕ) : Type 0 where
   pub in_use : is_listed notes shelf ≡ true → is_in_use notes shelf ≡ true
-  pub place : is_listed notes shelf ≡ true → chain_order notes.kept shelf ≡ chain_order shelves shelf
+  pub in_chain : is_listed notes shelf ≡ true → chain_order notes.kept shelf ≡ chain_order shelves shelf
 
 -- each is
 abbrev pub BeginAsListed : List LinkedShelf → Notes → Type 0

@@ -29,7 +29,7 @@ unreachable-requires c =
     let within : c.in-Some.number < length items = omega (arith, c.in-Some.ensures.within, ap length c.deref.ensures.value) in
     let here : slice_get items c.in-Some.number ≡ Some c.index_mut.result.now =
     slice_get_read items (length items) c.in-Some.number c.index_mut.result.now refl within c.index_mut.ensures.value in
-    let fits : has_place c.args.size c.index_mut.result.now ≡ true = rw (c.deref.ensures.value, here) at c.in-Some.ensures.place in
+    let fits : has_place c.args.size c.index_mut.result.now ≡ true = rw (c.deref.ensures.value, here) at c.in-Some.ensures.fits in
     let refused = rw c.in_default-2.is at c.in_ok-allocation.ensures.refused in
     let no : false ≡ true = sym (ap is_some refused) ∙ fits in
     cc

@@ -8,7 +8,7 @@ use Rattle.atlas_pages.specs.declared.choosing.Candidate.{Candidate}
 use Rattle.atlas_pages.specs.declared.options.PageChoice.TheVariants.{FullestFirst}
 use Rattle.atlas_pages.specs.Choosing.{page_order}
 use Rattle.atlas_pages.specs.Private.Fullest.{found_at, found_of}
-use Rattle.atlas_pages.proofs.Fullest.{best-all, best-step, chosen-place, chosen-within}
+use Rattle.atlas_pages.proofs.Fullest.{best-all, best-step, chosen-fits, chosen-within}
 use Rattle.atlas_pages.proofs.choosing.fullest_with_place.Goals as goal
 
 pub fuller-best-requires : goal.fuller-best-requires
@@ -34,8 +34,8 @@ returns-clause-chosen c =
 pub returns-clause-within : goal.returns-clause-within
 returns-clause-within c = chosen-within c.args.size c.args.pages.now c.in-Some.candidate.number (sym (returns-clause-chosen c))
 
-pub returns-clause-place : goal.returns-clause-place
-returns-clause-place c = chosen-place c.args.size c.args.pages.now c.in-Some.candidate.number (sym (returns-clause-chosen c))
+pub returns-clause-fits : goal.returns-clause-fits
+returns-clause-fits c = chosen-fits c.args.size c.args.pages.now c.in-Some.candidate.number (sym (returns-clause-chosen c))
 
 pub returns-in_default-clause-chosen : goal.returns-in_default-clause-chosen
 returns-in_default-clause-chosen c =

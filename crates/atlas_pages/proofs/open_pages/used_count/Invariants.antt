@@ -1,5 +1,5 @@
 use Rattle.std.proofs.Common.{◌≡◌, take}
-use Rattle.atlas_pages.specs.Places.{used_pages}
+use Rattle.atlas_pages.specs.Allocated.{used_pages}
 use Rattle.atlas_pages.proofs.open_pages.used_count.Given as goal
 
 abbrev pub invariant-loop-number : goal.invariant-loop-number

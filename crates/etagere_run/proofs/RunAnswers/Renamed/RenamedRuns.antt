@@ -164,12 +164,12 @@ allocated-alike position size ones others one other new another reply answer (So
     })
 
 -- what was given back
-returned-alike : (position place : ℕ) (ones others : List Entry) (one other new another : AtlasState) (reply answer : Reply) (o : Option Allocation)
+returned-alike : (position earlier : ℕ) (ones others : List Entry) (one other new another : AtlasState) (reply answer : Reply) (o : Option Allocation)
     (alike : AreAlike ones others one other) → IsReturned one reply new o → IsReturned other answer another (option_map (renamed_allocation alike.name) o)
-    → AnswerAlike position (Return place) reply answer ones others new another
-returned-alike position place ones others one other new another reply answer None alike (reply_is, new_is) (answer_is, another_is) =
+    → AnswerAlike position (Return earlier) reply answer ones others new another
+returned-alike position earlier ones others one other new another reply answer None alike (reply_is, new_is) (answer_is, another_is) =
     rw (reply_is, answer_is, new_is, another_is) (record { same = refl; alike = alike })
-returned-alike position place ones others one other new another reply answer (Some allocation) alike (reply_is, new_is) (answer_is, another_is) =
+returned-alike position earlier ones others one other new another reply answer (Some allocation) alike (reply_is, new_is) (answer_is, another_is) =
     rw (reply_is, answer_is, new_is, another_is)
     (record {
       same = refl;
@@ -178,17 +178,17 @@ returned-alike position place ones others one other new another reply answer (So
             name = alike.name;
             apart = alike.apart;
             state = ap (λ (s : AtlasState). returned s (alike.name allocation.id)) alike.state ∙ sym (returned-renamed alike.name alike.apart one allocation.id);
-            live = ap (without place) alike.live ∙ without-renamed alike.name place ones;
+            live = ap (without earlier) alike.live ∙ without-renamed alike.name earlier ones;
           };
     })
 
 -- what was looked up
-shown-alike : (position place : ℕ) (ones others : List Entry) (one other new another : AtlasState) (reply answer : Reply) (o : Option Allocation)
+shown-alike : (position earlier : ℕ) (ones others : List Entry) (one other new another : AtlasState) (reply answer : Reply) (o : Option Allocation)
     (alike : AreAlike ones others one other) → IsShown one reply new o → IsShown other answer another (option_map (renamed_allocation alike.name) o)
-    → AnswerAlike position (Look place) reply answer ones others new another
-shown-alike position place ones others one other new another reply answer None alike (reply_is, new_is) (answer_is, another_is) =
+    → AnswerAlike position (Look earlier) reply answer ones others new another
+shown-alike position earlier ones others one other new another reply answer None alike (reply_is, new_is) (answer_is, another_is) =
     rw (reply_is, answer_is, new_is, another_is) (record { same = refl; alike = alike })
-shown-alike position place ones others one other new another reply answer (Some allocation) alike (reply_is, new_is) (answer_is, another_is) =
+shown-alike position earlier ones others one other new another reply answer (Some allocation) alike (reply_is, new_is) (answer_is, another_is) =
     rw (reply_is, answer_is, new_is, another_is) (record { same = refl; alike = alike })
 
 -- a growth
@@ -231,18 +231,18 @@ answered-alike position ones others one other new another (Allocate size) reply 
     allocated-alike position size ones others one other new another reply answer (placement_of one size) tied alike
     (is-allocated ones one size reply new step memory)
     (subst (IsAllocated other answer another) same (is-allocated others other size answer another other_step room))
-answered-alike position ones others one other new another (Return place) reply answer tied alike memory room step other_step =
-    let same : allocation_at place others ≡ option_map (renamed_allocation alike.name) (allocation_at place ones) =
-    ap (allocation_at place) alike.live ∙ live-renamed alike.name place ones in
-    returned-alike position place ones others one other new another reply answer (allocation_at place ones) alike
-    (is-returned ones one place reply new step)
-    (subst (IsReturned other answer another) same (is-returned others other place answer another other_step))
-answered-alike position ones others one other new another (Look place) reply answer tied alike memory room step other_step =
-    let same : allocation_at place others ≡ option_map (renamed_allocation alike.name) (allocation_at place ones) =
-    ap (allocation_at place) alike.live ∙ live-renamed alike.name place ones in
-    shown-alike position place ones others one other new another reply answer (allocation_at place ones) alike
-    (is-shown ones one place reply new step)
-    (subst (IsShown other answer another) same (is-shown others other place answer another other_step))
+answered-alike position ones others one other new another (Return earlier) reply answer tied alike memory room step other_step =
+    let same : allocation_at earlier others ≡ option_map (renamed_allocation alike.name) (allocation_at earlier ones) =
+    ap (allocation_at earlier) alike.live ∙ live-renamed alike.name earlier ones in
+    returned-alike position earlier ones others one other new another reply answer (allocation_at earlier ones) alike
+    (is-returned ones one earlier reply new step)
+    (subst (IsReturned other answer another) same (is-returned others other earlier answer another other_step))
+answered-alike position ones others one other new another (Look earlier) reply answer tied alike memory room step other_step =
+    let same : allocation_at earlier others ≡ option_map (renamed_allocation alike.name) (allocation_at earlier ones) =
+    ap (allocation_at earlier) alike.live ∙ live-renamed alike.name earlier ones in
+    shown-alike position earlier ones others one other new another reply answer (allocation_at earlier ones) alike
+    (is-shown ones one earlier reply new step)
+    (subst (IsShown other answer another) same (is-shown others other earlier answer another other_step))
 answered-alike position ones others one other new another (Grow size) reply answer tied alike memory room step other_step =
     let same : grow_fault other size ≡ grow_fault one size =
     ap (λ (s : AtlasState). grow_fault s size) alike.state ∙ fault-renamed alike.name one size in

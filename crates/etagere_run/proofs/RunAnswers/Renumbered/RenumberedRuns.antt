@@ -78,7 +78,7 @@ alike-placement name one other size p q state placed others_placed =
     ∙ placement-renumbered name one size ∙ ap (option_map (renumbered_placement name)) placed in
     cc
 
--- a place in one and none in the other
+-- a same_destination in one and none in the other
 placed-refused : (name by : ℕ → ℕ) (one other : BucketedState) (size : Size) (p : BucketPlacement) → renumbered by other ≡ renumbered name one
     → placement_of one size ≡ Some p → placement_of other size ≡ None → ⊥
 placed-refused name by one other size p state placed refused =
@@ -104,7 +104,7 @@ taken-is old size allocation new h placed =
     let shelves : List BucketShelf = prepared old.frame old.shelves h.tags h.placement.destination in
     h.after ∙ ap (λ (o : Option Spot). record { frame = old.frame; shelves = option_map_or (λ spot. changed_bucket spot.bucket.tag.number (taken_bucket h.placement.width) shelves) o shelves }) placed.ready.found
 
--- a size got its place in both
+-- a size got its same_destination in both
 placed-alike : (position : ℕ) (size : Size) (ones others : List Entry) (one other new another : BucketedState) (a b : Allocation)
     → IsInBuckets ones one → IsInBuckets others other → AreAlike ones others one other → Allocates one size a new → Allocates other size b another
     → AnswerAlike position (Allocate size) (Placed a) (Placed b) ones others new another
@@ -118,7 +118,7 @@ placed-alike position size ones others one other new another a b tied others_tie
     let later : ℕ → ℕ = tags.later in
     let same : renumbered_placement own g.placement ≡ renumbered_placement later h.placement =
     alike-placement later one other size h.placement g.placement tags.state h.placed g.placed in
-    let place : renumbered_destination own g.placement.destination ≡ renumbered_destination later h.placement.destination = ap (λ (p : BucketPlacement). p.destination) same in
+    let same_destination : renumbered_destination own g.placement.destination ≡ renumbered_destination later h.placement.destination = ap (λ (p : BucketPlacement). p.destination) same in
     let width : g.placement.width ≡ h.placement.width = ap (λ (p : BucketPlacement). p.width) same in
     let frame : other.frame ≡ one.frame = ap (λ (s : BucketedState). s.frame) tags.state in
     let shelves : List BucketShelf = prepared one.frame one.shelves h.tags h.placement.destination in
@@ -128,7 +128,7 @@ placed-alike position size ones others one other new another a b tied others_tie
     ∙ ap (λ (f : Frame). prepared f (map plain_shelf other.shelves) (map (renumbered_tag own) g.tags) (renumbered_destination own g.placement.destination)) frame
     ∙ ap (λ (ss : List BucketShelf). prepared one.frame ss (map (renumbered_tag own) g.tags) (renumbered_destination own g.placement.destination)) (ap (λ (s : BucketedState). s.shelves) tags.state)
     ∙ ap (λ (ts : List Tag). prepared one.frame (map (renumbered_shelf later) one.shelves) ts (renumbered_destination own g.placement.destination)) tags.own
-    ∙ ap (prepared one.frame (map (renumbered_shelf later) one.shelves) (map (renumbered_tag later) h.tags)) place
+    ∙ ap (prepared one.frame (map (renumbered_shelf later) one.shelves) (map (renumbered_tag later) h.tags)) same_destination
     ∙ prepared-renumbered later one.frame one.shelves h.tags h.placement.destination in
     let placed : IsPlaced one size h.placement h.tags = allocates-placed one size a new tied.tied.valid h in
     let others_placed : IsPlaced other size g.placement g.tags = allocates-placed other size b another others_tied.tied.valid g in
@@ -138,7 +138,7 @@ placed-alike position size ones others one other new another a b tied others_tie
     sym (ap (option_map (renumbered_spot own)) others_placed.ready.found)
     ∙ sym (spot_of-renumbered own others_shelves g.placement.destination)
     ∙ ap (λ (ss : List BucketShelf). spot_of ss (renumbered_destination own g.placement.destination)) ready
-    ∙ ap (spot_of (map (renumbered_shelf later) shelves)) place
+    ∙ ap (spot_of (map (renumbered_shelf later) shelves)) same_destination
     ∙ spot_of-renumbered later shelves h.placement.destination
     ∙ ap (option_map (renumbered_spot later)) placed.ready.found in
     let one_spot : renumbered_spot own others_spot ≡ renumbered_spot later spot = cc in
@@ -177,27 +177,27 @@ placed-alike position size ones others one other new another a b tied others_tie
     }
 
 -- what a position holds, as it is seen
-seen-found : (name : ℕ → ℕ) (place : ℕ) (entries : List Entry) → find (λ (s : Seen). s.position == place) (map (seen_entry name) entries) ≡ option_map (seen_entry name) (find (λ (e : Entry). e.position == place) entries)
-seen-found name place [] = refl
-seen-found name place (entry ∷ entries) = here (entry.position == place) (seen-found name place entries)
+seen-found : (name : ℕ → ℕ) (earlier : ℕ) (entries : List Entry) → find (λ (s : Seen). s.position == earlier) (map (seen_entry name) entries) ≡ option_map (seen_entry name) (find (λ (e : Entry). e.position == earlier) entries)
+seen-found name earlier [] = refl
+seen-found name earlier (entry ∷ entries) = here (entry.position == earlier) (seen-found name earlier entries)
   where
-    here : (b : Bool) → find (λ (s : Seen). s.position == place) (map (seen_entry name) entries) ≡ option_map (seen_entry name) (find (λ (e : Entry). e.position == place) entries)
-        → cond b (Some (seen_entry name entry)) (find (λ (s : Seen). s.position == place) (map (seen_entry name) entries)) ≡ option_map (seen_entry name) (cond b (Some entry) (find (λ (e : Entry). e.position == place) entries))
+    here : (b : Bool) → find (λ (s : Seen). s.position == earlier) (map (seen_entry name) entries) ≡ option_map (seen_entry name) (find (λ (e : Entry). e.position == earlier) entries)
+        → cond b (Some (seen_entry name entry)) (find (λ (s : Seen). s.position == earlier) (map (seen_entry name) entries)) ≡ option_map (seen_entry name) (cond b (Some entry) (find (λ (e : Entry). e.position == earlier) entries))
     here true later = refl
     here false later = later
 
 -- what is seen without a position
 abbrev without_seen : ℕ → List Seen → List Seen
-without_seen place [] = []
-without_seen place (seen ∷ all) = cond (seen.position == place) all (seen ∷ without_seen place all)
+without_seen earlier [] = []
+without_seen earlier (seen ∷ all) = cond (seen.position == earlier) all (seen ∷ without_seen earlier all)
 
 -- what is seen, without a position
-seen-without : (name : ℕ → ℕ) (place : ℕ) (entries : List Entry) → map (seen_entry name) (without place entries) ≡ without_seen place (map (seen_entry name) entries)
-seen-without name place [] = refl
-seen-without name place (entry ∷ entries) = here (entry.position == place) (seen-without name place entries)
+seen-without : (name : ℕ → ℕ) (earlier : ℕ) (entries : List Entry) → map (seen_entry name) (without earlier entries) ≡ without_seen earlier (map (seen_entry name) entries)
+seen-without name earlier [] = refl
+seen-without name earlier (entry ∷ entries) = here (entry.position == earlier) (seen-without name earlier entries)
   where
-    here : (b : Bool) → map (seen_entry name) (without place entries) ≡ without_seen place (map (seen_entry name) entries)
-        → map (seen_entry name) (cond b entries (entry ∷ without place entries)) ≡ cond b (map (seen_entry name) entries) (seen_entry name entry ∷ without_seen place (map (seen_entry name) entries))
+    here : (b : Bool) → map (seen_entry name) (without earlier entries) ≡ without_seen earlier (map (seen_entry name) entries)
+        → map (seen_entry name) (cond b entries (entry ∷ without earlier entries)) ≡ cond b (map (seen_entry name) entries) (seen_entry name entry ∷ without_seen earlier (map (seen_entry name) entries))
     here true later = refl
     here false later = ap (λ (ss : List Seen). seen_entry name entry ∷ ss) later
 
@@ -207,28 +207,28 @@ IsReturned old reply new None = (reply ≡ NotLive) × (new ≡ old)
 IsReturned old reply new (Some entry) = (reply ≡ Returned) × (new ≡ bucket_returned old entry.allocation.id)
 
 -- a step is such an answer
-is-returned : (entries : List Entry) (old : BucketedState) (place : ℕ) (reply : Reply) (new : BucketedState) → BucketedStep entries old (Return place) reply new → IsReturned old reply new (find (λ (e : Entry). e.position == place) entries)
-is-returned entries old place Returned new step = of_entry (find (λ (e : Entry). e.position == place) entries) step.live_is
+is-returned : (entries : List Entry) (old : BucketedState) (earlier : ℕ) (reply : Reply) (new : BucketedState) → BucketedStep entries old (Return earlier) reply new → IsReturned old reply new (find (λ (e : Entry). e.position == earlier) entries)
+is-returned entries old earlier Returned new step = of_entry (find (λ (e : Entry). e.position == earlier) entries) step.live_is
   where
     of_entry : (o : Option Entry) → option_map (λ (e : Entry). e.allocation) o ≡ Some step.allocation → IsReturned old Returned new o
     of_entry None e = absurd (cc)
     of_entry (Some entry) e = let same : step.allocation ≡ entry.allocation = cc in (refl, step.after ∙ ap (λ (a : Allocation). bucket_returned old a.id) same)
-is-returned entries old place NotLive new step = of_entry (find (λ (e : Entry). e.position == place) entries) step.0
+is-returned entries old earlier NotLive new step = of_entry (find (λ (e : Entry). e.position == earlier) entries) step.0
   where
     of_entry : (o : Option Entry) → option_map (λ (e : Entry). e.allocation) o ≡ None → IsReturned old NotLive new o
     of_entry None e = (refl, step.1)
     of_entry (Some entry) e = absurd (cc)
-is-returned entries old place reply new step = absurd step
+is-returned entries old earlier reply new step = absurd step
 
 -- what was given back
-returned-alike : (position place : ℕ) (ones others : List Entry) (one other new another : BucketedState) (reply answer : Reply) (o p : Option Entry) (alike : AreAlike ones others one other)
+returned-alike : (position earlier : ℕ) (ones others : List Entry) (one other new another : BucketedState) (reply answer : Reply) (o p : Option Entry) (alike : AreAlike ones others one other)
     → option_map (seen_entry own) p ≡ option_map (seen_entry alike.name) o → IsReturned one reply new o → IsReturned other answer another p
-    → AnswerAlike position (Return place) reply answer ones others new another
-returned-alike position place ones others one other new another reply answer None None alike seen (reply_is, new_is) (answer_is, another_is) =
+    → AnswerAlike position (Return earlier) reply answer ones others new another
+returned-alike position earlier ones others one other new another reply answer None None alike seen (reply_is, new_is) (answer_is, another_is) =
     rw (reply_is, answer_is, new_is, another_is) (record { same = refl; alike = alike })
-returned-alike position place ones others one other new another reply answer None (Some entry) alike seen step other_step = absurd (cc)
-returned-alike position place ones others one other new another reply answer (Some entry) None alike seen step other_step = absurd (cc)
-returned-alike position place ones others one other new another reply answer (Some entry) (Some other_entry) alike seen (reply_is, new_is) (answer_is, another_is) =
+returned-alike position earlier ones others one other new another reply answer None (Some entry) alike seen step other_step = absurd (cc)
+returned-alike position earlier ones others one other new another reply answer (Some entry) None alike seen step other_step = absurd (cc)
+returned-alike position earlier ones others one other new another reply answer (Some entry) (Some other_entry) alike seen (reply_is, new_is) (answer_is, another_is) =
     let both : seen_entry own other_entry ≡ seen_entry alike.name entry = cc in
     let number : other_entry.allocation.id % given_unit ≡ alike.name (entry.allocation.id % given_unit) = ap (λ (s : Seen). s.number) both in
     let frame : other.frame ≡ one.frame = ap (λ (s : BucketedState). s.frame) alike.state in
@@ -246,7 +246,7 @@ returned-alike position place ones others one other new another reply answer (So
                 (changed-alike alike.name one.shelves other.shelves (entry.allocation.id % given_unit) (other_entry.allocation.id % given_unit) returned_bucket alike.apart returned-plain number
                 (ap (λ (s : BucketedState). s.shelves) alike.state))
                 ∙ sym (ends-renumbered alike.name (changed_bucket (entry.allocation.id % given_unit) returned_bucket one.shelves)));
-            live = seen-without own place others ∙ ap (without_seen place) alike.live ∙ sym (seen-without alike.name place ones);
+            live = seen-without own earlier others ∙ ap (without_seen earlier) alike.live ∙ sym (seen-without alike.name earlier ones);
           };
     })
 
@@ -287,7 +287,7 @@ module _ (position : ℕ) (ones others : List Entry) (one other new another : Bu
   frame-alike : other.frame ≡ one.frame
   frame-alike = ap (λ (s : BucketedState). s.frame) alike.state
 
-  -- the other atlas answers alike where a size got its place
+  -- the other atlas answers alike where a size got its same_destination
   allocated-step : (size : Size) (a : Allocation) (answer : Reply) → answer ≢ NoMemory → BucketedStep ones one (Allocate size) (Placed a) new → BucketedStep others other (Allocate size) answer another
       → AnswerAlike position (Allocate size) (Placed a) answer ones others new another
   allocated-step size a (Placed b) memory step other_step =
@@ -345,11 +345,11 @@ module _ (position : ℕ) (ones others : List Entry) (one other new another : Bu
   answered-alike (Allocate size) (Placed a) answer memory room step other_step = allocated-step size a answer room step other_step
   answered-alike (Allocate size) Refused answer memory room step other_step = refused-step size answer room step other_step
   answered-alike (Allocate size) NoMemory answer memory room step other_step = absurd (memory refl)
-  answered-alike (Return place) reply answer memory room step other_step =
-      returned-alike position place ones others one other new another reply answer
-      (find (λ (e : Entry). e.position == place) ones) (find (λ (e : Entry). e.position == place) others) alike
-      (sym (seen-found own place others) ∙ ap (find (λ (s : Seen). s.position == place)) alike.live ∙ seen-found alike.name place ones)
-      (is-returned ones one place reply new step) (is-returned others other place answer another other_step)
+  answered-alike (Return earlier) reply answer memory room step other_step =
+      returned-alike position earlier ones others one other new another reply answer
+      (find (λ (e : Entry). e.position == earlier) ones) (find (λ (e : Entry). e.position == earlier) others) alike
+      (sym (seen-found own earlier others) ∙ ap (find (λ (s : Seen). s.position == earlier)) alike.live ∙ seen-found alike.name earlier ones)
+      (is-returned ones one earlier reply new step) (is-returned others other earlier answer another other_step)
   answered-alike (Grow size) Grown answer memory room step other_step = grown-step size answer room step other_step
   answered-alike (Grow size) (GrowRefused number) answer memory room step other_step = unfit-step size number answer room step other_step
   answered-alike (Grow size) NoMemory answer memory room step other_step = absurd (memory refl)

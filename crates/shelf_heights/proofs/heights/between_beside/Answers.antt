@@ -33,7 +33,7 @@ pub returns-then-comes_before-clause-before : goal.returns-then-comes_before-cla
 returns-then-comes_before-clause-before c =
     let items : List BoundedShelf = c.args.by_height.now.items in
     let others : List BoundedShelf = remove items c.args.left_out in
-    let order : ℕ = order_at c.args.height c.args.place in
+    let order : ℕ = order_at c.args.height c.args.in_chain in
     let next : suc c.args.left_out ≡ c.args.left_out + 1 = omega arith in
     subst (λ (n : ℕ). AllByRecursion (λ (one : BoundedShelf). order_of c.args.shelves.now one.shelf < order) (take n others)) next
     (before-probed c.args.shelves.now 0 order c.args.left_out others none
@@ -46,7 +46,7 @@ returns-then-left_out-eq0-clause-after c =
     let items : List BoundedShelf = c.args.by_height.now.items in
     let at : ℕ = c.args.left_out in
     let others : List BoundedShelf = remove items at in
-    let order : ℕ = order_at c.args.height c.args.place in
+    let order : ℕ = order_at c.args.height c.args.in_chain in
     let size = length-remove items at c.requires.left_out in
     let first : at ≡ zero = omega (arith, c.if-left_out-eq0.true) in
     subst (λ (n : ℕ). AllByRecursion (λ (one : BoundedShelf). order ≤ order_of shelves one.shelf) (drop n others)) first
@@ -61,7 +61,7 @@ pub returns-then-comes_before-2-clause-before : goal.returns-then-comes_before-2
 returns-then-comes_before-2-clause-before c =
     let items : List BoundedShelf = c.args.by_height.now.items in
     let others : List BoundedShelf = remove items c.args.left_out in
-    let order : ℕ = order_at c.args.height c.args.place in
+    let order : ℕ = order_at c.args.height c.args.in_chain in
     let next : suc (c.args.left_out - 1) ≡ c.args.left_out = omega (arith, c.if-left_out-eq0.false) in
     subst (λ (n : ℕ). AllByRecursion (λ (one : BoundedShelf). order_of c.args.shelves.now one.shelf < order) (take n others)) next
     (before-probed c.args.shelves.now 0 order (c.args.left_out - 1) others none
@@ -74,7 +74,7 @@ returns-then-comes_before-2-clause-after c =
     let items : List BoundedShelf = c.args.by_height.now.items in
     let at : ℕ = c.args.left_out in
     let others : List BoundedShelf = remove items at in
-    let order : ℕ = order_at c.args.height c.args.place in
+    let order : ℕ = order_at c.args.height c.args.in_chain in
     let size = length-remove items at c.requires.left_out in
     elim c.if-left_out-end.branch [
       | then-left_out-end+else-comes_before w ↦
@@ -88,7 +88,7 @@ returns-clause-after c =
     let items : List BoundedShelf = c.args.by_height.now.items in
     let at : ℕ = c.args.left_out in
     let others : List BoundedShelf = remove items at in
-    let order : ℕ = order_at c.args.height c.args.place in
+    let order : ℕ = order_at c.args.height c.args.in_chain in
     after-probed c.args.shelves.now 0 order (at - 1) others none
     (omega (arith, c.if-left_out-eq0.false, c.requires.left_out, length-remove items at c.requires.left_out)) c.requires.order.rising
     (tells-after c.args.shelves.now c.shelf_beside-front.result order (bounded_at others (at - 1)) c.shelf_beside-front.ensures c.if-comes_before-2.ensures)

@@ -53,9 +53,9 @@ loop-start-preserved-then-comes_before c =
       bounds = omega (arith, below index end c.loop-start-test.true);
       few = c.loop-start.invariant.few;
       within = c.loop-start.invariant.within;
-      before = subst (λ (n : ℕ). AllByRecursion (λ (one : BoundedShelf). order_of c.args.shelves.now one.shelf < (order_at c.args.height c.args.place)) (take n c.args.by_height.now.items)) next
-          (before-probed c.args.shelves.now 0 (order_at c.args.height c.args.place) middle c.args.by_height.now.items none within c.requires.rising
-          (before c.args.shelves.now c.args.by_height.now.items middle c.shelf.result (order_at c.args.height c.args.place) c.if-comes_before.ensures c.shelf.ensures));
+      before = subst (λ (n : ℕ). AllByRecursion (λ (one : BoundedShelf). order_of c.args.shelves.now one.shelf < (order_at c.args.height c.args.in_chain)) (take n c.args.by_height.now.items)) next
+          (before-probed c.args.shelves.now 0 (order_at c.args.height c.args.in_chain) middle c.args.by_height.now.items none within c.requires.rising
+          (before c.args.shelves.now c.args.by_height.now.items middle c.shelf.result (order_at c.args.height c.args.in_chain) c.if-comes_before.ensures c.shelf.ensures));
       after = c.loop-start.invariant.after;
       digits = λ digits enough.
           digits-halved (end - index) (end - (middle + 1)) c.loop-start.start.probes digits (omega arith) (omega (arith, c.loop-start-test.true))
@@ -73,8 +73,8 @@ loop-start-preserved c =
       few = c.loop-start.invariant.few;
       within = omega (arith, within);
       before = c.loop-start.invariant.before;
-      after = after-probed c.args.shelves.now 0 (order_at c.args.height c.args.place) middle c.args.by_height.now.items none within c.requires.rising
-          (after c.args.shelves.now c.args.by_height.now.items middle c.shelf.result (order_at c.args.height c.args.place) c.if-comes_before.ensures c.shelf.ensures);
+      after = after-probed c.args.shelves.now 0 (order_at c.args.height c.args.in_chain) middle c.args.by_height.now.items none within c.requires.rising
+          (after c.args.shelves.now c.args.by_height.now.items middle c.shelf.result (order_at c.args.height c.args.in_chain) c.if-comes_before.ensures c.shelf.ensures);
       digits = λ digits enough.
           digits-halved (end - index) (middle - index) c.loop-start.start.probes digits (omega arith) (omega (arith, c.loop-start-test.true))
           (c.loop-start.invariant.digits digits enough);

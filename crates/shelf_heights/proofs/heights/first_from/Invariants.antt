@@ -12,8 +12,8 @@ invariant-loop-start l = record {
   bounds : l.start.index ≤ l.end;
   few : length l.by_height.items < 2 ^ 64;
   within : l.end ≤ length l.by_height.items;
-  before : AllByRecursion (λ (one : BoundedShelf). order_of l.shelves one.shelf < order_at l.height l.place) (take l.start.index l.by_height.items);
-  after : AllByRecursion (λ (one : BoundedShelf). order_at l.height l.place ≤ order_of l.shelves one.shelf) (drop l.end l.by_height.items);
+  before : AllByRecursion (λ (one : BoundedShelf). order_of l.shelves one.shelf < order_at l.height l.in_chain) (take l.start.index l.by_height.items);
+  after : AllByRecursion (λ (one : BoundedShelf). order_at l.height l.in_chain ≤ order_of l.shelves one.shelf) (drop l.end l.by_height.items);
   digits : (digits : ℕ) → length l.by_height.items < 2 ^ digits → HasDigits (l.end - l.start.index) l.start.probes digits;
 }
 

@@ -29,7 +29,7 @@ loop-between-preserved-then-comes_before c =
     let end : ℕ = c.loop-between.between.end in
     let middle : ℕ = from + (end - from) / 2 in
     let others : List BoundedShelf = remove c.args.by_height.now.items c.args.left_out in
-    let order : ℕ = order_at c.from-height.result c.chain_order-place.result in
+    let order : ℕ = order_at c.from-height.result c.chain_order-in_chain.result in
     let within : middle < length others = omega (arith, below from end c.loop-between-test.true, c.loop-between.invariant.within) in
     let next : suc middle ≡ middle + 1 = omega arith in
     record {
@@ -48,7 +48,7 @@ loop-between-preserved c =
     let end : ℕ = c.loop-between.between.end in
     let middle : ℕ = from + (end - from) / 2 in
     let others : List BoundedShelf = remove c.args.by_height.now.items c.args.left_out in
-    let order : ℕ = order_at c.from-height.result c.chain_order-place.result in
+    let order : ℕ = order_at c.from-height.result c.chain_order-in_chain.result in
     let within : middle < length others = omega (arith, below from end c.loop-between-test.true, c.loop-between.invariant.within) in
     record {
       bounds = omega arith;
@@ -62,7 +62,7 @@ loop-between-preserved c =
 pub returns-clause-before : goal.returns-clause-before
 returns-clause-before c =
     subst (λ (n : ℕ). AllByRecursion (λ (one : BoundedShelf). order_of c.args.shelves.now one.shelf < n) (take c.loop-between.between.from (remove c.args.by_height.now.items c.args.left_out)))
-    (order-read c.args.shelves.now c.args.shelf c.from-height.result c.chain_order-place.result c.index-shelves-shelf.result c.requires.within c.index-shelves-shelf.is c.from-height.ensures c.chain_order-place.ensures)
+    (order-read c.args.shelves.now c.args.shelf c.from-height.result c.chain_order-in_chain.result c.index-shelves-shelf.result c.requires.within c.index-shelves-shelf.is c.from-height.ensures c.chain_order-in_chain.ensures)
     c.loop-between.invariant.before
 
 pub returns-clause-after : goal.returns-clause-after
@@ -70,6 +70,6 @@ returns-clause-after c =
     let others : List BoundedShelf = remove c.args.by_height.now.items c.args.left_out in
     let same : c.loop-between.between.end ≡ c.loop-between.between.from = omega (arith, c.loop-between.invariant.bounds, c.loop-between-test.false) in
     subst (λ (n : ℕ). AllByRecursion (λ (one : BoundedShelf). n ≤ order_of c.args.shelves.now one.shelf) (drop c.loop-between.between.from others))
-    (order-read c.args.shelves.now c.args.shelf c.from-height.result c.chain_order-place.result c.index-shelves-shelf.result c.requires.within c.index-shelves-shelf.is c.from-height.ensures c.chain_order-place.ensures)
-    (subst (λ (n : ℕ). AllByRecursion (λ (one : BoundedShelf). order_at c.from-height.result c.chain_order-place.result ≤ order_of c.args.shelves.now one.shelf) (drop n others)) same
+    (order-read c.args.shelves.now c.args.shelf c.from-height.result c.chain_order-in_chain.result c.index-shelves-shelf.result c.requires.within c.index-shelves-shelf.is c.from-height.ensures c.chain_order-in_chain.ensures)
+    (subst (λ (n : ℕ). AllByRecursion (λ (one : BoundedShelf). order_at c.from-height.result c.chain_order-in_chain.result ≤ order_of c.args.shelves.now one.shelf) (drop n others)) same
     c.loop-between.invariant.after)

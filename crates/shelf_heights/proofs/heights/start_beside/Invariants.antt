@@ -11,8 +11,8 @@ invariant-loop-between l = record {
   bounds : l.between.from ≤ l.between.end;
   few : length l.by_height.items < 2 ^ 64;
   within : l.between.end ≤ length (remove l.by_height.items l.left_out);
-  before : AllByRecursion (λ (one : BoundedShelf). order_of l.shelves one.shelf < order_at l.height l.place) (take l.between.from (remove l.by_height.items l.left_out));
-  after : AllByRecursion (λ (one : BoundedShelf). order_at l.height l.place ≤ order_of l.shelves one.shelf) (drop l.between.end (remove l.by_height.items l.left_out));
+  before : AllByRecursion (λ (one : BoundedShelf). order_of l.shelves one.shelf < order_at l.height l.in_chain) (take l.between.from (remove l.by_height.items l.left_out));
+  after : AllByRecursion (λ (one : BoundedShelf). order_at l.height l.in_chain ≤ order_of l.shelves one.shelf) (drop l.between.end (remove l.by_height.items l.left_out));
 }
 
 abbrev pub decreases-loop-between : goal.decreases-loop-between

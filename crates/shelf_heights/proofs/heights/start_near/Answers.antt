@@ -23,7 +23,7 @@ loop-from-preserved-then-comes_before c =
     let end : ℕ = c.loop-from.end in
     let middle : ℕ = c.probed_near-middle.result in
     let others : List BoundedShelf = c.args.by_height.now.items in
-    let order : ℕ = order_at c.from-height.result c.chain_order-place.result in
+    let order : ℕ = order_at c.from-height.result c.chain_order-in_chain.result in
     let within : middle < length others = omega (arith, c.probed_near-middle.ensures.end, c.loop-from.invariant.within) in
     let next : suc middle ≡ middle + 1 = omega arith in
     record {
@@ -42,7 +42,7 @@ loop-from-preserved c =
     let end : ℕ = c.loop-from.end in
     let middle : ℕ = c.probed_near-middle.result in
     let others : List BoundedShelf = c.args.by_height.now.items in
-    let order : ℕ = order_at c.from-height.result c.chain_order-place.result in
+    let order : ℕ = order_at c.from-height.result c.chain_order-in_chain.result in
     let within : middle < length others = omega (arith, c.probed_near-middle.ensures.end, c.loop-from.invariant.within) in
     record {
       bounds = c.probed_near-middle.ensures.from;
@@ -56,11 +56,11 @@ loop-from-preserved c =
 pub returns-clause-before : goal.returns-clause-before
 returns-clause-before c =
     subst (λ (n : ℕ). AllByRecursion (λ (one : BoundedShelf). order_of c.args.shelves.now one.shelf < n) (take c.loop-from.from c.args.by_height.now.items))
-    (order-read c.args.shelves.now c.args.shelf c.from-height.result c.chain_order-place.result c.index-shelves-shelf.result c.requires.within c.index-shelves-shelf.is c.from-height.ensures c.chain_order-place.ensures) c.loop-from.invariant.before
+    (order-read c.args.shelves.now c.args.shelf c.from-height.result c.chain_order-in_chain.result c.index-shelves-shelf.result c.requires.within c.index-shelves-shelf.is c.from-height.ensures c.chain_order-in_chain.ensures) c.loop-from.invariant.before
 
 pub returns-clause-after : goal.returns-clause-after
 returns-clause-after c =
     let same : c.loop-from.end ≡ c.loop-from.from = omega (arith, c.loop-from.invariant.bounds, c.loop-from-test.false) in
     subst (λ (n : ℕ). AllByRecursion (λ (one : BoundedShelf). n ≤ order_of c.args.shelves.now one.shelf) (drop c.loop-from.from c.args.by_height.now.items))
-    (order-read c.args.shelves.now c.args.shelf c.from-height.result c.chain_order-place.result c.index-shelves-shelf.result c.requires.within c.index-shelves-shelf.is c.from-height.ensures c.chain_order-place.ensures)
-    (subst (λ (n : ℕ). AllByRecursion (λ (one : BoundedShelf). order_at c.from-height.result c.chain_order-place.result ≤ order_of c.args.shelves.now one.shelf) (drop n c.args.by_height.now.items)) same c.loop-from.invariant.after)
+    (order-read c.args.shelves.now c.args.shelf c.from-height.result c.chain_order-in_chain.result c.index-shelves-shelf.result c.requires.within c.index-shelves-shelf.is c.from-height.ensures c.chain_order-in_chain.ensures)
+    (subst (λ (n : ℕ). AllByRecursion (λ (one : BoundedShelf). order_at c.from-height.result c.chain_order-in_chain.result ≤ order_of c.args.shelves.now one.shelf) (drop n c.args.by_height.now.items)) same c.loop-from.invariant.after)

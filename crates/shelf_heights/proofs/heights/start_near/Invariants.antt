@@ -11,8 +11,8 @@ invariant-loop-from l = record {
   bounds : l.from ≤ l.end;
   few : length l.by_height.items < 2 ^ 64;
   within : l.end ≤ length l.by_height.items;
-  before : AllByRecursion (λ (one : BoundedShelf). order_of l.shelves one.shelf < order_at l.height l.place) (take l.from l.by_height.items);
-  after : AllByRecursion (λ (one : BoundedShelf). order_at l.height l.place ≤ order_of l.shelves one.shelf) (drop l.end l.by_height.items);
+  before : AllByRecursion (λ (one : BoundedShelf). order_of l.shelves one.shelf < order_at l.height l.in_chain) (take l.from l.by_height.items);
+  after : AllByRecursion (λ (one : BoundedShelf). order_at l.height l.in_chain ≤ order_of l.shelves one.shelf) (drop l.end l.by_height.items);
 }
 
 abbrev pub decreases-loop-from : goal.decreases-loop-from

@@ -16,5 +16,5 @@ own_height-requires c =
 pub returns : goal.returns
 returns c =
     let height : c.own_height-height.result ≡ height_of c.args.shelves.now (bounded_at c.args.by_height.now.items c.args.index).shelf = c.own_height-height.ensures.value ∙ ap (height_of c.args.shelves.now) c.shelf.ensures in
-    height-behind c.args.shelves.now c.args.by_height.now.items c.args.index c.first_from.result.index c.first_from.result.probes c.requires.order c.requires.places c.requires.index
+    height-behind c.args.shelves.now c.args.by_height.now.items c.args.index c.first_from.result.index c.first_from.result.probes c.requires.order c.requires.in_chain c.requires.index
     (rw height at c.first_from.ensures.start)

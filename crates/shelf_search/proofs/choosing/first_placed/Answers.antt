@@ -14,10 +14,10 @@ use Rattle.shelf_search.proofs.choosing.first_placed.Goals as goal
 pub earliest_wide-requires-clause-order : goal.earliest_wide-requires-clause-order
 earliest_wide-requires-clause-order c = rw c.shelves.ensures (in-order c.args.records.now.shelves c.args.by_height.now.items c.loop-index.by_height.items c.loop-index.invariant.search.same c.requires.order)
 
-pub earliest_wide-requires-clause-places : goal.earliest_wide-requires-clause-places
-earliest_wide-requires-clause-places c =
+pub earliest_wide-requires-clause-in_chain : goal.earliest_wide-requires-clause-in_chain
+earliest_wide-requires-clause-in_chain c =
     rw c.shelves.ensures
-    (Each-weaken (IsSearchable c.args.records.now) (λ (one : BoundedShelf). chain_order c.args.records.now.shelves one.shelf < 65536 * 65536) c.loop-index.by_height.items (λ one is. is.place) c.loop-index.invariant.search.searchable)
+    (Each-weaken (IsSearchable c.args.records.now) (λ (one : BoundedShelf). chain_order c.args.records.now.shelves one.shelf < 65536 * 65536) c.loop-index.by_height.items (λ one is. is.in_chain) c.loop-index.invariant.search.searchable)
 
 pub earliest_wide-requires-clause-few : goal.earliest_wide-requires-clause-few
 earliest_wide-requires-clause-few c = omega (arith, c.requires.few, same-size c.args.by_height.now.items c.loop-index.by_height.items c.loop-index.invariant.search.same)

@@ -15,10 +15,10 @@ returns-clause-inside c =
     let test : Allocation → Bool = λ allocation. allocation.id == c.args.id in
     let rectangle : Option Allocation → Option Rectangle = option_map (λ allocation. allocation.rectangle) in
     let Inside : Rectangle → Type 0 = IsInside c.args.atlas.now.frame in
-    let place = position_or_len test all in
+    let position = position_or_len test all in
     let is = c.get.ensures ∙ ap rectangle (find_at test all) in
     ⊎_elim
     (λ there. subst (λ (o : Option Rectangle). IfSome o Inside) (sym (is ∙ ap rectangle there.2))
-    (Each-get (λ (allocation : Allocation). Inside allocation.rectangle) all place there.0 there.2 c.requires.inside))
+    (Each-get (λ (allocation : Allocation). Inside allocation.rectangle) all position there.0 there.2 c.requires.inside))
     (λ past. subst (λ (o : Option Rectangle). IfSome o Inside) (sym (is ∙ ap rectangle past.1)) tt)
-    (slice_get_cases all place).1
+    (slice_get_cases all position).1

@@ -62,18 +62,18 @@ in_old : (inside : Inside) → (sides : Sides) (result : Option code.Placement) 
 in_old inside sides result settled same found = found ∙ ap (λ (stored : Stored). kept_placement inside.frame (left_in inside) sides stored.shelves stored.buckets) same
 
 -- the place that is found
-made : (inside : Inside) → IsConsistent inside → (size : Size) (sides : Sides) (result : Option code.Placement) (place : code.Placement) → asked inside.frame size ≡ Some sides
-    → option_map placement_seen result ≡ kept_placement inside.frame (left_in inside) sides inside.store.shelves inside.store.buckets → result ≡ Some place
-    → Makes (state_in inside) size sides inside.store (placement_seen place)
-made inside is size sides result place asks found some =
-    makes (state_in inside) size sides inside.store is.unused (placement_seen place) is.witnessed.valid is.witnessed.spells asks
+made : (inside : Inside) → IsConsistent inside → (size : Size) (sides : Sides) (result : Option code.Placement) (placement : code.Placement) → asked inside.frame size ≡ Some sides
+    → option_map placement_seen result ≡ kept_placement inside.frame (left_in inside) sides inside.store.shelves inside.store.buckets → result ≡ Some placement
+    → Makes (state_in inside) size sides inside.store (placement_seen placement)
+made inside is size sides result placement asks found some =
+    makes (state_in inside) size sides inside.store is.unused (placement_seen placement) is.witnessed.valid is.witnessed.spells asks
     (ap (λ (left : Remaining). kept_placement inside.frame left sides inside.store.shelves inside.store.buckets) (sym (left-is inside is)) ∙ sym found ∙ ap (option_map placement_seen) some)
 
 -- the bucket that is made ready
-allocation : (inside : Inside) → IsConsistent inside → (size : Size) (sides : Sides) (place : Placement) (after : Stored) (found : Found) → Makes (state_in inside) size sides inside.store place
-    → after ≡ stored_ready inside.frame place inside.store → found_of place after ≡ Some found → IsAllocation (state_in inside) size sides inside.store place found
-allocation inside is size sides place after found makes_ ready h =
-    allocation-is (state_in inside) size sides inside.store place found is.witnessed.valid makes_ (ap (found_of place) (sym ready) ∙ h)
+allocation : (inside : Inside) → IsConsistent inside → (size : Size) (sides : Sides) (placement : Placement) (after : Stored) (found : Found) → Makes (state_in inside) size sides inside.store placement
+    → after ≡ stored_ready inside.frame placement inside.store → found_of placement after ≡ Some found → IsAllocation (state_in inside) size sides inside.store placement found
+allocation inside is size sides placement after found makes_ ready h =
+    allocation-is (state_in inside) size sides inside.store placement found is.witnessed.valid makes_ (ap (found_of placement) (sym ready) ∙ h)
 
 pub returns-in_default-clause-promises : goal.returns-in_default-clause-promises
 returns-in_default-clause-promises c = subst KeepsPromises c.self.view_is (valid-promises (state_in c.self.inside) c.self.invariant.witnessed.valid)

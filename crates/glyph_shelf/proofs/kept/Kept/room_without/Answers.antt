@@ -35,7 +35,7 @@ returns-then-branch-clause-room c =
       few = omega arith;
       room = tried-room c.args.self.now c.args.size (c.loop-gone.gone + 1) c.next_back.new.self c.give_back.new.atlas promises tried
           (omega arith) (omega arith)
-          ∙ sym c.in_ok-takes.ensures.place
+          ∙ sym c.in_ok-takes.ensures.room
           ∙ c.if-branch.true;
     }
 
@@ -51,6 +51,6 @@ loop-gone-preserved c =
       lacks = lacks-more c.args.self.now c.args.size c.loop-gone.gone c.loop-gone.invariant.lacks
           (tried-room c.args.self.now c.args.size (c.loop-gone.gone + 1) c.next_back.new.self c.give_back.new.atlas promises tried
           (omega arith) (omega arith)
-          ∙ sym c.in_ok-takes.ensures.place
+          ∙ sym c.in_ok-takes.ensures.room
           ∙ c.if-branch.false);
     }

@@ -2,7 +2,7 @@ use Rattle.std.proofs.Common.{◌∷◌, ◌++◌, [], List, Some, take, ap, sym
 use Rattle.std.proofs.lemmas.List.{take_all, take_more}
 use Rattle.std.proofs.lemmas.Option.{slice_get-get_or}
 use Rattle.etagere_base.proofs.EachLemmas.{Each-get}
-use Rattle.atlas_pages.specs.declared.places.PagedAllocation.{PagedAllocation}
+use Rattle.atlas_pages.specs.declared.paged_allocation.PagedAllocation.{PagedAllocation}
 use Rattle.moves.specs.Pages.Arranging.{Arranges, nothing}
 use Rattle.moves.specs.Atlases.Private.Sides.{HasSides}
 use Rattle.moves.specs.declared.pages.rearrangement.PageMove.{PageMove}
@@ -15,7 +15,7 @@ loop-before-init c =
 
 pub place_next-requires : goal.place_next-requires
 place_next-requires c =
-    Each-get (λ (place : PagedAllocation). HasSides place.allocation) c.args.asked.now c.loop-before.before-index c.before-item.result
+    Each-get (λ (paged : PagedAllocation). HasSides paged.allocation) c.args.asked.now c.loop-before.before-index c.before-item.result
     (slice_get-get_or c.args.asked.now c.loop-before.before-index c.before-item.result c.loop-before-test.true ∙ ap Some (sym c.before-item.is))
     c.requires
 

@@ -2,7 +2,7 @@ use Rattle.std.proofs.Common.{◌≡◌, List, ◌++◌, ap, sym, ◌∙◌, sub
 use Rattle.std.proofs.lemmas.Result.{IfOk-weaker}
 use Rattle.std.specs.List.{AllByRecursion}
 use Rattle.atlas_pages.specs.declared.options.PageOptions.{PageOptions}
-use Rattle.atlas_pages.specs.declared.places.PagedAllocation.{PagedAllocation}
+use Rattle.atlas_pages.specs.declared.paged_allocation.PagedAllocation.{PagedAllocation}
 use Rattle.atlas_pages.specs.Pages.{no_pages}
 use Rattle.atlas_pages.specs.Promises.{KeepsPagesPromises}
 use Rattle.moves.specs.Atlases.Private.Sides.{HasSides}
@@ -20,7 +20,7 @@ place_each-requires c =
     let old = c.args.pages.now in
     let keeps = c.iter-allocated.ensures.promises in
     let listed = subst (λ (l : List PagedAllocation). AreTiedOn l old) (sym c.iter-allocated.ensures.listed) (tied-listed old keeps) in
-    subst (AllByRecursion (λ (place : PagedAllocation). HasSides place.allocation)) (sym c.deref.ensures.value)
+    subst (AllByRecursion (λ (paged : PagedAllocation). HasSides paged.allocation)) (sym c.deref.ensures.value)
     (tied-sides old c.in_ok-asked.asked.items keeps
     (tied-permuted c.iter-allocated.result c.in_ok-asked.asked.items old listed c.in_ok-asked.ensures.same))
 

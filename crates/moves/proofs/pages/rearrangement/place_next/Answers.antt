@@ -1,9 +1,9 @@
 use Rattle.std.proofs.Common.{[], ◌∷◌, ◌++◌, sym, subst}
 use Rattle.etagere_base.specs.declared.geometry.Size.{Size}
 use Rattle.etagere_base.specs.Rectangles.{IsLarge}
+use Rattle.atlas_pages.specs.Allocated.{Places}
 use Rattle.atlas_pages.specs.Choosing.{IsRefusedByAll}
 use Rattle.atlas_pages.specs.Pages.{PagesState, page_frame}
-use Rattle.atlas_pages.specs.Places.{Places}
 use Rattle.moves.specs.Pages.Arranging.{Arranges, moved, refused}
 use Rattle.moves.proofs.pages.rearrangement.place_next.Goals as goal
 

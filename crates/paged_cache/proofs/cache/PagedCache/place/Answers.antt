@@ -10,6 +10,6 @@ use Rattle.paged_cache.proofs.cache.PagedCache.place.Goals as goal
 pub returns-clause-large : goal.returns-clause-large
 returns-clause-large c =
     subst (λ (s : PagedCacheState). IsNew s c.args.key
-    → IfOk c.place.result (λ placed. IsLarge (page_frame s.places.options) c.args.size placed.place.allocation.rectangle))
+    → IfOk c.place.result (λ placed. IsLarge (page_frame s.allocator.options) c.args.size placed.allocation.allocation.rectangle))
     c.self.view_is
     (λ new. placed-ok c.place.result c.self.inside.kept c.args.key c.args.size c.place.new.self (c.place.ensures.placed new))

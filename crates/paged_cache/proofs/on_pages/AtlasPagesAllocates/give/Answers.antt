@@ -5,9 +5,9 @@ pub returns-clause-given : goal.returns-clause-given
 returns-clause-given c =
     pages-give c.allocate.result c.args.self.now c.allocate.new.self c.args.size c.allocate.ensures.placed c.allocate.ensures.large
 
-pub returns-clause-place : goal.returns-clause-place
-returns-clause-place c =
+pub returns-clause-room : goal.returns-clause-room
+returns-clause-room c =
     pages-have c.allocate.result c.args.self.now c.allocate.new.self c.args.size c.allocate.ensures.placed c.allocate.ensures.refused
 
-pub returns-clause-err_place : goal.returns-clause-err_place
-returns-clause-err_place c = pages-have_had c.allocate.result c.args.self.now c.args.size c.allocate.ensures.memory
+pub returns-clause-err_room : goal.returns-clause-err_room
+returns-clause-err_room c = pages-have_had c.allocate.result c.args.self.now c.args.size c.allocate.ensures.memory

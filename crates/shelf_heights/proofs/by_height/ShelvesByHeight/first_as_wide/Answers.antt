@@ -13,5 +13,5 @@ first_as_wide-requires c = omega (arith, c.requires, used-count c.self.inside c.
 
 pub returns-clause-first : goal.returns-clause-first
 returns-clause-first c =
-    subst (λ (items : List BoundedShelf). IsFirstAsWide c.args.from c.args.width items (Some (c.in_ok-place.place - c.self.inside.start))) (used c.self.inside c.args.self.now c.self.invariant c.self.view_is)
-    (first-drop c.self.inside.start c.args.from c.args.width c.in_ok-place.place c.self.inside.list.items c.self.invariant.within c.in_ok-place.ensures.first)
+    subst (λ (items : List BoundedShelf). IsFirstAsWide c.args.from c.args.width items (Some (c.in_ok-position.position - c.self.inside.start))) (used c.self.inside c.args.self.now c.self.invariant c.self.view_is)
+    (first-drop c.self.inside.start c.args.from c.args.width c.in_ok-position.position c.self.inside.list.items c.self.invariant.within c.in_ok-position.ensures.first)

@@ -15,8 +15,8 @@ returns-then-index-front_half-clause-items c =
 pub returns-clause-items : goal.returns-clause-items
 returns-clause-items c =
     let start : ℕ = c.self.inside.start in
-    let place : ℕ = start + c.args.index in
+    let position : ℕ = start + c.args.index in
     ap (drop (start + 1))
-    (c.shift.ensures.items ∙ ap (λ (l : List BoundedShelf). insert (remove l place) start (bounded_at l place)) c.set.ensures.items)
+    (c.shift.ensures.items ∙ ap (λ (l : List BoundedShelf). insert (remove l position) start (bounded_at l position)) c.set.ensures.items)
     ∙ left-over start c.args.index c.self.inside.list.items _ _ (used-place c.self.inside c.args.self.now c.self.invariant c.self.view_is c.args.index c.requires)
     ∙ ap (λ (value : ListByHeight). remove value.items c.args.index) c.self.view_is

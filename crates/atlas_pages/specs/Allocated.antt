@@ -10,7 +10,7 @@ use Rattle.shelf_model.specs.Places.{allocations, rectangle_of}
 use Rattle.shelf_model.specs.Returning.{returned}
 use Rattle.shelf_model.specs.Space as space
 use Rattle.shelf_model.specs.State.{AtlasState}
-use Rattle.atlas_pages.specs.declared.places.PagedAllocation.{PagedAllocation}
+use Rattle.atlas_pages.specs.declared.paged_allocation.PagedAllocation.{PagedAllocation}
 use Rattle.atlas_pages.specs.Choosing.{chosen_page, free_space, may_open, page_for, ready_for}
 use Rattle.atlas_pages.specs.Pages.{PagesState}
 
@@ -24,18 +24,18 @@ abbrev pub is_allocated_on : PagesState → ℕ → ℕ → Bool
 is_allocated_on state page id = is_some (rectangle_on state page id)
 
 -- a size is allocated on an open page, and the other pages stay
-pub record AllocatesOn (old : List AtlasState) (size : Size) (place : PagedAllocation) (new : List AtlasState)
+pub record AllocatesOn (old : List AtlasState) (size : Size) (paged : PagedAllocation) (new : List AtlasState)
     : Type 0 where
   pub before : AtlasState
   pub after : AtlasState
-  pub is_open : slice_get old place.page ≡ Some before
-  pub allocates : Allocates before size place.allocation after
-  pub others : new ≡ slice_set old place.page after
+  pub is_open : slice_get old paged.page ≡ Some before
+  pub allocates : Allocates before size paged.allocation after
+  pub others : new ≡ slice_set old paged.page after
 
 -- a size gets a place on the page that is chosen for it, which is opened where it has to be
-pub record Places (old : PagesState) (size : Size) (place : PagedAllocation) (new : PagesState) : Type 0 where
-  pub chosen : page_for old size ≡ Some place.page
-  pub allocates : AllocatesOn (ready_for old size).pages size place new.pages
+pub record Places (old : PagesState) (size : Size) (paged : PagedAllocation) (new : PagesState) : Type 0 where
+  pub chosen : page_for old size ≡ Some paged.page
+  pub allocates : AllocatesOn (ready_for old size).pages size paged new.pages
   pub options : new.options ≡ old.options
 
 -- a size has a place on an open page, where it needs a split

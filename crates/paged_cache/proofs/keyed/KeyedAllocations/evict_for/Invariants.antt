@@ -1,7 +1,7 @@
 use Rattle.std.specs.Prelude.{◌≡◌, ◌<◌, false, length, vec_capacity, vec_len}
 use Rattle.paged_cache.specs.Keyed.{has_room}
 use Rattle.paged_cache.proofs.Evicting.{IsEvicting}
-use Rattle.paged_cache.proofs.keyed.KeyedPlaces.evict_for.Given as goal
+use Rattle.paged_cache.proofs.keyed.KeyedAllocations.evict_for.Given as goal
 
 abbrev pub invariant-loop-dropped : goal.invariant-loop-dropped
 invariant-loop-dropped g l =

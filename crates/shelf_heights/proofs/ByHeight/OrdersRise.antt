@@ -78,8 +78,8 @@ place-above width column next across after height wide short tall ordered stacke
     by_test : (b : Bool) → (column == next) ≡ b → column * width * 65536 + across + 1 ≤ next * width * 65536 + after
     by_test true e =
         let same : column ≡ next = grind arith in
-        let place : column * width ≡ next * width = ap (λ c. c * width) same in
-        omega (arith, place, stacked same, tall)
+        let same_along : column * width ≡ next * width = ap (λ c. c * width) same in
+        omega (arith, same_along, stacked same, tall)
     by_test false e =
         let later : column < next = grind arith in
         omega (arith, columns-apart column next width later, wide, short)
@@ -109,7 +109,7 @@ module _ (frame : Frame) (records : Records) (wide : 1 ≤ frame.column_width) w
       place-above frame.column_width (column_at number) (column_at next) (across_of records.shelves number) (across_of records.shelves next) tall wide here.across here.tall (grind (arith, nat_tests)) upon in
       omega (arith, apart, here.column, there.column)
 
-  -- the places of stacked shelves rise
+  -- the orders of stacked shelves rise
   stacked-rise : (before : List ℕ) (from number : ℕ) (numbers : List ℕ) → AllByRecursion (LiesWithin frame records.shelves) (number ∷ numbers)
       → NoNeighbours is_out_of_order (map (spelled_shelf (atlas_of frame records)) (map (walked_entry records) (number ∷ numbers)))
       → AreStacked records.shelves frame.column_width before (number ∷ numbers)
@@ -123,8 +123,8 @@ module _ (frame : Frame) (records : Records) (wide : 1 ≤ frame.column_width) w
   )
 
 -- along the chain of the shelves in use the places where they begin rise
-pub places-rise : (frame : Frame) (records : Records) → AreKept frame records → RiseFrom 0 (map (chain_order records.shelves) (shelf_walk records).met)
-places-rise frame records kept =
+pub orders-rise : (frame : Frame) (records : Records) → AreKept frame records → RiseFrom 0 (map (chain_order records.shelves) (shelf_walk records).met)
+orders-rise frame records kept =
     by_numbers (shelf_walk records).met (kept-within frame records kept) (witnesses kept).valid.ordered
     (subst (λ (ns : List ℕ). AreStacked records.shelves frame.column_width [] ns) (walked-numbers records (shelf_walk records).met) (witnesses kept).stacked)
   where
@@ -136,6 +136,6 @@ places-rise frame records kept =
     by_numbers (number ∷ numbers) within ordered stacked =
         stacked-rise frame records (witnesses kept).valid.frame.column_width [] 0 number numbers within ordered stacked (omega arith)
 
--- where two stand at one point of the order they begin at one place
-pub same-place : (rank other place second : ℕ) → place < 65536 * 65536 → second < 65536 * 65536 → order_at rank place ≡ order_at other second → place ≡ second
-same-place rank other place second low below same = omega arith
+-- where two stand at one point of the order they stand at one of the chain
+pub same-in_chain : (rank other in_chain second : ℕ) → in_chain < 65536 * 65536 → second < 65536 * 65536 → order_at rank in_chain ≡ order_at other second → in_chain ≡ second
+same-in_chain rank other in_chain second low below same = omega arith
