@@ -11,7 +11,7 @@ use Rattle.bucketed_records.specs.Private.Store.{is_kept_idle}
 use Rattle.bucket_index.specs.declared.blocks.Block.{Block}
 use Rattle.bucket_index.specs.declared.blocks.Blocks.{Blocks}
 use Rattle.bucket_index.specs.declared.blocks.Others.{Others}
-use Rattle.bucket_index.specs.Private.Blocks.{AreCountedWhere, AreFirstKnown, AreInSteps, AreKnown, AreKnownIf, AreKnownOf, AreKnownWhere, AreOthers, AreOthersKnown, IsBeside, IsFollowed, IsKnown, IsKnownOf, IsPart, block_of, expecting, joined, may_be_idle, may_give, raised, with_shelf}
+use Rattle.bucket_index.specs.Private.Blocks.{AreCountedWhere, AreFirstKnown, AreInSteps, AreKnown, AreKnownOf, AreKnownWhere, AreOthers, AreOthersKnown, IsBeside, IsFollowed, IsKnown, IsKnownOf, IsPart, block_of, expecting, joined, may_be_idle, may_give, raised, with_shelf}
 
 -- a shelf is known to a block that was counted with it
 pub known-own : (kept : KeptShelf) (block : Block) → IsKnown kept (with_shelf kept block)

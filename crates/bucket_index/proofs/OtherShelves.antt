@@ -9,8 +9,8 @@ use Rattle.bucketed_records.specs.Private.Store.{is_kept_idle}
 use Rattle.bucket_index.specs.declared.blocks.Block.{Block}
 use Rattle.bucket_index.specs.declared.blocks.Blocks.{Blocks}
 use Rattle.bucket_index.specs.declared.blocks.Others.{Others}
-use Rattle.bucket_index.specs.Private.Blocks.{AreCountedWhere, AreKnown, AreKnownOf, AreKnownWhere, AreOthers, IsBeside, IsBesideOf, IsFollowed, IsKnown, IsKnownOf, IsOwnKnown, IsOwnOf, IsPart, block_at, block_of, lowered, no_others, no_shelves, raised, remembered, remembered_others, with_own, with_shelf}
-use Rattle.bucket_index.proofs.KnownBlocks.{known-own, known-part, known-still, raise-known, read-changed, set-of, some-same}
+use Rattle.bucket_index.specs.Private.Blocks.{AreCountedWhere, AreKnownIf, AreKnownOf, AreKnownWhere, AreOthers, IsBeside, IsBesideOf, IsFollowed, IsKnown, IsKnownOf, IsOwnKnown, IsOwnOf, IsPart, block_at, block_of, lowered, no_others, no_shelves, raised, remembered, remembered_others, with_own, with_shelf}
+use Rattle.bucket_index.proofs.KnownBlocks.{known-own, known-part, known-still, raise-known, read-changed, some-same}
 
 -- each block knows nothing
 pub part-none : (block : Block) → IsPart no_shelves block
@@ -179,11 +179,11 @@ followed-own k one blocks same is own = record {
   beside = λ _. record { small = λ other. absurd (other (sym same)); middle = λ other. absurd (other (sym same)); large = λ other. absurd (other (sym same)) };
 }
 
--- all are known whether or not the blocks of the shelf that was raised last are yet to be lowered
-pub known-late : (late : Bool) (blocks : Blocks) (shelves : List KeptShelf) → AreKnown blocks shelves → AreKnown (record blocks { is_late = late }) shelves
-known-late late blocks shelves known = record { counted = λ counts. all (known.counted counts); steps = known.steps }
+-- these are known whether or not the blocks of the shelf that was raised last are yet to be lowered
+pub known-late : (IsSuch : ℕ → Type 0) (late : Bool) (blocks : Blocks) (shelves : List KeptShelf) → AreKnownIf IsSuch blocks shelves → AreKnownIf IsSuch (record blocks { is_late = late }) shelves
+known-late IsSuch late blocks shelves known = record { counted = λ counts. all (known.counted counts); steps = known.steps }
   where
-    all : AreCountedWhere (λ n. Unit {0}) blocks shelves → AreCountedWhere (λ n. Unit {0}) (record blocks { is_late = late }) shelves
+    all : AreCountedWhere IsSuch blocks shelves → AreCountedWhere IsSuch (record blocks { is_late = late }) shelves
     all counted = record {
       each = record { small = counted.each.small; middle = counted.each.middle; large = counted.each.large };
       others = counted.others;

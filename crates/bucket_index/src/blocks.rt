@@ -445,11 +445,12 @@ impl Blocks {
     fn settle_beside(&mut self, shelves: &[KeptShelf], number: usize)
         requires others { spec.AreOthersKnown number self.old shelves.now }
         ensures others { spec.AreOthersKnown number self.new shelves.now }
-        ensures followed { (room : spec.ℕ) → spec.WasFollowed number room self.old
-            → spec.WasFollowed number room self.new }
+        ensures followed { (kept : spec.KeptShelf) → spec.IsFollowed number kept self.old
+            → spec.IsFollowed number kept self.new }
         ensures counted { self.new.are_counted ≡ self.old.are_counted }
     {
         let late = self.others.number;
+        self.is_late = false;
         if self.are_counted && late != number && late < shelves.len().min(MOST_SHELVES) {
             self.lower_again(late, &shelves[late]);
         }
@@ -495,33 +496,33 @@ impl Blocks {
         if self.knows_again(number, kept) {
             self.is_late = self.knows_more(kept);
         } else {
-            self.follow_change(shelves, number, before.widest_room, before.is_idle());
+            self.follow_change(shelves, number, before);
         }
     }
 
-    /// Knows the shelf of a number, which had this room before, and may be known by more or by less now. It is seldom
+    /// Knows the shelf of a number, which was this one before, and may be known by more or by less now. It is seldom
     /// called, so that those who follow a shelf needn't keep what it uses.
     #[inline(never)]
-    fn follow_change(&mut self, shelves: &[KeptShelf], number: usize, room: u16, was_idle: bool)
+    fn follow_change(&mut self, shelves: &[KeptShelf], number: usize, before: &KeptShelf)
         requires counted { self.old.are_counted ≡ true }
         requires within { number < length shelves.now }
-        requires before { spec.WasFollowed number room self.old }
+        requires before { spec.IsFollowed number before.now self.old }
         requires others { spec.AreOthersKnown number self.old shelves.now }
         ensures { spec.AreKnown self.new shelves.now }
     {
         if self.is_late {
-            self.follow_late(shelves, number, room, was_idle);
+            self.follow_late(shelves, number, before);
         } else {
-            self.follow_alone(shelves, number, room, was_idle);
+            self.follow_alone(shelves, number, before);
         }
     }
 
     /// The same where the shelf that was raised last is yet to be lowered, which may be this one.
     #[inline(never)]
-    fn follow_late(&mut self, shelves: &[KeptShelf], number: usize, room: u16, was_idle: bool)
+    fn follow_late(&mut self, shelves: &[KeptShelf], number: usize, before: &KeptShelf)
         requires counted { self.old.are_counted ≡ true }
         requires within { number < length shelves.now }
-        requires before { spec.WasFollowed number room self.old }
+        requires before { spec.IsFollowed number before.now self.old }
         requires others { spec.AreOthersKnown number self.old shelves.now }
         ensures { spec.AreKnown self.new shelves.now }
     {
@@ -529,24 +530,25 @@ impl Blocks {
             self.lower(shelves, number);
         } else {
             self.settle_beside(shelves, number);
-            self.follow_alone(shelves, number, room, was_idle);
+            self.follow_alone(shelves, number, before);
         }
     }
 
     /// The same where no other shelf is yet to be lowered.
     #[inline(always)]
-    fn follow_alone(&mut self, shelves: &[KeptShelf], number: usize, room: u16, was_idle: bool)
+    fn follow_alone(&mut self, shelves: &[KeptShelf], number: usize, before: &KeptShelf)
         requires counted { self.old.are_counted ≡ true }
         requires within { number < length shelves.now }
-        requires before { spec.WasFollowed number room self.old }
+        requires before { spec.IsFollowed number before.now self.old }
         requires others { spec.AreOthersKnown number self.old shelves.now }
         ensures { spec.AreKnown self.new shelves.now }
     {
         let kept = &shelves[number];
+        let room = before.widest_room;
         let wider = u32::from(room) + 1;
         let narrows = kept.widest_room < room
             && !may_give(&self.small, number / SHELVES_OF_BLOCK, wider);
-        if narrows || was_idle && !kept.is_idle() {
+        if narrows || before.is_idle() && !kept.is_idle() {
             self.lower(shelves, number);
         } else if !stays_known(room, kept) {
             self.raise_beside(shelves, number, room);

@@ -144,11 +144,7 @@ fn first_by_spans(
     let mut at = first;
     let mut left = MOST_BUCKETS;
     for _step in 0..MOST_BUCKETS {
-        let ahead = spans.ahead(at, left, needed);
-        if ahead.left == 0 {
-            return None;
-        }
-        let Some(number) = ahead.at.number() else {
+        let Some(number) = at.number() else {
             return None;
         };
         if number >= buckets.len() {
@@ -158,8 +154,12 @@ fn first_by_spans(
         if is_wanted(wanted, bucket) {
             return Some(number);
         }
-        at = bucket.next;
-        left = ahead.left - 1;
+        let ahead = spans.ahead(bucket.next, left - 1, needed);
+        if ahead.left == 0 {
+            return None;
+        }
+        at = ahead.at;
+        left = ahead.left;
     }
     None
 }

@@ -210,12 +210,6 @@ pub record IsFollowed (number : ℕ) (kept : KeptShelf) (blocks : Blocks) : Type
   pub known : IsKnownAt number kept blocks
   pub beside : blocks.others.number < 4096 → IsBeside blocks.others number kept
 
--- the same of one that has this room
-pub record WasFollowed (number width : ℕ) (blocks : Blocks) : Type 0 where
-  pub before : KeptShelf
-  pub room : before.widest_room ≡ width
-  pub followed : IsFollowed number before blocks
-
 -- each of the first so many shelves is known to its blocks
 abbrev pub AreFirstKnown : ℕ → Blocks → List KeptShelf → Type 0
 AreFirstKnown count blocks shelves = AreKnownWhere (λ number. number < count) blocks shelves

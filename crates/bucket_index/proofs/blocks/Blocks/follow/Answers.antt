@@ -20,9 +20,9 @@ returns-then-knows_again c =
     let one = c.index-shelves-number.result in
     let old = c.args.self.now in
     let is = c.knows_again.ensures c.if-knows_again.true in
-    known-late c.knows_more-self.result old shelves
+    known-late (λ n. Unit {0}) c.knows_more-self.result old shelves
     (known-with number one old shelves (slice_get_read shelves (length shelves) number one refl c.requires.within c.index-shelves-number.is)
     (followed-own number one old is.0 is.1 (c.requires.others.counted c.if-not-self.false).own) c.requires.others)
 
 pub follow_change-requires-clause-before : goal.follow_change-requires-clause-before
-follow_change-requires-clause-before c = record { before = c.args.before.now; room = refl; followed = c.requires.before c.if-not-self.false }
+follow_change-requires-clause-before c = c.requires.before c.if-not-self.false

@@ -1,6 +1,6 @@
-use Rattle.std.proofs.Common.{◌≡◌, ◌<◌, length, refl, arith, sym}
+use Rattle.std.proofs.Common.{◌≡◌, false, length, refl, arith}
 use Rattle.std.proofs.lemmas.Option.{slice_get_read}
-use Rattle.bucket_index.proofs.OtherShelves.{lower-counted, lower-followed}
+use Rattle.bucket_index.proofs.OtherShelves.{known-late, lower-counted, lower-followed}
 use Rattle.bucket_index.proofs.blocks.Blocks.settle_beside.Goals as goal
 
 pub returns-then-late-min-clause-others : goal.returns-then-late-min-clause-others
@@ -18,11 +18,11 @@ returns-then-late-min-clause-others c =
     })
 
 pub returns-then-late-min-clause-followed : goal.returns-then-late-min-clause-followed
-returns-then-late-min-clause-followed c room was =
+returns-then-late-min-clause-followed c kept was =
     let old = c.args.self.now in
     let late = old.others.number in
-    rw c.lower_again.ensures (record {
-      before = was.before;
-      room = was.room;
-      followed = lower-followed c.args.number late was.before c.index-shelves-late.result old refl (omega (arith, c.if-late-min.true)) c.if-late-number.true was.followed;
-    })
+    rw c.lower_again.ensures
+    (lower-followed c.args.number late kept c.index-shelves-late.result old refl (omega (arith, c.if-late-min.true)) c.if-late-number.true was)
+
+pub returns-else-self-clause-others : goal.returns-else-self-clause-others
+returns-else-self-clause-others c = known-late (λ n. n ≡ c.args.number → ⊥) false c.args.self.now c.args.shelves.now c.requires.others
