@@ -16,6 +16,9 @@ use std::alloc::{AllocError, Global};
 use std::marker::Model;
 use std::num::NonZeroUsize;
 
+/// For so many keys at most there is room from the start.
+const MOST_AHEAD: usize = 16384;
+
 /// Keys with what is allocated for them, the most recently used first.
 #[derive(Drop)]
 pub struct UsedKeys {
@@ -36,11 +39,16 @@ impl Model for UsedKeys {
 }
 
 impl UsedKeys {
-    /// No keys, of which there may be so many; no frame has begun. Takes no memory for keys.
+    /// No keys, of which there may be so many; no frame has begun. Takes memory for a table of them, unless they are very
+    /// many: then it grows as they come.
     pub fn new(alloc: Global, cap: NonZeroUsize) -> Result<UsedKeys, AllocError>
         ensures { IfOk result (λ keys. keys ≡ no_keys (non_zero_usize_get cap)) }
     {
-        let entries = LruCache::sparse(alloc, cap)?;
+        let entries = if cap.get() <= MOST_AHEAD {
+            LruCache::new(alloc, cap)?
+        } else {
+            LruCache::sparse(alloc, cap)?
+        };
         Ok(UsedKeys { entries, frame: 0 })
     }
 
