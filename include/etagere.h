@@ -358,7 +358,7 @@ EtagereStatus etagere_atlas_largest_free(EtagereAtlas *atlas, EtagereSize *size)
 
 /* Makes the atlas larger. What is allocated keeps its place, its id and its index.
  * Answers ETAGERE_OK; ETAGERE_NULL_HANDLE; ETAGERE_GROW_.., the first fault, ETAGERE_GROW_MEMORY only where there is
- * no other, the growth needs records and there was no memory. Goes through all shelves, for wider columns through
+ * no other, the grow needs records and there was no memory. Goes through all shelves, for wider columns through
  * all items too, and sorts the shelves. */
 EtagereStatus etagere_atlas_grow(EtagereAtlas *atlas, EtagereSize size);
 
@@ -613,7 +613,7 @@ EtagereStatus etagere_cache_entries(EtagereCache *cache, EtagereEntry *entries, 
 
 /* Makes the atlas larger. Each key keeps its place, and the order of use stays.
  * Answers ETAGERE_OK; ETAGERE_NULL_HANDLE; ETAGERE_GROW_.., the first fault, ETAGERE_GROW_MEMORY only where there is
- * no other, the growth needs records and there was no memory. Costs what etagere_atlas_grow does. */
+ * no other, the grow needs records and there was no memory. Costs what etagere_atlas_grow does. */
 EtagereStatus etagere_cache_grow(EtagereCache *cache, EtagereSize size);
 
 /* Sets how many keys there may be. Where more are there, those used least recently are evicted, no more than needed.

@@ -36,7 +36,7 @@ pub fn with_memory<T>(answer: Result<T, Status>) -> Result<T, AllocError> {
     }
 }
 
-/// What a growth of an atlas of shelves gave.
+/// What a grow of an atlas of shelves gave.
 pub fn grown(answer: Result<(), Status>) -> Result<(), AtlasGrowFault> {
     answer.map_err(|status| match AtlasGrowFault::of_number(status.fault()) {
         Some(fault) => fault,

@@ -149,7 +149,7 @@ fn refusal_without_items() {
 }
 
 #[test]
-fn growths() {
+fn grows() {
     let mut atlas = AtlasAllocator::new(size2(32, 32));
     let faults = [
         (size2(65536, 40), AtlasGrowFault::Size),

@@ -208,7 +208,7 @@ static void atlas_that_cannot_be_made(void) {
     CHECK(atlas.state == NULL);
 }
 
-/* 65535 columns have as many items, so a growth that needs one more is refused. */
+/* 65535 columns have as many items, so a grow that needs one more is refused. */
 static void grow_without_records(void) {
     EtagereAtlas atlas = ETAGERE_NULL;
     EtagereOptions options = ETAGERE_DEFAULT_OPTIONS;
@@ -642,7 +642,7 @@ static void cache_frames(void) {
     CHECK(etagere_cache_delete(&cache) == ETAGERE_OK);
 }
 
-/* 65535 columns have as many items, so a growth that needs one more is refused. */
+/* 65535 columns have as many items, so a grow that needs one more is refused. */
 static void cache_grown(void) {
     EtagereCache cache = ETAGERE_NULL;
     EtagereOptions options = ETAGERE_DEFAULT_OPTIONS;

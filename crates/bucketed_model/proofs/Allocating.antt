@@ -184,7 +184,7 @@ allocates-space old size allocation new valid h =
       space = ap allocated_space h.after ∙ space-taken old size h.placement h.tags placed valid;
     }
 
--- a growth changes no space
+-- a grow changes no space
 pub grows-space : (old : BucketedState) (size : Size) (new : BucketedState) → IsValid old → Grows old size new → allocated_space new ≡ allocated_space old
 grows-space old size new valid h = ap allocated_space h.after ∙ space-grown old size h.tags valid h.fits h.new_tags
 

@@ -44,7 +44,7 @@ abbrev tags_by : ℕ → List ℕ → List Tag
 tags_by number [] = []
 tags_by number (count ∷ counts) = tags_from number count ++ tags_by (number + count) counts
 
--- a call: a size asked for, with new tags where buckets are made; one with these tags; a return; a growth
+-- a call: a size asked for, with new tags where buckets are made; one with these tags; a return; a grow
 pub data Call : Type 0 where
   Ask : (width height : ℕ) → Call
   AskWith : (width height : ℕ) (tags : List Tag) → Call
@@ -154,7 +154,7 @@ used_width_stays = refl
 pub unknown_ids : map (is_known one_of_two) (8192 ∷ 0 ∷ 12288 ∷ 8193 ∷ 16785408 ∷ []) ≡ true ∷ false ∷ false ∷ false ∷ false ∷ []
 unknown_ids = refl
 
--- the first fault of a growth
+-- the first fault of a grow
 pub grow_faults : map (grow_fault (plain_atlas 32 32).frame) (size 70000 40 ∷ size 31 40 ∷ size 65534 65534 ∷ size 33 40 ∷ []) ≡ Some faults.Size ∷ Some faults.Smaller ∷ Some faults.Area ∷ None ∷ []
 grow_faults = refl
 

@@ -29,7 +29,7 @@ pub record NeedsShelf (state : BucketedState) (size : Size) : Type 0 where
   pub placed : placement_of state size ≡ Some placement
   pub adds : placement.destination ≡ InAdded news
 
--- a growth to a size leads from one state to the next: it has no fault, and new buckets have new
+-- a grow to a size leads from one state to the next: it has no fault, and new buckets have new
 -- tags
 pub record Grows (old : BucketedState) (size : Size) (new : BucketedState) : Type 0 where
   pub tags : List Tag
@@ -37,7 +37,7 @@ pub record Grows (old : BucketedState) (size : Size) (new : BucketedState) : Typ
   pub new_tags : AreNewTags old.shelves (total (grow_counts old.frame size old.shelves)) tags
   pub after : new ≡ grown old size tags
 
--- a growth to a size has no fault, but makes buckets
+-- a grow to a size has no fault, but makes buckets
 pub record NeedsBuckets (state : BucketedState) (size : Size) : Type 0 where
   pub fits : grow_fault state.frame size ≡ None
   pub some : 0 < total (grow_counts state.frame size state.shelves)

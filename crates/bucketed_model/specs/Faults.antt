@@ -1,4 +1,4 @@
--- The numbers of the faults of a growth.
+-- The numbers of the faults of a grow.
 use Rattle.std.specs.Prelude.{ℕ}
 use Rattle.bucketed_model.specs.declared.faults.GrowFault.{GrowFault}
 use Rattle.bucketed_model.specs.declared.faults.GrowFault.TheVariants.{Size, Smaller, Area, Memory}

@@ -1,4 +1,4 @@
--- Growing: the first fault of a new size, and the state after a growth.
+-- Growing: the first fault of a new size, and the state after a grow.
 use Rattle.std.specs.Prelude.{ℕ, ◌+◌, ◌-◌, ◌/◌, min, Option, option_map, List, [], ◌∷◌, ◌++◌, take, drop}
 use Rattle.etagere_base.specs.declared.faults.ResizeFault.{ResizeFault}
 use Rattle.etagere_base.specs.declared.faults.ResizeFault.TheVariants as resizes
@@ -12,13 +12,13 @@ use Rattle.bucketed_model.specs.declared.faults.GrowFault.TheVariants as faults
 use Rattle.bucketed_model.specs.Frames.{longest_bucketed_side}
 use Rattle.bucketed_model.specs.State.{BucketShelf, BucketedState, Tag, buckets_left, with_buckets}
 
--- a fault of a size, as one of a growth
+-- a fault of a size, as one of a grow
 abbrev pub of_resize : ResizeFault → GrowFault
 of_resize resizes.Size = faults.Size
 of_resize resizes.Smaller = faults.Smaller
 of_resize resizes.Area = faults.Area
 
--- the first fault of a growth to a size
+-- the first fault of a grow to a size
 abbrev pub grow_fault : Frame → Size → Option GrowFault
 grow_fault frame size = option_map of_resize (resize_fault longest_bucketed_side frame size)
 
@@ -34,7 +34,7 @@ abbrev pub total : List ℕ → ℕ
 total [] = 0
 total (n ∷ ns) = n + total ns
 
--- the buckets that a growth adds to each shelf
+-- the buckets that a grow adds to each shelf
 abbrev pub grow_counts : Frame → Size → List BucketShelf → List ℕ
 grow_counts frame size shelves =
     grown_counts ((grown_frame frame size).column_width - frame.column_width) (buckets_left shelves)
@@ -49,7 +49,7 @@ widened place (count ∷ counts) tags (shelf ∷ shelves) =
 widened place [] tags shelves = shelves
 widened place counts tags [] = []
 
--- the state after a growth, with these tags for new buckets
+-- the state after a grow, with these tags for new buckets
 abbrev pub grown : BucketedState → Size → List Tag → BucketedState
 grown state size tags =
     record {

@@ -40,7 +40,7 @@ GivesEnough =
     → IsLarge old.frame size allocation.rectangle × IsAligned old.frame allocation.rectangle
 
 -- a ledger stays tied: to a new atlas with no entry, by an allocation with one more, by a return
--- with one less, and by a growth with the same
+-- with one less, and by a grow with the same
 abbrev pub StepsKeepTied : Type 0
 StepsKeepTied =
     ((frame : Frame) → IsBucketedFrame frame → AreTied [] (fresh frame))
@@ -71,7 +71,7 @@ CountsReturn old spot new =
     allocated_space new + spot.bucket.used * spot.shelf.height
     ≡ allocated_space old + (returned_bucket spot.bucket).used * spot.shelf.height
 
--- the space that is allocated after each step; a growth changes nothing
+-- the space that is allocated after each step; a grow changes nothing
 abbrev pub StepsCountSpace : Type 0
 StepsCountSpace =
     ((old : BucketedState) (size : Size) (allocation : Allocation) (new : BucketedState)

@@ -1,4 +1,4 @@
-//! Why a growth of a bucketed atlas is refused, and by which number.
+//! Why a grow of a bucketed atlas is refused, and by which number.
 //!
 //! Definitions: `Faults`. Numbers are public and don't change.
 

@@ -1,4 +1,4 @@
-//! The frame of a bucketed atlas, and what a growth may be refused for.
+//! The frame of a bucketed atlas, and what a grow may be refused for.
 //!
 //! Definitions: `Frames`, `Growing`.
 
@@ -32,7 +32,7 @@ pub fn bucketed_frame(size: Size, options: &AllocatorOptions) -> Frame
     }
 }
 
-/// The first fault of a growth to a size, memory aside.
+/// The first fault of a grow to a size, memory aside.
 pub fn grow_fault(frame: &Frame, size: Size) -> Option<GrowFault>
     ensures { result ≡ growing.grow_fault frame.now size }
 {

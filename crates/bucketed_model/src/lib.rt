@@ -2,7 +2,7 @@
 //!
 //! Definitions: `State` first; `Picking`, `Adding`, `Merging` and `Placing` for where a size goes, `Taking`,
 //! `Returning` and `Growing` for what calls mean, `Refusal` and `Usage` for what an atlas tells of itself. Here are the
-//! laws, the faults of a growth, why a size is refused, the frame, and the shelves that are added.
+//! laws, the faults of a grow, why a size is refused, the frame, and the shelves that are added.
 #![tactic(auto)]
 
 pub mod adding;

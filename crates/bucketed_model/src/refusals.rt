@@ -27,7 +27,7 @@ pub enum BucketedRefusal {
     #[error("TallerThanAtlas")]
     TallerThanAtlas,
     /// No shelf that is tall enough has a bucket with the width left, and there is no space for a new shelf, nor for
-    /// one made of idle ones. What is given back, or a growth, makes room.
+    /// one made of idle ones. What is given back, or a grow, makes room.
     #[error("NoRoom")]
     NoRoom {
         /// The greatest width, along, that a bucket of a shelf that is tall enough can give; 0 where none can give

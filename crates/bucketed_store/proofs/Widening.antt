@@ -1,4 +1,4 @@
--- What a growth does to records: shelves get further buckets in front of their own.
+-- What a grow does to records: shelves get further buckets in front of their own.
 pub mod Grown
 pub mod Shares
 pub mod WidenedShelf

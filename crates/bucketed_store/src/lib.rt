@@ -3,8 +3,8 @@
 //!
 //! `store` has the records and the steps of which calls are made. For an allocation `placing` decides where it goes: by
 //! `searching` of `bucket_index` in a bucket, on a new shelf, or by `merging` on idle ones. `returning` and `dropping`
-//! are the steps of a return, `growing` those of a growth, `making` makes buckets for shelves that are added and for
-//! growths, and `drawing` has the picture. `refusing` finds why a size does not fit, and `usage` how full an atlas is.
+//! are the steps of a return, `growing` those of a grow, `making` makes buckets for shelves that are added and for
+//! grows, and `drawing` has the picture. `refusing` finds why a size does not fit, and `usage` how full an atlas is.
 //!
 //! Definitions: `Store` of `bucketed_records` for what is stored, `StoreEdits` for what steps do to it.
 #![tactic(auto)]

@@ -43,11 +43,11 @@ unknown_id = 501
 abbrev pub options_refused : OptionsFault → ℕ
 options_refused fault = 100 + options_fault_number fault
 
--- the fault of a growth
+-- the fault of a grow
 abbrev pub grow_refused : AtlasGrowFault → ℕ
 grow_refused fault = 200 + grow_fault_number fault
 
--- the fault of a growth of a bucketed atlas
+-- the fault of a grow of a bucketed atlas
 abbrev pub bucketed_grow_refused : GrowFault → ℕ
 bucketed_grow_refused fault = 300 + buckets.grow_fault_number fault
 

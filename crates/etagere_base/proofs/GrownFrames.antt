@@ -187,7 +187,7 @@ pub record GrowsFrame (longest : ℕ) (frame : Frame) (size : Size) : Type 0 whe
 several : (n : ℕ) → (n == 1) ≡ false → 1 ≤ n → 2 ≤ n
 several n h some = grind arith
 
--- a growth without a fault makes a frame
+-- a grow without a fault makes a frame
 pub frame-grows : (longest : ℕ) (frame : Frame) (size : Size) → IsFrame longest frame → FitsSize longest frame size → GrowsFrame longest frame size
 frame-grows longest frame size is_frame fits =
     let along : ℕ = along_side (resized frame size) in

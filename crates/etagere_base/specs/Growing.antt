@@ -7,7 +7,7 @@ use Rattle.etagere_base.specs.declared.geometry.Size.{Size}
 use Rattle.etagere_base.specs.Frames.{along_side, alignment_along, are_sides, is_too_large}
 use Rattle.etagere_base.specs.Sides.{down, side}
 
--- the first fault of a growth to a size, where no side may pass the longest
+-- the first fault of a grow to a size, where no side may pass the longest
 abbrev pub resize_fault : ℕ → Frame → Size → Option ResizeFault
 resize_fault longest frame size =
     if not (are_sides longest size) then Some faults.Size
@@ -20,14 +20,14 @@ resize_fault longest frame size =
 abbrev pub resized : Frame → Size → Frame
 resized frame size = record frame { width = side size.width; height = side size.height }
 
--- the width of the columns after a growth: one column becomes as wide as the alignment allows, more
+-- the width of the columns after a grow: one column becomes as wide as the alignment allows, more
 -- stay as they are
 abbrev pub grown_column_width : Frame → Size → ℕ
 grown_column_width frame size =
     if frame.columns == 1 then down (along_side (resized frame size)) (alignment_along frame)
     else frame.column_width
 
--- the frame after a growth, which has as many columns as fit
+-- the frame after a grow, which has as many columns as fit
 abbrev pub grown_frame : Frame → Size → Frame
 grown_frame frame size =
     record (resized frame size) {

@@ -12,7 +12,7 @@ use crate::frames::{Frame, are_sides, is_too_large};
 use crate::geometry::Size;
 use crate::sides::side;
 
-/// The first fault of a growth to a size, where no side may be longer than `longest`, in pixels.
+/// The first fault of a grow to a size, where no side may be longer than `longest`, in pixels.
 pub fn resize_fault(longest: u16, frame: &Frame, size: Size) -> Option<ResizeFault>
     ensures { result ≡ spec.resize_fault longest frame.now size }
 {
@@ -28,7 +28,7 @@ pub fn resize_fault(longest: u16, frame: &Frame, size: Size) -> Option<ResizeFau
     None
 }
 
-/// The frame after a growth to a size that is no smaller: one column becomes as wide as the alignment allows, more
+/// The frame after a grow to a size that is no smaller: one column becomes as wide as the alignment allows, more
 /// become as many as fit.
 pub fn grown_frame(frame: &Frame, size: Size) -> Frame
     requires frame { IsFrame longest_side frame.now }

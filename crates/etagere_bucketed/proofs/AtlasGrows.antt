@@ -1,4 +1,4 @@
--- An atlas after a growth: what its fields stand for, and that they keep it.
+-- An atlas after a grow: what its fields stand for, and that they keep it.
 use Rattle.std.proofs.Common.{◌≡◌, ℕ, ◌+◌, ◌-◌, ◌<◌, max, None, List, length, ap, arith, subst, sym, ◌∙◌}
 use Rattle.etagere_base.specs.declared.frames.Frame.{Frame}
 use Rattle.etagere_base.specs.declared.geometry.Size.{Size}
@@ -15,7 +15,7 @@ use Rattle.bucketed_store.proofs.Widening.Grown.{IsGrownAtlas, grown-is, stored_
 use Rattle.etagere_bucketed.specs.declared.atlas.BucketedAtlasAllocator.TheInside.{Inside}
 use Rattle.etagere_bucketed.specs.Private.Consistent.{IsConsistent, state_in}
 
--- a growth of an atlas that has no fault
+-- a grow of an atlas that has no fault
 pub atlas-grown : (inside : Inside) (size : Size) → IsConsistent inside → grow_fault inside.frame size ≡ None → IsGrownAtlas inside.store (state_in inside) size
 atlas-grown inside size consistent fits = grown-is inside.store consistent.unused (state_in inside) size consistent.witnessed fits
 
@@ -23,7 +23,7 @@ atlas-grown inside size consistent fits = grown-is inside.store consistent.unuse
 left-is : (inside : Inside) → IsConsistent inside → 4095 - inside.buckets_in_use ≡ buckets_left (state_in inside).shelves
 left-is inside consistent = ap (λ (n : ℕ). 4095 - n) consistent.totals.in_use
 
--- what holds of the records that a growth leaves, in their frame
+-- what holds of the records that a grow leaves, in their frame
 pub record AfterGrow (inside : Inside) (size : Size) (frame : Frame) (new : Stored) (made : ℕ) : Type 0 where
   pub state : BucketedState
   pub grows : Grows (state_in inside) size state
@@ -64,7 +64,7 @@ after-grow inside size frame new made consistent fits resized widened count =
       space = consistent.totals.space ∙ sym g.space;
     }
 
--- a growth uses records that were unused before it makes new ones
+-- a grow uses records that were unused before it makes new ones
 pub grow-uses : (inside : Inside) (size : Size) (frame : Frame) → IsConsistent inside → grow_fault inside.frame size ≡ None → frame ≡ grown_frame inside.frame size
     → UsesUnused inside.frame.column_width (frame.column_width - inside.frame.column_width) (4095 - inside.buckets_in_use) inside.store
 grow-uses inside size frame consistent fits resized =
@@ -82,7 +82,7 @@ grow-uses inside size frame consistent fits resized =
     ap (λ (s : Stored). length s.buckets) stored ∙ g.records
     ∙ ap (λ (n : ℕ). max (length inside.store.buckets) n) (omega (arith, rest, left, g.made, consistent.totals.in_use, consistent.witnessed.valid.shelves.few))
 
--- where buckets are made, a growth needs some
+-- where buckets are made, a grow needs some
 pub grow-needs : (inside : Inside) (size : Size) (frame : Frame) → IsConsistent inside → grow_fault inside.frame size ≡ None
     → frame ≡ grown_frame inside.frame size
     → 0 < 4095 - inside.buckets_in_use - left_after (frame.column_width - inside.frame.column_width) (4095 - inside.buckets_in_use) inside.store.shelves

@@ -296,7 +296,7 @@ pub extern "C" fn etagere_atlas_fits_when_empty(
 /// Makes the atlas larger. What is allocated keeps its place, its id and its index.
 ///
 /// Answers ETAGERE_OK; ETAGERE_NULL_HANDLE; ETAGERE_GROW_.., the first fault, ETAGERE_GROW_MEMORY only where there is
-/// no other, the growth needs records and there was no memory. Goes through all shelves, for wider columns through all
+/// no other, the grow needs records and there was no memory. Goes through all shelves, for wider columns through all
 /// items too, and sorts the shelves.
 #[unsafe(no_mangle)]
 pub extern "C" fn etagere_atlas_grow(atlas: &mut EtagereAtlas, size: EtagereSize) -> u32

@@ -20,7 +20,7 @@ use std::num::NonZeroUsize;
 /// Makes the atlas larger. Each key keeps its place, and the order of use stays.
 ///
 /// Answers ETAGERE_OK; ETAGERE_NULL_HANDLE; ETAGERE_GROW_.., the first fault, ETAGERE_GROW_MEMORY only where there is
-/// no other, the growth needs records and there was no memory. Costs what etagere_atlas_grow does.
+/// no other, the grow needs records and there was no memory. Costs what etagere_atlas_grow does.
 #[unsafe(no_mangle)]
 pub extern "C" fn etagere_cache_grow(cache: &mut EtagereCache, size: EtagereSize) -> u32
     ensures null { (result ≡ statuses.null_handle) ↔ (cache.old.state ≡ None) }

@@ -82,7 +82,7 @@ fn findings_text(
 fn push_refused(text: &mut String, refused: &Refused, is_vertical: bool) -> Result<(), AllocError> {
     match refused.reason {
         Reason::OfGrow(number) => {
-            text.push_str("growth to ")?;
+            text.push_str("grow to ")?;
             push_why(text, grow_why(number), refused.asked, false)
         }
         Reason::OfShelves(reason) => push_reason(text, shelf_why(reason), refused, is_vertical),

@@ -450,7 +450,7 @@ impl AtlasAllocator {
     /// many columns as fit. Each column becomes taller at its end. What is added is free, and merges with what is free
     /// before it.
     ///
-    /// Returns the first fault; `Memory` only where there is no other, the growth needs records and there was no
+    /// Returns the first fault; `Memory` only where there is no other, the grow needs records and there was no
     /// memory. Nothing changes after a fault. Takes memory for the records that it needs as far as too few are unused,
     /// and for entries in the list by height and notes of shelf records that are made. Where no column becomes wider or
     /// taller and none is added, it takes constant time, once the list by height follows as in `allocate`. Else it

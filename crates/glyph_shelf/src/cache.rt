@@ -247,7 +247,7 @@ impl GlyphCache {
     /// Makes the atlas larger, to this size in pixels, as by `AtlasAllocator::grow`. Each key keeps its place, and the
     /// order of use stays.
     ///
-    /// Returns the first fault; `Memory` only where there is no other, the growth needs records and there was no
+    /// Returns the first fault; `Memory` only where there is no other, the grow needs records and there was no
     /// memory. Nothing changes after a fault. Takes memory and time as that call does.
     pub fn grow(&mut self, size: Size) -> Result<(), AtlasGrowFault>
         ensures ok { OnOk result (self.new ≡ cache_grown self.old size) }

@@ -382,7 +382,7 @@ promises-returned state id valid = promises (returned state id) (returned-valid 
 pub promises-cleared : (state : AtlasState) → IsValid state → KeepsPromises (fresh state.frame)
 promises-cleared state valid = promises (fresh state.frame) (fresh-valid state.frame valid.frame valid.columns)
 
--- a growth without a fault changes nothing that is allocated
+-- a grow without a fault changes nothing that is allocated
 pub allocated-grown : (state : AtlasState) (size : Size) → IsValid state → grow_fault state size ≡ None
     → allocations (atlas_grown state size) ≡ allocations state
 allocated-grown state size valid fits = grown-allocated state size valid (grow-fits state size fits)

@@ -1,4 +1,4 @@
--- The definition of a growth alone, with no program, gives the rectangles and faults of worked examples.
+-- The definition of a grow alone, with no program, gives the rectangles and faults of worked examples.
 use Rattle.std.specs.Prelude.{◌≡◌, false, true, None, Some, refl}
 use Rattle.shelf_model.specs.declared.faults.AtlasGrowFault.TheVariants as faults
 use Rattle.shelf_model.specs.Choice.{IsRefused}

@@ -1,4 +1,4 @@
--- The numbers of the faults of a growth.
+-- The numbers of the faults of a grow.
 use Rattle.std.specs.Prelude.{ℕ}
 use Rattle.shelf_model.specs.declared.faults.AtlasGrowFault.{AtlasGrowFault}
 use Rattle.shelf_model.specs.declared.faults.AtlasGrowFault.TheVariants.{Size, Smaller, Area, Records, Memory}

@@ -1,4 +1,4 @@
--- Growing: the first fault of a new size, and the state after a growth: something is added at the end
+-- Growing: the first fault of a new size, and the state after a grow: something is added at the end
 -- of each shelf and of each column, and then all is merged.
 use Rattle.std.specs.Prelude.{ℕ, ◌+◌, ◌-◌, max, Bool, true, false, ◌&&◌, not, Option, None, Some, option_map, List, [], ◌∷◌, ◌++◌, map, nat_lt, ◌==◌, if◌then◌else◌}
 use Rattle.etagere_base.specs.declared.faults.ResizeFault.{ResizeFault}
@@ -56,20 +56,20 @@ filled_ends (shelf ∷ shelves) =
 abbrev pub needed_for_height : ℕ → List Shelf → ℕ
 needed_for_height height shelves = if height == 0 then 0 else filled_ends shelves
 
--- how many item records a growth needs: for the width, for the height and for new columns
+-- how many item records a grow needs: for the width, for the height and for new columns
 abbrev pub records_needed : AtlasState → Size → ℕ
 records_needed state size =
     needed_for_width (added_width state.frame size) state.shelves
     + needed_for_height (added_height state.frame size) state.shelves
     + added_columns state.frame size
 
--- a fault of a size, as one of a growth
+-- a fault of a size, as one of a grow
 abbrev pub of_resize : ResizeFault → AtlasGrowFault
 of_resize resizes.Size = faults.Size
 of_resize resizes.Smaller = faults.Smaller
 of_resize resizes.Area = faults.Area
 
--- the first fault of a growth to a size, records and memory aside
+-- the first fault of a grow to a size, records and memory aside
 abbrev pub size_fault : Frame → Size → Option AtlasGrowFault
 size_fault frame size = option_map of_resize (resize_fault longest_side frame size)
 
@@ -78,7 +78,7 @@ abbrev pub or_records_fault : ℕ → Option AtlasGrowFault → Option AtlasGrow
 or_records_fault items None = if nat_lt most_items items then Some faults.Records else None
 or_records_fault items (Some fault) = Some fault
 
--- the first fault of a growth to a size, memory aside
+-- the first fault of a grow to a size, memory aside
 abbrev pub grow_fault : AtlasState → Size → Option AtlasGrowFault
 grow_fault state size =
     or_records_fault (items_in_use state.shelves + records_needed state size)
@@ -113,7 +113,7 @@ with_ends frame height (shelf ∷ shelves) =
 abbrev pub heightened : Frame → ℕ → List Shelf → List Shelf
 heightened frame height shelves = if height == 0 then shelves else with_ends frame height shelves
 
--- the state with all that a growth adds
+-- the state with all that a grow adds
 abbrev pub extended : AtlasState → Size → AtlasState
 extended state size =
     let frame = grown_frame state.frame size in
@@ -126,7 +126,7 @@ extended state size =
       peak_items = state.peak_items;
     }
 
--- the state after a growth: what is added is merged with what is free before it
+-- the state after a grow: what is added is merged with what is free before it
 abbrev pub atlas_grown : AtlasState → Size → AtlasState
 atlas_grown state size =
     let shelves = (merged (extended state size)).shelves in

@@ -1,5 +1,5 @@
 -- Laws of the model, proved of all its states: the choice in the words of its rule, merging as a
--- normal form, what a return restores, and what a growth keeps.
+-- normal form, what a return restores, and what a grow keeps.
 use Rattle.std.specs.Prelude.{◌≡◌, ℕ, ◌+◌, ◌<◌, ◌≤◌, Bool, true, false, ◌&&◌, ◌||◌, Some, None, Option, List, ◌∷◌, ◌++◌, slice_get, nat_lt, ◌==◌, if◌then◌else◌}
 use Rattle.etagere_base.specs.declared.frames.Frame.{Frame}
 use Rattle.etagere_base.specs.declared.geometry.Size.{Size}
@@ -130,13 +130,13 @@ MergingKeepsAllocated =
     ≡ allocations_after frame before shelves)
     × ((state : AtlasState) → allocations (merged state) ≡ allocations state)
 
--- a growth without a fault keeps the allocated space
+-- a grow without a fault keeps the allocated space
 abbrev pub GrowKeepsSpace : Type 0
 GrowKeepsSpace =
     (state : AtlasState) (size : Size) → IsValid state → grow_fault state size ≡ None
     → allocated_space (atlas_grown state size) ≡ allocated_space state
 
--- a growth without a fault puts as many further items to use as it needs records
+-- a grow without a fault puts as many further items to use as it needs records
 abbrev pub GrowUses : Type 0
 GrowUses =
     (state : AtlasState) (size : Size) → IsValid state → grow_fault state size ≡ None

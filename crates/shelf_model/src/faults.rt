@@ -1,4 +1,4 @@
-//! Why a growth of a shelf atlas is refused, why a size has no place, and by which number each is told.
+//! Why a grow of a shelf atlas is refused, why a size has no place, and by which number each is told.
 //!
 //! Definitions: `Faults` and `Refusal`. Numbers are public and don't change.
 
@@ -20,7 +20,7 @@ pub enum AtlasGrowFault {
     /// Width times height is above 2147483647.
     #[error("Area")]
     Area,
-    /// The growth needs more records than an atlas can have, 65535 in use.
+    /// The grow needs more records than an atlas can have, 65535 in use.
     #[error("Records")]
     Records,
     /// There was no memory.

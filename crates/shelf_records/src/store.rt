@@ -1,4 +1,4 @@
-//! All records of a shelf atlas, and the steps of which allocations, returns and growths are made.
+//! All records of a shelf atlas, and the steps of which allocations, returns and grows are made.
 //!
 //! Definitions: `RecordLists` for what records are, `RecordEdits`, `RecordMerges`, `RecordUses` and
 //! `RecordMaking` for the steps, `Neighbours` for what those ask that test no range. A step that changes

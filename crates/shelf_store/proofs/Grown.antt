@@ -1,4 +1,4 @@
--- What a growth changes and keeps.
+-- What a grow changes and keeps.
 pub mod AppendedColumns
 pub mod CountedRecords
 pub mod EditedShelf

@@ -30,21 +30,21 @@ use shelf_notes::pending::PendingShelves;
 use shelf_records::Records;
 use std::alloc::AllocError;
 
-/// How many records a growth needs: of items, and of shelves.
+/// How many records a grow needs: of items, and of shelves.
 #[derive(Clone, Copy)]
 pub struct Needed {
     pub items: u32,
     pub shelves: u32,
 }
 
-/// The numbers of the records that were made for a growth and are put to use next.
+/// The numbers of the records that were made for a grow and are put to use next.
 #[derive(Clone, Copy)]
 pub struct Made {
     pub item: usize,
     pub shelf: usize,
 }
 
-/// The first fault of a growth to a size, records and memory aside.
+/// The first fault of a grow to a size, records and memory aside.
 pub fn size_fault(frame: &Frame, size: Size) -> Option<AtlasGrowFault>
     ensures { result ≡ growing.size_fault frame.now size }
 {

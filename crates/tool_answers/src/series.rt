@@ -19,7 +19,7 @@ pub struct Moment {
     /// The area of the atlas, in square pixels.
     pub area: u64,
     pub live: usize,
-    /// Allocations and growths that were refused so far.
+    /// Allocations and grows that were refused so far.
     pub refused: usize,
 }
 

@@ -20,7 +20,7 @@ use Rattle.traffic.specs.declared.going_on.Reason.TheVariants.{OfShelves, OfBuck
 use Rattle.traffic.specs.declared.going_on.Refused.{Refused}
 use Rattle.traffic.specs.GoingOn.{GoesOn}
 
--- why a shelf atlas refused a command: a size by the first reason that holds, a growth by the number of its fault
+-- why a shelf atlas refused a command: a size by the first reason that holds, a grow by the number of its fault
 abbrev pub atlas_told : AtlasState → AtlasCommand → Reply → Option Refused
 atlas_told state (atlas.Allocate size) replies.Refused =
     option_map

@@ -1,4 +1,4 @@
--- Which ids the busy buckets know: after an allocation the one that was given and all that were known, after a growth the
+-- Which ids the busy buckets know: after an allocation the one that was given and all that were known, after a grow the
 -- same, and after a return the same of other buckets.
 use Rattle.std.proofs.Common.{◌≡◌, ◌≢◌, ℕ, ◌+◌, ◌<◌, Bool, true, false, List, [], ◌∷◌, ◌++◌, refl, ap, arith, sym, ◌∙◌, subst, ◌||◌, ◌&&◌, cond, inl, inr, length}
 use Rattle.std.proofs.lemmas.Bool.{and_parts}
@@ -122,7 +122,7 @@ allocates-known old size allocation new valid h =
       λ id was. after id ∙ more (knows id view.front) (is_giver id bucket) (is_giver id taken) (knows id view.back) (giver-taken id item bucket) (sym (before id) ∙ was),
     )
 
--- a growth changes nothing of what is known
+-- a grow changes nothing of what is known
 pub grows-known : (old : BucketedState) (size : Size) (new : BucketedState) → Grows old size new → (id : ℕ) → is_known new id ≡ is_known old id
 grows-known old size new h id =
     ap (λ (s : BucketedState). is_known s id) h.after ∙ known-busy (grown old size h.tags) id

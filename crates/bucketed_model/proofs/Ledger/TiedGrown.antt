@@ -62,6 +62,6 @@ tied-grown entries state size tags tied h are_new =
           (sym (busy-widened state.frame.column_width (grow_counts state.frame size state.shelves) tags [] state.shelves)) swapped;
     }
 
--- a growth keeps a ledger tied
+-- a grow keeps a ledger tied
 pub grows-tied : (entries : List Allocation) (old : BucketedState) (size : Size) (new : BucketedState) → AreTied entries old → Grows old size new → AreTied entries new
 grows-tied entries old size new tied h = subst (AreTied entries) (sym h.after) (tied-grown entries old size h.tags tied h.fits h.new_tags)

@@ -7,10 +7,10 @@ use Rattle.etagere_base.proofs.GrownFrames.{FitsSize, no-fault, size-fits}
 use Rattle.bucketed_model.specs.Frames.{longest_bucketed_side}
 use Rattle.bucketed_model.specs.Growing.{grow_fault, of_resize}
 
--- what the tests of a growth have shown
+-- what the tests of a grow have shown
 abbrev pub Fits : Frame → Size → Type 0
 Fits frame size = FitsSize longest_bucketed_side frame size
 
--- a growth without a fault
+-- a grow without a fault
 pub grow-fits : (frame : Frame) (size : Size) → grow_fault frame size ≡ None → Fits frame size
 grow-fits frame size h = size-fits longest_bucketed_side frame size (no-fault of_resize (resize_fault longest_bucketed_side frame size) h)

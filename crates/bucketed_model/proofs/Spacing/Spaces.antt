@@ -121,7 +121,7 @@ space-returned state id spot valid at number =
     let same = ap (λ (n : ℕ). busy_space (busy_buckets (changed_bucket n returned_bucket state.shelves))) number in
     omega (arith, changed, dropped, same, space-busy state valid, space-busy (bucket_returned state id) (returned-valid state id valid))
 
--- a growth changes nothing
+-- a grow changes nothing
 pub space-grown : (state : BucketedState) (size : Size) (tags : List Tag) → IsValid state → grow_fault state.frame size ≡ None
     → AreNewTags state.shelves (total (grow_counts state.frame size state.shelves)) tags → allocated_space (grown state size tags) ≡ allocated_space state
 space-grown state size tags valid h are_new =

@@ -1,4 +1,4 @@
--- A growth leads from a valid state to a valid one.
+-- A grow leads from a valid state to a valid one.
 use Rattle.std.proofs.Common.{◌≡◌, ℕ, ◌+◌, ◌-◌, ◌*◌, ◌/◌, ◌≤◌, Bool, true, false, cond, None, List, [], ◌∷◌, ◌++◌, length, take, drop, min, refl, arith, sym, ◌∙◌, subst, ◌==◌, zero-add}
 use Rattle.std.proofs.Math.Nat.{div-mul-le_self, mul-le-mul_right, zero-mul}
 use Rattle.std.proofs.lemmas.Bool.{eqb-true}
@@ -101,7 +101,7 @@ pub record IsGrown (frame grown : Frame) (tags : List Tag) (xs : List BucketShel
   pub vertical : grown.vertical ≡ frame.vertical
   pub shelves : AreShelves grown (widened frame.column_width (grown_counts (grown.column_width - frame.column_width) (buckets_left xs) xs) tags xs)
 
--- the shelves of a growth without a fault
+-- the shelves of a grow without a fault
 pub shelves-grown : (frame : Frame) (size : Size) (tags : List Tag) (xs : List BucketShelf) → IsBucketedFrame frame → Fits frame size → AreShelves frame xs
     → AllByRecursion IsTag tags → ((n : ℕ) → times n (tag_numbers tags) + times n (bucket_numbers xs) ≤ 1) → IsGrown frame (grown_frame frame size) tags xs
 shelves-grown frame size tags xs is_frame fits valid each numbers =
@@ -141,7 +141,7 @@ shelves-grown frame size tags xs is_frame fits valid each numbers =
         no-more : (n m : ℕ) → n ≡ m → n - m ≡ 0
         no-more n m h = omega (arith, h)
 
--- the state after a growth without a fault is valid
+-- the state after a grow without a fault is valid
 pub grown-valid : (state : BucketedState) (size : Size) (tags : List Tag) → IsValid state → grow_fault state.frame size ≡ None
     → AreNewTags state.shelves (total (grow_counts state.frame size state.shelves)) tags → IsValid (grown state size tags)
 grown-valid state size tags valid h are_new =
@@ -152,6 +152,6 @@ grown-valid state size tags valid h are_new =
       ends = ends-widened state.frame.column_width (grow_counts state.frame size state.shelves) tags state.shelves ∙ valid.ends;
     }
 
--- a growth leads to a valid state
+-- a grow leads to a valid state
 pub grows-valid : (old : BucketedState) (size : Size) (new : BucketedState) → IsValid old → Grows old size new → IsValid new
 grows-valid old size new valid h = subst IsValid (sym h.after) (grown-valid old size h.tags valid h.fits h.new_tags)

@@ -1,4 +1,4 @@
--- What a growth leaves: records that spell the grown state, and its totals.
+-- What a grow leaves: records that spell the grown state, and its totals.
 use Rattle.std.proofs.Common.{◌≡◌, ℕ, ◌+◌, ◌-◌, ◌*◌, ◌≤◌, max, Bool, true, false, None, List, [], ◌∷◌, ◌++◌, length, drop, refl, ap, arith, sym, ◌∙◌, ◌==◌}
 use Rattle.std.proofs.Math.Nat.{zero-mul}
 use Rattle.std.proofs.lemmas.Bool.{eqb-true}
@@ -51,7 +51,7 @@ places-width : (one other : Frame) (xs : List BucketShelf) → one.column_width 
 places-width one other [] e = tt
 places-width one other (x ∷ xs) e = (ap (λ (w : ℕ). x.column * w) e, places-width one other xs e)
 
--- a growth moves no column that has a shelf
+-- a grow moves no column that has a shelf
 places-grown : (frame : Frame) (size : Size) (xs : List BucketShelf) → AllByRecursion (IsShelf frame) xs → SamePlaces frame (grown_frame frame size) xs
 places-grown frame size xs each = by_test (frame.columns == 1) refl
   where
@@ -65,12 +65,12 @@ total-left frame added left before [] = omega arith
 total-left frame added left before (x ∷ xs) =
     omega (arith, total-left frame added (left - share added x.bucket_width left) (before ++ x ∷ []) xs)
 
--- the records after a growth
+-- the records after a grow
 abbrev pub stored_grown : Frame → Size → ℕ → Stored → Stored
 stored_grown frame size left stored =
     shelves_widened (length stored.shelves) 0 frame.column_width ((grown_frame frame size).column_width - frame.column_width) left stored
 
--- what holds before and after a growth that has no fault
+-- what holds before and after a grow that has no fault
 pub record IsGrownAtlas (stored : Stored) (state : BucketedState) (size : Size) : Type 0 where
   pub new : BucketedState
   pub grows : Grows state size new
@@ -86,7 +86,7 @@ pub record IsGrownAtlas (stored : Stored) (state : BucketedState) (size : Size) 
   pub used : buckets_in_use state.shelves ≤ length stored.buckets
   pub in_use : buckets_in_use new.shelves ≡ total (grow_counts state.frame size state.shelves) + buckets_in_use state.shelves
 
--- a growth that has no fault
+-- a grow that has no fault
 pub grown-is : (stored : Stored) (unused : List ℕ) (state : BucketedState) (size : Size) → Witnessed stored unused state → grow_fault state.frame size ≡ None
     → IsGrownAtlas stored state size
 grown-is stored unused state size witnessed fits =
@@ -124,6 +124,6 @@ grown-is stored unused state size witnessed fits =
       in_use = wide.in_use;
     }
 
--- a growth makes no column narrower
+-- a grow makes no column narrower
 pub width-grows : (frame : Frame) (size : Size) → IsBucketedFrame frame → grow_fault frame size ≡ None → frame.column_width ≤ (grown_frame frame size).column_width
 width-grows frame size is_frame none = (frame-grows 65534 frame size is_frame (grow-fits frame size none)).width.more

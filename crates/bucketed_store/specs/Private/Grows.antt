@@ -1,4 +1,4 @@
--- What a growth does to records: shelves get further buckets.
+-- What a grow does to records: shelves get further buckets.
 use Rattle.std.specs.Prelude.{◌≡◌, ℕ, zero, suc, ◌-◌, ◌/◌, min, max, Option, Some, List, [], ◌∷◌, length, ◌==◌, if◌then◌else◌}
 use Rattle.etagere_links.specs.Edits.{changed_by}
 use Rattle.bucketed_model.specs.State.{most_buckets}

@@ -34,7 +34,7 @@ fn push_asked(text: &mut String, asked: &Asked) -> Result<(), AllocError> {
             Count(tally.returns as u128),
             Words("\nlooks         "),
             Count(tally.looks as u128),
-            Words("\ngrowths       "),
+            Words("\ngrows         "),
             Count(tally.grows as u128),
             Words(", of which "),
             Count(tally.grows_refused as u128),

@@ -83,7 +83,7 @@ answers-look position other entries state tied (Some allocation) found =
       answer = looked position other allocation allocation.rectangle index entries state tied found refl refl;
     }
 
--- a growth has an answer
+-- a grow has an answer
 answers-grow : (position : ℕ) (size : Size) (entries : List Entry) (state : AtlasState) → IsTied entries state
     → (fault : Option AtlasGrowFault) → grow_fault state size ≡ fault → Answers position (Grow size) entries state
 answers-grow position size entries state tied (Some fault) is =

@@ -59,7 +59,7 @@ same-records : (old new : AtlasState) (most live : ℕ) → new ≡ old → old.
 same-records old new most live same =
     kept-records old new most live (ap (λ (s : AtlasState). s.peak_items) same) (ap (λ (s : AtlasState). s.frame) same)
 
--- a growth leaves few records
+-- a grow leaves few records
 grown-records : (old new : AtlasState) (size : Size) (most live : ℕ) → new ≡ atlas_grown old size
     → old.frame.columns ≤ new.frame.columns
     → items_in_use new.shelves ≤ record_bound live new.frame.columns

@@ -85,7 +85,7 @@ answers-return position other entries state tied (Some allocation) found =
           tied found refl refl;
     }
 
--- a growth has an answer: for memory where it makes buckets
+-- a grow has an answer: for memory where it makes buckets
 answers-grow : (position : ℕ) (size : Size) (entries : List Entry) (state : BucketedState) → IsInBuckets entries state
     → (fault : Option GrowFault) → grow_fault state.frame size ≡ fault → Answers position (Grow size) entries state
 answers-grow position size entries state tied (Some fault) is =

@@ -47,20 +47,20 @@ pub record Shows (entries : List Entry) (position : ℕ) (rectangle : Rectangle)
   pub rectangle_is : rectangle ≡ allocation.rectangle
   pub index_is : index ≡ allocation.id % index_modulus
 
--- a growth to a size leads from one state to the next: it has no fault, and no column is lost
+-- a grow to a size leads from one state to the next: it has no fault, and no column is lost
 pub record Grows (old : AtlasState) (size : Size) (new : AtlasState) : Type 0 where
   pub fits : grow_fault old size ≡ None
   pub after : new ≡ atlas_grown old size
   pub valid : IsValid new
   pub columns : old.frame.columns ≤ new.frame.columns
 
--- a growth to a size has a fault of this number
+-- a grow to a size has a fault of this number
 pub record RefusesGrow (state : AtlasState) (size : Size) (number : ℕ) : Type 0 where
   pub fault : AtlasGrowFault
   pub fault_is : grow_fault state size ≡ Some fault
   pub number_is : number ≡ grow_fault_number fault
 
--- a growth to a size has no fault, but needs records
+-- a grow to a size has no fault, but needs records
 pub record NeedsRecords (state : AtlasState) (size : Size) : Type 0 where
   pub fits : grow_fault state size ≡ None
   pub some : 1 ≤ records_needed state size

@@ -35,7 +35,7 @@ pub record PlacesInBucket (old : BucketedState) (size : Size) (allocation : Allo
   pub valid : IsValid new
   pub large : IsLarge old.frame size allocation.rectangle
 
--- a growth to a size has a fault of this number
+-- a grow to a size has a fault of this number
 pub record RefusesGrow (frame : Frame) (size : Size) (number : ℕ) : Type 0 where
   pub fault : GrowFault
   pub fault_is : grow_fault frame size ≡ Some fault

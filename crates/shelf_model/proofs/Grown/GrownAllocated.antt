@@ -1,4 +1,4 @@
--- A growth changes no allocated rectangle and no allocated space.
+-- A grow changes no allocated rectangle and no allocated space.
 use Rattle.std.proofs.Common.{◌≡◌, ℕ, suc, ◌+◌, ◌≤◌, Bool, true, false, cond, ◌==◌, List, [], ◌∷◌, ◌++◌, map, refl, ap, ◌∙◌, arith}
 use Rattle.std.proofs.lemmas.List.{append-nil}
 use Rattle.etagere_base.specs.declared.frames.Frame.{Frame}

@@ -12,7 +12,7 @@ use Rattle.shelf_model.specs.declared.faults.AtlasGrowFault.TheVariants as fault
 use Rattle.shelf_model.specs.Growing.{added_columns, added_height, added_width, grow_fault, grown_frame, of_resize, or_records_fault, records_needed, size_fault}
 use Rattle.shelf_model.specs.State.{AtlasState, items_in_use}
 
--- what the tests of a growth have shown
+-- what the tests of a grow have shown
 pub record Fits (state : AtlasState) (size : Size) : Type 0 where
   pub sizes : FitsSize 65535 state.frame size
   pub records : items_in_use state.shelves + records_needed state size ≤ 65535
@@ -30,7 +30,7 @@ both-none items (Some fault) h = absurd (cc)
 pub size-fits : (frame : Frame) (size : Size) → size_fault frame size ≡ None → FitsSize 65535 frame size
 size-fits frame size h = base.size-fits 65535 frame size (no-fault of_resize (resize_fault 65535 frame size) h)
 
--- a growth without a fault
+-- a grow without a fault
 pub grow-fits : (state : AtlasState) (size : Size) → grow_fault state size ≡ None → Fits state size
 grow-fits state size h =
     let none = both-none (items_in_use state.shelves + records_needed state size) (size_fault state.frame size) h in
@@ -44,7 +44,7 @@ pub record GrowsFrame (frame : Frame) (size : Size) : Type 0 where
   pub column_width : (grown_frame frame size).column_width ≡ frame.column_width + added_width frame size
   pub across : across_side (grown_frame frame size) ≡ across_side frame + added_height frame size
 
--- a growth without a fault makes a frame
+-- a grow without a fault makes a frame
 pub frame-grows : (frame : Frame) (size : Size) → IsFrame 65535 frame → FitsSize 65535 frame size → GrowsFrame frame size
 frame-grows frame size is_frame fits =
     let grows = base.frame-grows 65535 frame size is_frame fits in

@@ -1,4 +1,4 @@
--- A growth without a fault leads from a valid state to a valid one, in which the same is allocated.
+-- A grow without a fault leads from a valid state to a valid one, in which the same is allocated.
 use Rattle.std.proofs.Common.{◌≡◌, ◌≢◌, ℕ, zero, suc, ◌+◌, ◌*◌, ◌%◌, ◌<◌, ◌≤◌, Bool, true, false, cond, ◌==◌, ◌&&◌, List, [], ◌∷◌, ◌++◌, length, map, refl, ap, ◌∙◌, sym, arith, subst, ⊎_elim}
 use Rattle.std.proofs.Math.Nat.{mod-add-mod}
 use Rattle.std.proofs.lemmas.Bool.{cases_lt, eqb-true, le-ltb, ne_eqb}

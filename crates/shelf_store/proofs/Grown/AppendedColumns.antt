@@ -1,4 +1,4 @@
--- Columns are appended after the last shelf, half way through a growth: what the records spell then.
+-- Columns are appended after the last shelf, half way through a grow: what the records spell then.
 use Rattle.std.proofs.Common.{◌≡◌, ℕ, zero, suc, ◌+◌, ◌-◌, ◌*◌, ◌/◌, ◌<◌, ◌≤◌, Option, None, Some, List, [], ◌∷◌, ◌++◌, length, refl, ap, append_assoc, append-nil, sym, subst, ◌∙◌, arith, false}
 use Rattle.std.proofs.lemmas.List.{length-map}
 use Rattle.std.specs.Prelude.{◌==◌}

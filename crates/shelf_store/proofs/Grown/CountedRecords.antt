@@ -1,4 +1,4 @@
--- What a growth is counted to need on kept records is what it needs of the state that they spell.
+-- What a grow is counted to need on kept records is what it needs of the state that they spell.
 use Rattle.std.proofs.Common.{◌≡◌, ℕ, zero, suc, ◌+◌, ◌-◌, ◌*◌, ◌≤◌, Bool, true, false, cond, ◌&&◌, ◌==◌, Option, None, Some, List, [], ◌∷◌, length, map, refl, ap, sym, ◌∙◌, arith}
 use Rattle.std.specs.Prelude.{◌/◌, ◌%◌, nat_lt, not}
 use Rattle.etagere_base.specs.declared.frames.Frame.{Frame}
@@ -156,7 +156,7 @@ ends-counted frame records kept =
     each-said [] placed flags = tt
     each-said (x ∷ xs) placed flags = (record { along = placed.0.along; flag = flags.0 }, each-said xs placed.1 flags.1)
 
--- what is counted on kept records is what a growth needs
+-- what is counted on kept records is what a grow needs
 pub needed-counted : (frame : Frame) (size : Size) (records : Records) → AreKept frame records
     → (needed_of frame (grown_frame frame size) records).items ≡ records_needed (state_of frame records) size
 needed-counted frame size records kept =

@@ -1,4 +1,4 @@
--- Where all that a growth needs was put to use, the records are kept, and spell the grown state.
+-- Where all that a grow needs was put to use, the records are kept, and spell the grown state.
 use Rattle.std.proofs.Common.{pos, ◌≡◌, ℕ, ◌+◌, ◌-◌, ◌<◌, ◌≤◌, List, [], ◌++◌, length, map, refl, ap, ◌∙◌, sym, subst, arith, ⊎_elim}
 use Rattle.std.proofs.lemmas.Bool.{cases_lt}
 use Rattle.etagere_base.specs.declared.frames.Frame.{Frame}
@@ -26,12 +26,12 @@ use Rattle.shelf_records.proofs.Spelled.StandsKept.{witnesses}
 none-left : (from unused : ℕ) → numbers_from from (0 - unused) ++ [] ≡ []
 none-left from unused = let none : 0 - unused ≡ 0 = omega arith in rw none refl
 
--- where records were made for a growth none becomes unused, so where one becomes unused none were made
+-- where records were made for a grow none becomes unused, so where one becomes unused none were made
 none-made : (old new unused : ℕ) → old ≤ new → (old < new → unused ≤ 0) → 1 ≤ unused → new ≡ old
 none-made old new unused more used_up some =
     ⊎_elim (λ (longer : old < new). absurd (omega (arith, some, used_up longer))) (λ (few : new ≤ old). omega (arith, few, more)) (cases_lt old new)
 
--- where nothing more waits to be put to use the growth has ended
+-- where nothing more waits to be put to use the grow has ended
 pub ended : (frame : Frame) (size : Size) (records : Records) (growing : Growing) → AreKept frame records → Fits (state_of frame records) size
     → HasGrown (grown_frame frame size) (length records.items) growing (atlas_grown (state_of frame records) size).shelves 0 0
     → (state_of (grown_frame frame size) growing.records ≡ atlas_grown (state_of frame records) size) × AreKept (grown_frame frame size) growing.records

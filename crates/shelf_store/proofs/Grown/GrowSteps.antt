@@ -1,4 +1,4 @@
--- Loops of a growth, step by step: what is left to be done does what all does from the start.
+-- Loops of a grow, step by step: what is left to be done does what all does from the start.
 use Rattle.std.proofs.Common.{◌≡◌, ℕ, zero, suc, ◌+◌, ◌*◌, ◌≤◌, Bool, true, false, cond, Option, None, Some, List, refl, arith}
 use Rattle.etagere_base.specs.declared.frames.Frame.{Frame}
 use Rattle.etagere_base.specs.Frames.{across_side}
@@ -39,7 +39,7 @@ pub bit-le : (b : Bool) → cond b 1 0 ≤ 1
 bit-le true = omega arith
 bit-le false = omega arith
 
--- records and numbers that are those of a growth are it
+-- records and numbers that are those of a grow are it
 pub growing-is : (records : Records) (made : Made) (growing : Growing) → records ≡ growing.records → made ≡ growing.made
     → record { records = records; made = made } ≡ growing
 growing-is records made growing h k = rw (h, k) refl

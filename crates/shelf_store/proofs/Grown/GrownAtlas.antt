@@ -1,4 +1,4 @@
--- What a growth of an atlas comes to: what it counts and keeps goes on.
+-- What a grow of an atlas comes to: what it counts and keeps goes on.
 use Rattle.std.proofs.Common.{◌≡◌, ℕ, ◌+◌, ◌<◌, ◌≤◌, None, Some, ap, ◌∙◌, sym, arith, subst}
 use Rattle.std.proofs.lemmas.Bool.{cond-false, le-ltb}
 use Rattle.std.specs.Prelude.{nat_lt}
@@ -32,7 +32,7 @@ no-fault state size none few =
 pub many-fault : (state : AtlasState) (size : Size) → 65535 < items_in_use state.shelves + records_needed state size → grow_fault state size ≡ None → ⊥
 many-fault state size many none = let fits = grow-fits state size none in absurd (omega (arith, fits.records, many))
 
--- what a growth that has no fault comes to, whether there is memory for it or not
+-- what a grow that has no fault comes to, whether there is memory for it or not
 pub record GrowsAtlas (frame : Frame) (size : Size) (records : Records) (grown : Frame) (needed : Needed) : Type 0 where
   pub none : grow_fault (state_of frame records) size ≡ None
   pub is_frame : IsFrame 65535 grown
@@ -52,7 +52,7 @@ columns-grow frame size grown is_frame none is =
     let columns = ap (λ (f : Frame). f.columns) is in
     (omega (arith, columns, grows.columns), omega (arith, columns, columns-le (grown_frame frame size) grows.is_frame))
 
--- a growth of kept records
+-- a grow of kept records
 pub grows-atlas : GrowsKept → (frame : Frame) (size : Size) (records : Records) (grown : Frame) (needed : Needed)
     → AreKept frame records → size_fault frame size ≡ None → grown ≡ grown_frame frame size
     → needed ≡ needed_of frame grown records → items_in_use (state_of frame records).shelves + needed.items ≤ 65535

@@ -1,4 +1,4 @@
--- A growth of kept records, step after step, from those that it makes to the grown state.
+-- A grow of kept records, step after step, from those that it makes to the grown state.
 use Rattle.std.proofs.Common.{◌≡◌, ℕ, ◌+◌, ◌-◌, ◌<◌, ◌≤◌, ◌≢◌, Bool, true, false, cond, Some, List, [], ◌∷◌, ◌++◌, length, map, refl, ap, ◌∙◌, sym, subst, arith, ⊎_elim, ◌==◌}
 use Rattle.std.proofs.lemmas.Bool.{cases_lt, cond-false, cond-true}
 use Rattle.std.proofs.lemmas.List.{append-nil, length-map}
@@ -106,7 +106,7 @@ module _ (frame : Frame) (size : Size) (records : Records) (kept : AreKept frame
   grows : GrowsFrame frame size
   grows = frame-grows frame size (witnesses kept).valid.frame fits.sizes
 
-  -- what the growth needs is counted on the records
+  -- what the grow needs is counted on the records
   counts : CountsEnds frame records
   counts = ends-counted frame records kept
 
@@ -230,7 +230,7 @@ module _ (frame : Frame) (size : Size) (records : Records) (kept : AreKept frame
           let none : columns ≡ 0 = (gains-none frame.columns grown.columns e).1 in
           grown-as start (sym (ap (λ (n : ℕ). tall ++ empty_columns grown frame.columns n) none ∙ append-nil tall)) none none
 
--- where widening, heightening and appending do what they say, a growth of kept records without a fault keeps them, and
+-- where widening, heightening and appending do what they say, a grow of kept records without a fault keeps them, and
 -- they spell the grown state
 pub grows-kept : Widens → Heightens → Appends → GrowsKept
 grows-kept widens heightens appends frame size records kept no_fault =

@@ -1,4 +1,4 @@
--- A growth makes the shelf records that are missing, and no others.
+-- A grow makes the shelf records that are missing, and no others.
 use Rattle.std.proofs.Common.{◌≡◌, ℕ, zero, suc, ◌+◌, ◌-◌, ◌*◌, Bool, true, false, cond, Option, None, Some, List, length, refl, ◌∙◌}
 use Rattle.std.specs.Prelude.{is_some, nat_lt}
 use Rattle.etagere_base.specs.Frames.{across_side}
@@ -91,7 +91,7 @@ where-due : (b : Bool) (new old : Growing) → count new ≡ count old → count
 where-due true new old same = same
 where-due false new old same = refl
 
--- a growth makes the shelf records that are missing
+-- a grow makes the shelf records that are missing
 pub grown-count : (frame grown : Frame) (needed : Needed) (records : Records)
     → length (records_grown frame grown needed records).records.shelves
     ≡ length records.shelves + missing shelf_chain needed.shelves records.unused_shelves records.shelves

@@ -1,4 +1,4 @@
--- Where columns become neither wider nor taller nor more, a growth needs no record and changes none.
+-- Where columns become neither wider nor taller nor more, a grow needs no record and changes none.
 use Rattle.std.proofs.Common.{◌≡◌, ◌-◌, Bool, true, false, ℕ, List, refl, ap, ◌∙◌, sym, arith, subst}
 use Rattle.std.specs.Prelude.{nat_lt, ◌||◌}
 use Rattle.etagere_base.specs.declared.frames.Frame.{Frame}

@@ -1,4 +1,4 @@
--- Records half way through a growth: what they spell in the grown frame, and which of them wait to be put to use.
+-- Records half way through a grow: what they spell in the grown frame, and which of them wait to be put to use.
 use Rattle.std.proofs.Common.{◌≡◌, ℕ, suc, ◌+◌, ◌-◌, ◌*◌, ◌/◌, ◌<◌, ◌≤◌, ◌≢◌, cond, None, Some, List, [], ◌∷◌, ◌++◌, length, map}
 use Rattle.std.specs.List.{AllByRecursion}
 use Rattle.etagere_base.specs.Lists.{NoNeighbours, times, total}
@@ -25,7 +25,7 @@ use Rattle.shelf_records.proofs.Spelled.RecordValues.{SameShelf}
 use Rattle.shelf_store.proofs.Spelled.SpelledLists.{IsSpelledBut}
 
 -- records that spell these lists, while so many of each kind are still to be put to use: those that became unused, and
--- then those that were made for it; before the growth there were so many items
+-- then those that were made for it; before the grow there were so many items
 pub record IsGrowing (frame : Frame) (old : ℕ) (growing : Growing) (entries : List Entry) (unused_items unused_shelves : List ℕ) (items shelves : ℕ) : Type 0 where
   pub spelled : IsSpelledBut (bare frame growing.records) (lists_of entries unused_items unused_shelves)
       (numbers_from growing.made.item (items - length unused_items) ++ [])
@@ -111,7 +111,7 @@ Appends =
     → ((last : ℕ) → last_shelf growing.records ≡ Some last → CanAppend grown (grown.columns - first) last first growing)
     × HasGrown grown old (columns_added grown first (last_shelf growing.records) growing) (shelves ++ empty_columns grown first (grown.columns - first)) items more
 
--- what a growth comes to: the records are kept in the grown frame, and spell the grown state
+-- what a grow comes to: the records are kept in the grown frame, and spell the grown state
 pub record GrowsRecords (frame : Frame) (size : Size) (records : Records) : Type 0 where
   pub can : CanGrow frame (grown_frame frame size) (needed_of frame (grown_frame frame size) records) records
   pub kept : AreKept (grown_frame frame size)

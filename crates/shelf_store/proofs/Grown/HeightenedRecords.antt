@@ -1,4 +1,4 @@
--- Records half way through a growth that get a height at the end of each column: they spell the shelves that get it.
+-- Records half way through a grow that get a height at the end of each column: they spell the shelves that get it.
 use Rattle.std.proofs.Common.{◌≡◌, ℕ, zero, suc, ◌+◌, ◌≤◌, true, Option, None, Some, List, [], ◌∷◌, ◌++◌, length, refl, sym, ◌∙◌, arith, append_assoc, subst}
 use Rattle.std.proofs.lemmas.List.{append-nil}
 use Rattle.etagere_base.specs.declared.frames.Frame.{Frame}

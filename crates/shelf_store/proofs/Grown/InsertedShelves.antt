@@ -1,4 +1,4 @@
--- An empty shelf is put after another one, half way through a growth: what the records spell then.
+-- An empty shelf is put after another one, half way through a grow: what the records spell then.
 use Rattle.std.proofs.Common.{◌≡◌, ◌≢◌, ℕ, suc, ◌+◌, ◌-◌, ◌*◌, ◌/◌, ◌<◌, ◌≤◌, true, false, Option, None, Some, List, [], ◌∷◌, ◌++◌, length, map, refl, ap, sym, subst, ◌∙◌, arith, append_assoc}
 use Rattle.std.proofs.Math.Nat.{mul-div_cancel, mul-mod_left}
 use Rattle.std.specs.Prelude.{◌%◌, is_some, slice_get}

@@ -1,4 +1,4 @@
--- Linked records stay linked when a growth puts one to use: one that became unused, and then one that was made for it.
+-- Linked records stay linked when a grow puts one to use: one that became unused, and then one that was made for it.
 use Rattle.std.proofs.Common.{◌≡◌, ℕ, zero, suc, ◌+◌, ◌-◌, ◌≤◌, Bool, true, Option, None, Some, List, [], ◌∷◌, ◌++◌, length, refl, ap, sym, subst, ◌∙◌, arith}
 use Rattle.std.specs.Prelude.{is_some}
 use Rattle.std.specs.Option.{option_map_or}

@@ -1,4 +1,4 @@
--- Where a growth puts no shelf record to use, the shelves in use are those that they were: it changes heights and items.
+-- Where a grow puts no shelf record to use, the shelves in use are those that they were: it changes heights and items.
 use Rattle.std.proofs.Common.{◌≡◌, ℕ, zero, suc, ◌+◌, ◌-◌, Bool, true, false, cond, Option, None, Some, List, length, map, refl, ap, arith, subst, sym, ◌∙◌}
 use Rattle.std.proofs.lemmas.List.{length-map}
 use Rattle.std.proofs.lemmas.Simd.{map-map}
@@ -143,7 +143,7 @@ widths-alike place width (suc steps) (Some shelf) growing =
     (widened-alike shelf place width (last_item growing.records shelf) growing)
     (widths-alike place width steps next widened)
 
--- a growth that needs no shelf record
+-- a grow that needs no shelf record
 grown-alike : (frame grown : Frame) (needed : Needed) (records : Records) → needed ≡ needed_of frame grown records → needed.shelves ≡ 0
     → IsAlike records (records_grown frame grown needed records).records
 grown-alike frame grown needed records is none =
@@ -211,7 +211,7 @@ same-shelves frame old new before after are same alike shelf =
     ∙ are.once shelf
     ∙ ap (times shelf) (walked-numbers old (shelf_walk old).met ∙ sym (walk-alike old new alike) ∙ sym (walked-numbers new (shelf_walk new).met))
 
--- nor does a growth that needs none change which they are
+-- nor does a grow that needs none change which they are
 pub grown-same : (frame grown : Frame) (needed : Needed) (old new : Records) (before after : List BoundedShelf) → AreByHeight frame old before → after ≡ before
     → needed ≡ needed_of frame grown old → needed.shelves ≡ 0 → new ≡ (records_grown frame grown needed old).records
     → (shelf : ℕ) → times shelf (numbers_by_height after) ≡ times shelf (shelf_numbers (walked_lists new).entries)

@@ -1,4 +1,4 @@
--- Kept records with those that a growth makes ahead: in the grown frame they spell what they spelled, and what it needs
+-- Kept records with those that a grow makes ahead: in the grown frame they spell what they spelled, and what it needs
 -- waits to be put to use.
 use Rattle.std.proofs.Common.{◌≡◌, ℕ, zero, suc, ◌+◌, ◌-◌, ◌*◌, ◌<◌, ◌≤◌, false, None, List, [], ◌∷◌, ◌++◌, length, length-append, map, refl, ap, ◌∙◌, sym, subst, arith, ⊎_elim}
 use Rattle.std.proofs.Math.Nat.{zero-div, zero-mod, zero-mul}
@@ -145,7 +145,7 @@ module _ (frame : Frame) (size : Size) (records : Records) (kept : AreKept frame
   abbrev unused_shelves : List ℕ
   unused_shelves = (walked_lists records).unused_shelves
 
-  -- the growth has no fault
+  -- the grow has no fault
   fits : Fits (state_of frame records) size
   fits = grow-fits (state_of frame records) size no_fault
 
@@ -249,7 +249,7 @@ module _ (frame : Frame) (size : Size) (records : Records) (kept : AreKept frame
       (numbers_from (length records.items) n ++ []) (numbers_from (length records.shelves) (missing shelf_chain needed.shelves records.unused_shelves records.shelves) ++ []))
       missing-items spelled-made)
 
-  -- with the records that are missing all that a growth needs waits to be put to use
+  -- with the records that are missing all that a grow needs waits to be put to use
   pub started : HasGrown (grown_frame frame size) (length records.items) (with_missing (needed_of frame (grown_frame frame size) records) records)
       (state_of frame records).shelves (needed_of frame (grown_frame frame size) records).items (needed_of frame (grown_frame frame size) records).shelves
   started =

@@ -1,4 +1,4 @@
--- Records half way through a growth stay what they are when the last shelf of a column becomes taller.
+-- Records half way through a grow stay what they are when the last shelf of a column becomes taller.
 use Rattle.std.proofs.Common.{◌≡◌, ◌≢◌, ℕ, ◌+◌, ◌<◌, ◌≤◌, ◌/◌, false, Some, List, [], ◌∷◌, ◌++◌, length, refl, ap, sym, ◌∙◌, arith, subst}
 use Rattle.etagere_base.specs.declared.frames.Frame.{Frame}
 use Rattle.std.specs.List.{AllByRecursion}
@@ -58,7 +58,7 @@ tall-values records number height within =
       as_many = length-changed_by change old (Some number);
     }
 
--- what a growth comes to where the last shelf of a column became taller
+-- what a grow comes to where the last shelf of a column became taller
 pub record IsTallerEnd (frame : Frame) (old : ℕ) (growing new : Growing) (before after : List Entry) (entry : Entry) (unused_items unused_shelves : List ℕ) (items shelves height : ℕ) : Type 0 where
   pub is : IsGrowing frame old new (before ++ entry ∷ after) unused_items unused_shelves items shelves
   pub before_spelled : shelves_spelled frame new.records before ≡ shelves_spelled frame growing.records before

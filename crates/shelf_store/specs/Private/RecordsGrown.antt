@@ -1,4 +1,4 @@
--- A growth on linked records, step by step: what it needs, what it adds at the end of each shelf and of
+-- A grow on linked records, step by step: what it needs, what it adds at the end of each shelf and of
 -- each column, and which records it puts to use for that.
 use Rattle.std.specs.Prelude.{◌≡◌, ℕ, zero, suc, ◌+◌, ◌-◌, ◌*◌, ◌<◌, Bool, true, false, ◌&&◌, not, Option, None, Some, option_map, List, length, nat_lt, ◌==◌, if◌then◌else◌}
 use Rattle.std.specs.Option.{option_map_or}
@@ -69,7 +69,7 @@ abbrev pub filled_ends_of : Records → ℕ
 filled_ends_of records =
     counted_from (is_filled_end records.shelves) records.shelves (length records.shelves) records.first_shelf
 
--- how many item and shelf records a growth from one frame to another needs
+-- how many item and shelf records a grow from one frame to another needs
 abbrev pub needed_of : Frame → Frame → Records → Needed
 needed_of frame grown records =
     let shelves =
@@ -264,7 +264,7 @@ with_columns frame grown growing =
     then columns_added grown frame.columns (last_shelf growing.records) growing
     else growing
 
--- the records after a growth from one frame to another, for which they need so many
+-- the records after a grow from one frame to another, for which they need so many
 abbrev pub records_grown : Frame → Frame → Needed → Records → Growing
 records_grown frame grown needed records =
     with_columns frame grown
@@ -323,7 +323,7 @@ CanAppend frame (suc count) previous column growing =
     (shelf_inserted frame.column_width previous (column * frame.column_width) 0
     (across_side frame) growing)
 
--- what a growth needs of records
+-- what a grow needs of records
 pub record CanGrow (frame grown : Frame) (needed : Needed) (records : Records) : Type 0 where
   pub width : nat_lt frame.column_width grown.column_width ≡ true
       → CanWidenAll frame.column_width (grown.column_width - frame.column_width)

@@ -1,4 +1,4 @@
-//! How many records a growth needs, counted before the first change.
+//! How many records a grow needs, counted before the first change.
 //!
 //! Definitions: `RecordsGrown`.
 
@@ -10,7 +10,7 @@ use crate::growing::Needed;
 use etagere_base::Frame;
 use shelf_records::{Chain, LinkedItem, LinkedShelf, Records, fields, next_of};
 
-/// How many records a growth to a frame needs.
+/// How many records a grow to a frame needs.
 pub fn needed_for(frame: &Frame, grown: &Frame, records: &Records) -> Needed
     requires few { length records.now.shelves ≤ no_link }
     requires columns { (frame.now.columns ≤ grown.now.columns) × (grown.now.columns ≤ no_link) }

@@ -1,4 +1,4 @@
-//! Puts records to use for what a growth adds, and empty shelves in after others.
+//! Puts records to use for what a grow adds, and empty shelves in after others.
 //!
 //! Definitions: `RecordsGrown`. What is put to use is what became unused last, and then what was made.
 

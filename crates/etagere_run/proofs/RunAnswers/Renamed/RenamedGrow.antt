@@ -1,4 +1,4 @@
--- A growth and a new state under other numbers.
+-- A grow and a new state under other numbers.
 use Rattle.std.proofs.Common.{◌≡◌, ℕ, zero, suc, ◌+◌, Bool, true, false, ◌&&◌, cond, not, None, List, [], ◌∷◌, ◌++◌, map, refl, ap, sym, ◌∙◌}
 use Rattle.std.proofs.lemmas.List.{map-append}
 use Rattle.std.specs.Prelude.{max, ◌==◌, if◌then◌else◌}
@@ -57,7 +57,7 @@ module _ (name : ℕ → ℕ) where
       ap (λ n. (if added_width state.frame size == 0 then 0 else n) + needed_for_height (added_height state.frame size) (map (renamed_shelf name) state.shelves) + added_columns state.frame size) (ends-counted state.shelves)
       ∙ ap (λ n. needed_for_width (added_width state.frame size) state.shelves + (if added_height state.frame size == 0 then 0 else n) + added_columns state.frame size) (filled-renamed state.shelves)
 
-  -- a growth has the same fault
+  -- a grow has the same fault
   pub fault-renamed : (state : AtlasState) (size : Size) → grow_fault (renamed name state) size ≡ grow_fault state size
   fault-renamed state size =
       ap (λ n. or_records_fault (n + records_needed (renamed name state) size) (size_fault state.frame size)) (in_use-renamed name state.shelves)
@@ -119,7 +119,7 @@ module _ (name : ℕ → ℕ) where
       ∙ ap (λ (ss : List Shelf). ss ++ more) (heightened-renamed frame (added_height state.frame size) wide)
       ∙ ap (λ (ss : List Shelf). heightened frame (added_height state.frame size) ss ++ more) (widened-renamed state.frame (added_width state.frame size) state.shelves))
 
-  -- a growth changes no id
+  -- a grow changes no id
   pub grown-renamed : (state : AtlasState) (size : Size) → renamed name (atlas_grown state size) ≡ atlas_grown (renamed name state) size
   grown-renamed state size =
       let frame : Frame = grown_frame state.frame size in

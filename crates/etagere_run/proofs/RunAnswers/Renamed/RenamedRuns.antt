@@ -68,7 +68,7 @@ abbrev IsShown : AtlasState → Reply → AtlasState → Option Allocation → T
 IsShown old reply new None = (reply ≡ NotLive) × (new ≡ old)
 IsShown old reply new (Some allocation) = (reply ≡ At allocation.rectangle (allocation.id % index_modulus)) × (new ≡ old)
 
--- and of a growth
+-- and of a grow
 abbrev IsGrown : AtlasState → Size → Reply → AtlasState → Option AtlasGrowFault → Type 0
 IsGrown old size reply new None = (reply ≡ Grown) × (new ≡ atlas_grown old size)
 IsGrown old size reply new (Some fault) = (reply ≡ GrowRefused (grow_fault_number fault)) × (new ≡ old)
@@ -98,7 +98,7 @@ is-shown entries old other (At rectangle index) new step =
 is-shown entries old other NotLive new step = subst (IsShown old NotLive new) (sym step.0) (refl, step.1)
 is-shown entries old other reply new step = absurd step
 
--- to a growth
+-- to a grow
 is-grown : (entries : List Entry) (old : AtlasState) (size : Size) (reply : Reply) (new : AtlasState) → AtlasStep entries old (Grow size) reply new → reply ≢ NoMemory → IsGrown old size reply new (grow_fault old size)
 is-grown entries old size Grown new step memory = subst (IsGrown old size Grown new) (sym step.fits) (refl, step.after)
 is-grown entries old size (GrowRefused number) new step memory =
@@ -191,7 +191,7 @@ shown-alike position earlier ones others one other new another reply answer None
 shown-alike position earlier ones others one other new another reply answer (Some allocation) alike (reply_is, new_is) (answer_is, another_is) =
     rw (reply_is, answer_is, new_is, another_is) (record { same = refl; alike = alike })
 
--- a growth
+-- a grow
 grown-alike : (position : ℕ) (size : Size) (ones others : List Entry) (one other new another : AtlasState) (reply answer : Reply) (o : Option AtlasGrowFault)
     → AreAlike ones others one other → IsGrown one size reply new o → IsGrown other size answer another o
     → AnswerAlike position (Grow size) reply answer ones others new another

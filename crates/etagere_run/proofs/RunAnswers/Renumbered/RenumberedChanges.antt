@@ -1,4 +1,4 @@
--- What a taking, a return and a growth change, under other numbers of buckets.
+-- What a taking, a return and a grow change, under other numbers of buckets.
 use Rattle.std.proofs.Common.{◌≡◌, ℕ, zero, suc, ◌+◌, ◌-◌, ◌*◌, ◌/◌, min, Bool, true, false, cond, List, [], ◌∷◌, ◌++◌, length, map, take, drop, refl, ap, sym, ◌∙◌}
 use Rattle.std.proofs.lemmas.Bool.{eq-eqb, eqb-true}
 use Rattle.std.proofs.lemmas.List.{drop-map, length-map, map-append, take-map}
@@ -130,7 +130,7 @@ module _ (name : ℕ → ℕ) where
             (ap (λ c. plain_bucket (cond c (change (renumbered_bucket name b)) (renumbered_bucket name b))) (tests-renumbered b.tag.number number) ∙ here (b.tag.number == number) b)
             ∙ ap (λ (xs : List Bucket). renumbered_bucket name (changed_at number change b) ∷ xs) (buckets bs)
 
-  -- a growth
+  -- a grow
   counts-renumbered : (width left : ℕ) (shelves : List BucketShelf) → grown_counts width left (map (renumbered_shelf name) shelves) ≡ grown_counts width left shelves
   counts-renumbered width left [] = refl
   counts-renumbered width left (shelf ∷ shelves) =
@@ -155,7 +155,7 @@ module _ (name : ℕ → ℕ) where
       ∙ ap (λ (ss : List BucketShelf). record { column = shelf.column; height = shelf.height; bucket_width = shelf.bucket_width; buckets = new_buckets place shelf.bucket_width (take count (map (renumbered_tag name) tags)) ++ map (renumbered_bucket name) shelf.buckets } ∷ ss)
       (widened-renumbered place counts (drop count tags) shelves ∙ ap (λ (ts : List Tag). widened place counts ts (map (renumbered_shelf name) shelves)) (sym (drop-map (renumbered_tag name) count tags)))
 
-  -- a growth
+  -- a grow
   pub grown-renumbered : (state : BucketedState) (size : Size) (tags : List Tag) → renumbered name (grown state size tags) ≡ grown (renumbered name state) size (map (renumbered_tag name) tags)
   grown-renumbered state size tags =
       ap (λ (ss : List BucketShelf). record { frame = grown_frame state.frame size; shelves = ss })

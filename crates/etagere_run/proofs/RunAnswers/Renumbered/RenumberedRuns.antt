@@ -250,7 +250,7 @@ returned-alike position earlier ones others one other new another reply answer (
           };
     })
 
--- a growth of both
+-- a grow of both
 grown-alike : (position : ℕ) (size : Size) (ones others : List Entry) (one other new another : BucketedState)
     → IsInBuckets ones one → AreAlike ones others one other → Grows one size new → Grows other size another → AnswerAlike position (Grow size) Grown Grown ones others new another
 grown-alike position size ones others one other new another tied alike h g =
@@ -317,7 +317,7 @@ module _ (position : ℕ) (ones others : List Entry) (one other new another : Bu
   grown-step size NoMemory memory step other_step = absurd (memory refl)
   grown-step size answer memory step other_step = absurd other_step
 
-  -- where a growth has a fault
+  -- where a grow has a fault
   unfit-step : (size : Size) (number : ℕ) (answer : Reply) → answer ≢ NoMemory → BucketedStep ones one (Grow size) (GrowRefused number) new → BucketedStep others other (Grow size) answer another
       → AnswerAlike position (Grow size) (GrowRefused number) answer ones others new another
   unfit-step size number Grown memory step other_step =

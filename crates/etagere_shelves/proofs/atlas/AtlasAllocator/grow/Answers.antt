@@ -44,7 +44,7 @@ on_err : {T E P : Type 0} (r : Result T E) → is_err r ≡ true → OnErr r P �
 on_err (Ok x) h p = absurd (cc)
 on_err (Err e) h p = p
 
--- a growth of fields that are kept, to a size without a fault for which there are few enough items
+-- a grow of fields that are kept, to a size without a fault for which there are few enough items
 grows-inside : (inside : Inside) (size : Size) (grown : Frame) (needed : Needed) → IsConsistent inside → size_fault inside.frame size ≡ None
     → grown ≡ grown_frame inside.frame size → needed ≡ needed_of inside.frame grown inside.records → needed.items ≤ 65535 - inside.items_in_use
     → GrowsAtlas inside.frame size inside.records grown needed
@@ -83,7 +83,7 @@ returns-then-needed-self-clause-memory c none =
 pub returns-then-needed-self-clause-promises : goal.returns-then-needed-self-clause-promises
 returns-then-needed-self-clause-promises c = subst KeepsPromises c.self.view_is (promises (state_in c.self.inside) (witnesses c.self.invariant.kept).valid)
 
--- what the growth comes to, where it is begun
+-- what the grow comes to, where it is begun
 begun : (c : goal.After-grown-2-1)
     → GrowsAtlas c.self.inside.frame c.args.size c.self.inside.records c.grown_frame-grown.result c.needed_for-needed.result
 begun c =
