@@ -181,8 +181,8 @@ impl<A: Allocates> KeyedAllocations<A> {
     }
 
     /// Gives the allocation of a key. A key that is there becomes the most recently used; the size isn't looked at, no
-    /// memory is taken, and the call can't fail. A new key gets a place, and becomes the most recently used; where there is no
-    /// room, the least recently used keys are evicted first, no more than needed.
+    /// memory is taken, and the call can't fail. For a new key, which becomes the most recently used, the size is
+    /// allocated; where there is no room, the least recently used keys are evicted first, no more than needed.
     ///
     /// `TooLarge` comes exactly where the key is new and the size would have no place where nothing is allocated; then
     /// nothing changes. `Memory` comes only for a new key, with the keys that were evicted before memory ran out: these
