@@ -559,8 +559,9 @@ EtagereStatus etagere_bucketed_restore(EtagereBucketed *atlas, const uint8_t *te
 
 /* Fills a null handle with an empty cache of at most `capacity` keys, over an atlas of this size.
  * Answers ETAGERE_OK; ETAGERE_HANDLE_IN_USE; ETAGERE_LENGTH where the capacity is 0; ETAGERE_OPTIONS_.., the first
- * fault, ETAGERE_OPTIONS_MEMORY only where there is no other and no memory. Takes no memory for keys that aren't
- * there yet, and goes through the columns. */
+ * fault, ETAGERE_OPTIONS_MEMORY only where there is no other and no memory. Takes memory for the atlas and for a
+ * table of so many keys, or, where they may be more than 16384, for one that grows as they come, and goes through the
+ * columns and the table. */
 EtagereStatus etagere_cache_new(EtagereCache *cache, EtagereSize size, const EtagereOptions *options, size_t capacity);
 
 /* Frees a cache with all that it holds, and makes the handle null.

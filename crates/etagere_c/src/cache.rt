@@ -25,8 +25,9 @@ use std::num::NonZeroUsize;
 /// Fills a null handle with an empty cache of at most `capacity` keys, over an atlas of this size.
 ///
 /// Answers ETAGERE_OK; ETAGERE_HANDLE_IN_USE; ETAGERE_LENGTH where the capacity is 0; ETAGERE_OPTIONS_.., the first
-/// fault, ETAGERE_OPTIONS_MEMORY only where there is no other and no memory. Takes no memory for keys that aren't there
-/// yet, and goes through the columns.
+/// fault, ETAGERE_OPTIONS_MEMORY only where there is no other and no memory. Takes memory for the atlas and for a table
+/// of so many keys, or, where they may be more than 16384, for one that grows as they come, and goes through the columns
+/// and the table.
 #[unsafe(no_mangle)]
 pub extern "C" fn etagere_cache_new(
     alloc: Global,

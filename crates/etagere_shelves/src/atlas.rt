@@ -505,12 +505,7 @@ impl AtlasAllocator {
     {
         reset_records(&self.frame, &mut self.records);
         reset_by_height(&self.frame, &mut self.by_height);
-        settle_notes(
-            &self.frame,
-            &self.records,
-            &self.by_height,
-            &mut self.pending,
-        );
+        settle_notes(&self.records, &self.by_height, &mut self.pending);
         self.items_in_use = self.frame.columns;
         self.allocated_space = 0;
     }

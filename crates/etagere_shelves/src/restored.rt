@@ -65,13 +65,8 @@ fn judge_walked(
     ensures ok { OnOk result (StandsFor atlas.now (state_spelled atlas.now)) }
     ensures fault { IfErr result (IsBroken atlas.now) }
 {
-    let Ok(entries) = walked_shelves(
-        alloc,
-        atlas,
-        &walked.shelves,
-        &walked.items,
-        &walked.free_lists,
-    ) else {
+    let Ok(entries) = walked_shelves(alloc, &walked.shelves, &walked.items, &walked.free_lists)
+    else {
         return Err(RestoreFault::Memory);
     };
     judge_rules(alloc, atlas, &entries, &walked.unused)

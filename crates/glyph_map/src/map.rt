@@ -83,7 +83,8 @@ impl<K: Eq + Hash + Drop, V: Drop> GlyphMap<K, V> {
     /// An empty map of at most `capacity` keys, over an atlas of this size in pixels.
     ///
     /// Returns the first fault of the size and options; `Memory` only where there is no other and no memory. Takes
-    /// memory for the atlas, and none for keys that aren't there yet. Goes through the columns.
+    /// memory for the atlas and for one table of so many keys, or, where they may be more than 16384, for one that grows
+    /// as they come. Goes through the columns and the table.
     pub fn new(
         alloc: Global,
         size: Size,

@@ -4,11 +4,11 @@
 
 ghost use Rattle.std.specs.Prelude.{◌≡◌, ◌+◌, ◌≤◌, IfOk, drop, length, take};
 ghost use Rattle.shelf_records.specs.RecordLists.{unused_item_walk};
-ghost use Rattle.shelf_records.specs.AtlasRecords.{walked_entries};
+ghost use Rattle.shelf_records.specs.AtlasRecords.{AtlasRecords, walked_entries};
 ghost use Rattle.shelf_records.specs.Private.Restoring.{HasLists};
+ghost use Rattle.shelf_restoring.specs.Private.MetLists.{AreLists};
 
 use crate::judging::WalkedShelf;
-use crate::loaded_atlas::LoadedAtlas;
 use std::alloc::{AllocError, Global};
 
 /// Lists that walks met, one behind the other.
@@ -23,14 +23,16 @@ pub struct WalkedLists {
 /// The shelves of these numbers, which are those in use, with their items and free lists.
 pub fn walked_shelves<'a>(
     alloc: Global,
-    _atlas: &LoadedAtlas,
     numbers: &[u16],
     items: &'a WalkedLists,
     free_lists: &'a WalkedLists,
 ) -> Result<Vec<WalkedShelf<'a>>, AllocError>
-    requires { HasLists _atlas.now numbers.now items.now.met.items items.now.counts.items
-        free_lists.now.met.items free_lists.now.counts.items (unused_item_walk _atlas.now.records).met }
-    ensures { IfOk result (λ shelves. shelves.items ≡ walked_entries _atlas.now) }
+    requires { AreLists numbers.now items.now.met.items items.now.counts.items
+        free_lists.now.met.items free_lists.now.counts.items }
+    ensures { IfOk result (λ shelves. (atlas : AtlasRecords)
+        → HasLists atlas numbers.now items.now.met.items items.now.counts.items
+        free_lists.now.met.items free_lists.now.counts.items (unused_item_walk atlas.records).met
+        → shelves.items ≡ walked_entries atlas) }
 {
     let mut shelves = Vec::with_capacity(alloc, numbers.len())?;
     let mut start = 0;

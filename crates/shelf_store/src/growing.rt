@@ -89,10 +89,10 @@ pub fn grow_shelves(
     grow_records(records, frame, grown, needed)?;
     if needed.shelves > 0 {
         sort_shelves(grown, records, by_height);
-        settle_notes(grown, records, by_height, pending);
+        settle_notes(records, by_height, pending);
     } else if is_extended(frame, grown) {
         reorder_shelves(grown, records, by_height);
-        settle_notes(grown, records, by_height, pending);
+        settle_notes(records, by_height, pending);
     }
     Ok(())
 }

@@ -15,7 +15,7 @@ ghost use Rattle.etagere_links.specs.Links.{no_link};
 ghost use Rattle.shelf_notes.specs.Private.Pending.{is_in_use, is_listed, is_noted};
 ghost use Rattle.shelf_records.specs.Private.Kept.{AreKept, bare};
 ghost use Rattle.shelf_store.specs.Private.Settling as spec;
-ghost use Rattle.shelf_store.specs.Private.Settling.{AreByHeightButNoted, AreSettled, BeginAsListed, BeginsAsListed, Follows, IsBoundIn, IsBounded, IsSettled, bounded_anew};
+ghost use Rattle.shelf_store.specs.Private.Settling.{AreByHeightButNoted, AreSettled, BeginAsListed, BeginsAsListed, Follows, IsBoundIn, IsBounded, IsListOf, IsSettled, bounded_anew};
 
 use crate::starting::{FIRST_ROOM, newly_bounded, sort_shelves};
 use etagere_base::Frame;
@@ -106,19 +106,13 @@ pub fn settled_notes(
 {
     let room = records.shelves().len().max(FIRST_ROOM);
     let mut pending = PendingShelves::with_room(alloc, room)?;
-    settle_notes(frame, records, by_height, &mut pending);
+    settle_notes(records, by_height, &mut pending);
     Ok(pending)
 }
 
 /// Makes the notes those of a list that follows these records. There is room for them.
-pub fn settle_notes(
-    _frame: &Frame,
-    records: &Records,
-    by_height: &ShelvesByHeight,
-    pending: &mut PendingShelves,
-)
-    requires kept { AreKept _frame.now records.now }
-    requires by_height { AreByHeight _frame.now records.now by_height.now.items }
+pub fn settle_notes(records: &Records, by_height: &ShelvesByHeight, pending: &mut PendingShelves)
+    requires list { IsListOf records.now by_height.now.items }
     requires room { length records.now.shelves ≤ pending.old.room }
     ensures settled { AreSettled records.now pending.new.notes }
     ensures room { pending.new.room ≡ pending.old.room }
@@ -258,7 +252,7 @@ fn settle_noted(
 {
     if are_many(pending.len(), by_height.len()) {
         sort_shelves(frame, records, by_height);
-        settle_notes(frame, records, by_height, pending);
+        settle_notes(records, by_height, pending);
     } else {
         take_out_moved(frame, records, by_height, pending);
         settle_each(frame, records, by_height, pending);

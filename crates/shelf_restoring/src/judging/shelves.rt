@@ -3,7 +3,7 @@
 //!
 //! Definitions: `LinkBack`, `HasShelves`, `HasItems` and `HasNeighbours` of `StandsFor`, and `FreeOwn` of `Rules`.
 
-ghost use Rattle.std.specs.Prelude.{◌≡◌, ◌≤◌, ◌*◌, Decides, IsTrue, length, map};
+ghost use Rattle.std.specs.Prelude.{◌≡◌, ◌≤◌, ◌*◌, List, Decides, IsTrue, length, map};
 ghost use Rattle.etagere_base.specs.Frames.{IsFrame, longest_side};
 ghost use Rattle.etagere_base.specs.Lists.{NoNeighbours};
 ghost use Rattle.etagere_links.specs.Links.{no_link};
@@ -14,6 +14,7 @@ ghost use Rattle.shelf_model.specs.State as state;
 ghost use Rattle.shelf_records.specs.AtlasRecords as spec;
 ghost use Rattle.shelf_records.specs.Private.Judging.{atlas_of_records};
 ghost use Rattle.shelf_records.specs.StandsFor.{HasItems, HasNeighbours, HasShelves, LinkBack};
+ghost use Rattle.shelf_records.specs.declared.records.LinkedShelf.{LinkedShelf};
 ghost use Rattle.shelf_restoring.specs.Private.Rules.{FreeOwn, SaysOf};
 ghost use Rattle.std.specs.List.{AllByRecursion};
 
@@ -96,9 +97,9 @@ pub fn judge_shelves(
     let mut was_empty = false;
     for entry in entries {
         let shelf = shelf_of(shelves, usize::from(entry.number));
-        let one = judge_shelf(frame, shelves, items, marks, entry, &shelf);
+        let one = judge_shelf(frame, items, marks, entry, &shelf);
         let along = u32::from(shelf.x);
-        let is_next = is_next(frame, shelves, start, height, entry, &shelf);
+        let is_next = is_next(frame, start, height, &shelf);
         let touches = (along == start) & (was_empty & one.is_empty);
         judged.are_linked = one.is_linked & judged.are_linked;
         judged.have_free_lists = one.has_free_list & judged.have_free_lists;
@@ -138,25 +139,23 @@ fn shelf_of(shelves: &[LinkedShelf], number: usize) -> LinkedShelf
 #[inline(always)]
 fn judge_shelf(
     frame: &Frame,
-    _shelves: &[LinkedShelf],
     items: &[LinkedItem],
     marks: &[bool],
     entry: &WalkedShelf,
     shelf: &LinkedShelf,
 ) -> JudgedShelf
     requires frame { IsFrame longest_side frame.now }
-    requires shelf { SaysOf _shelves.now entry.now.number shelf.now }
     requires short { length entry.now.items ≤ no_link }
     ensures links { Decides result.is_linked (LinkBack items.now entry.now) }
     ensures free { Decides result.has_free_list (FreeOwn items.now marks.now entry.now) }
-    ensures filled { Decides result.is_filled
-        (HasItems frame.now _shelves.now items.now entry.now) }
+    ensures filled { (shelves : List LinkedShelf) → SaysOf shelves entry.now.number shelf.now
+        → Decides result.is_filled (HasItems frame.now shelves items.now entry.now) }
     ensures apart { Decides result.is_apart
         (NoNeighbours both_free (map (spec.item_at items.now) entry.now.items)) }
     ensures empty { result.is_empty ≡ state.is_one_free (map (spec.item_at items.now) entry.now.items) }
     ensures space { result.space
         ≡ space.allocated_width (map (spec.item_at items.now) entry.now.items)
-        * spec.height_of _shelves.now entry.now.number }
+        * shelf.now.height }
     ensures small { result.space ≤ no_link * no_link * no_link }
 {
     let found = judge_items(frame, items, entry.number, shelf.x, entry.items);

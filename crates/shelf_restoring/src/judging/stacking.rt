@@ -7,29 +7,21 @@ ghost use Rattle.std.specs.Prelude.{◌≡◌, ◌≤◌, ◌/◌, ◌%◌, List
 ghost use Rattle.etagere_base.specs.Frames.{longest_side};
 ghost use Rattle.etagere_links.specs.Links.{no_link};
 ghost use Rattle.shelf_records.specs.declared.records.LinkedShelf.{LinkedShelf};
+ghost use Rattle.shelf_records.specs.RecordLists.{Entry};
 ghost use Rattle.shelf_restoring.specs.Private.Rules.{FollowFrom, IsNext, SaysOf};
 
-use crate::judging::WalkedShelf;
 use etagere_base::Frame;
 use shelf_records::LinkedShelf;
 
 /// Whether a shelf, of which this is the record, stands where so much is filled of the column that starts here, if a
 /// column does.
-pub fn is_next(
-    frame: &Frame,
-    _shelves: &[LinkedShelf],
-    start: u32,
-    height: u32,
-    _entry: &WalkedShelf,
-    shelf: &LinkedShelf,
-) -> bool
-    requires shelf { SaysOf _shelves.now _entry.now.number shelf.now }
+pub fn is_next(frame: &Frame, start: u32, height: u32, shelf: &LinkedShelf) -> bool
     requires wide { 1 ≤ frame.now.column_width }
     requires narrow { frame.now.column_width ≤ longest_side }
     requires small { start ≤ no_link }
-    ensures { start % frame.now.column_width ≡ 0 →
-        Decides result
-        (IsNext frame.now _shelves.now (start / frame.now.column_width) height _entry.now) }
+    ensures { (shelves : List LinkedShelf) (entry : Entry) → SaysOf shelves entry.number shelf.now
+        → start % frame.now.column_width ≡ 0
+        → Decides result (IsNext frame.now shelves (start / frame.now.column_width) height entry) }
 {
     let along = u32::from(shelf.x);
     if along != start && (height != frame.across_side() || along != start + frame.column_width) {

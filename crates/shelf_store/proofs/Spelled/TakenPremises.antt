@@ -178,7 +178,7 @@ can-take frame records size placement found kept h locates =
           record {
             item = apart_split.within number stands;
             few = omega (arith, split-length frame.column_width numbered (number_used of_shelf records.unused_shelves records.shelves) (number_used of_shelf records.unused_items records.items) used, few_items);
-            right = omega (arith, read-record (λ (x : LinkedItem). x.x) (item_record [] number) split_records.items number, same.numbered, is.item.along, ends.right);
+            right = omega (arith, read-record (λ (x : LinkedItem). x.x) (item_record [] number) split_records.items number, same.place, is.item.along, ends.right);
             narrower = omega (arith, width-read split_records.items number number, ap (λ (i : Item). i.width) same.item, fits placement.width (item_at records.items number).width of_item is.item.split is.item.whole);
           };
       there =

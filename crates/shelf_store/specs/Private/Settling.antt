@@ -6,13 +6,19 @@ use Rattle.etagere_base.specs.Lists.{times}
 use Rattle.etagere_base.specs.declared.frames.Frame.{Frame}
 use Rattle.shelf_records.specs.declared.records.LinkedItem.{LinkedItem}
 use Rattle.shelf_records.specs.declared.records.LinkedShelf.{LinkedShelf}
-use Rattle.shelf_records.specs.Private.Kept.{bare}
+use Rattle.shelf_records.specs.Private.Kept.{AreKept, bare}
 use Rattle.shelf_records.specs.RecordLists.{Entry, Records, free_walk, shelf_numbers, walked_lists}
-use Rattle.shelf_heights.specs.Private.ByHeight.{AreInOrder, IsBound, chain_order, numbers_by_height}
+use Rattle.shelf_heights.specs.Private.ByHeight.{AreByHeight, AreInOrder, IsBound, chain_order, numbers_by_height}
 use Rattle.shelf_heights.specs.declared.by_height.BoundedShelf.{BoundedShelf}
 use Rattle.etagere_links.specs.Links.{no_link}
 use Rattle.shelf_records.specs.AtlasRecords.{AtlasRecords, height_of, item_at, spelled_shelf}
 use Rattle.shelf_notes.specs.Private.Pending.{Notes, is_in_use, is_listed, is_noted, once_where}
+
+-- a list has the shelves in use of kept records by height, whatever their frame
+pub record IsListOf (records : Records) (list : List BoundedShelf) : Type 0 where
+  pub frame : Frame
+  pub kept : AreKept frame records
+  pub by_height : AreByHeight frame records list
 
 -- nothing has changed since the list followed these records
 pub record Follows (shelves : List LinkedShelf) (by_height : List BoundedShelf) (notes : Notes) : Type 0 where

@@ -4,7 +4,7 @@ use Rattle.std.proofs.lemmas.Result.{on_ok_weaker}
 use Rattle.etagere_shelves.proofs.restored.judge_walked.Goals as goal
 
 pub judge_rules-requires-clause-entries : goal.judge_rules-requires-clause-entries
-judge_rules-requires-clause-entries c = c.deref-2.ensures.value ∙ c.in-Ok.ensures
+judge_rules-requires-clause-entries c = c.deref-2.ensures.value ∙ c.in-Ok.ensures c.args.atlas.now c.requires.lists
 
 pub judge_rules-requires-clause-unused : goal.judge_rules-requires-clause-unused
 judge_rules-requires-clause-unused c = c.deref-3.ensures.value ∙ c.requires.lists.left_over

@@ -2,8 +2,9 @@
 use Rattle.std.proofs.Common.{◌≡◌, ℕ, ◌+◌, ◌<◌, ◌≤◌, List, length, get_or, subst, sym, ap, refl, arith, ◌∙◌, [], ◌∷◌, ◌++◌, drop, map, take}
 use Rattle.std.proofs.lemmas.List.{drop-drop, drop_at, drop_more, get_or-map, length-append, length-drop}
 use Rattle.std.proofs.Math.Seq.{take-append_seam}
-use Rattle.shelf_records.specs.RecordLists.{Entry, Records, free_walk, item_numbers, item_walk, walked_entry}
-use Rattle.shelf_records.specs.Private.Restoring.{chain_entry, free_numbers, frees_met, items_met}
+use Rattle.shelf_records.specs.AtlasRecords.{AtlasRecords}
+use Rattle.shelf_records.specs.RecordLists.{Entry, Records, free_walk, item_numbers, item_walk, unused_item_walk, walked_entry}
+use Rattle.shelf_records.specs.Private.Restoring.{HasLists, chain_entry, free_numbers, frees_met, items_met}
 use Rattle.shelf_restoring.proofs.Loaded.ChainsWalked.{images-next}
 use Rattle.shelf_restoring.proofs.walked_lists.walked_shelves.Goals as goal
 
@@ -35,14 +36,16 @@ frees-left records numbers i within = ap (λ (ns : List ℕ). free_numbers (map 
 
 pub part-requires : goal.part-requires
 part-requires c =
-    let records : Records = c.args._atlas.now.records in
+    let atlas = c.requires.atlas in
+    let has = c.requires.has in
+    let records : Records = atlas.records in
     let numbers = c.args.numbers.now in
     let i = c.loop-at.at in
     let within = c.loop-at-test.true in
     let kept = c.loop-at.invariant in
     let count : c.from-count.result ≡ items_met records (get_or numbers i 0) =
-    c.from-count.ensures ∙ c.index.ensures ∙ noted (items_met records) numbers c.args.items.now.counts.items i c.index.result.now within (c.requires.chain_counts ∙ ap (map (items_met records)) (sym c.requires.in_use)) in
-    let items = kept.items ∙ items-left records numbers i within in
+    c.from-count.ensures ∙ c.index.ensures ∙ noted (items_met records) numbers c.args.items.now.counts.items i c.index.result.now within (has.chain_counts ∙ ap (map (items_met records)) (sym has.in_use)) in
+    let items = kept.items atlas has ∙ items-left records numbers i within in
     let own : List ℕ = (item_walk records (get_or numbers i 0)).met in
     let later : List ℕ = item_numbers (map (chain_entry records) (drop (i + 1) numbers)) in
     subst (λ (l : List ℕ). c.loop-at.start + c.from-count.result ≤ length l) (sym c.deref.ensures.value)
@@ -50,14 +53,16 @@ part-requires c =
 
 pub part-requires-in-loop-at : goal.part-requires-in-loop-at
 part-requires-in-loop-at c =
-    let records : Records = c.args._atlas.now.records in
+    let atlas = c.requires.atlas in
+    let has = c.requires.has in
+    let records : Records = atlas.records in
     let numbers = c.args.numbers.now in
     let i = c.loop-at.at in
     let within = c.loop-at-test.true in
     let kept = c.loop-at.invariant in
     let free_count : c.from-free_count.result ≡ frees_met records (get_or numbers i 0) =
-    c.from-free_count.ensures ∙ c.index-in-loop-at.ensures ∙ noted (frees_met records) numbers c.args.free_lists.now.counts.items i c.index-in-loop-at.result.now within (c.requires.list_counts ∙ ap (map (frees_met records)) (sym c.requires.in_use)) in
-    let free = kept.free ∙ frees-left records numbers i within in
+    c.from-free_count.ensures ∙ c.index-in-loop-at.ensures ∙ noted (frees_met records) numbers c.args.free_lists.now.counts.items i c.index-in-loop-at.result.now within (has.list_counts ∙ ap (map (frees_met records)) (sym has.in_use)) in
+    let free = kept.free atlas has ∙ frees-left records numbers i within in
     let own_free : List ℕ = (free_walk records (get_or numbers i 0)).met in
     let later_free : List ℕ = free_numbers (map (walked_entry records) (drop (i + 1) numbers)) in
     subst (λ (l : List ℕ). c.loop-at.free_start + c.from-free_count.result ≤ length l) (sym c.deref-in-loop-at.ensures.value)
@@ -65,37 +70,46 @@ part-requires-in-loop-at c =
 
 pub loop-at-preserved : goal.loop-at-preserved
 loop-at-preserved c =
-    let records : Records = c.args._atlas.now.records in
     let numbers = c.args.numbers.now in
     let i = c.loop-at.at in
     let within = c.loop-at-test.true in
     let kept = c.loop-at.invariant in
-    let count : c.from-count.result ≡ items_met records (get_or numbers i 0) =
-    c.from-count.ensures ∙ c.index.ensures ∙ noted (items_met records) numbers c.args.items.now.counts.items i c.index.result.now within (c.requires.chain_counts ∙ ap (map (items_met records)) (sym c.requires.in_use)) in
-    let items = kept.items ∙ items-left records numbers i within in
-    let free_count : c.from-free_count.result ≡ frees_met records (get_or numbers i 0) =
-    c.from-free_count.ensures ∙ c.index-in-loop-at.ensures ∙ noted (frees_met records) numbers c.args.free_lists.now.counts.items i c.index-in-loop-at.result.now within (c.requires.list_counts ∙ ap (map (frees_met records)) (sym c.requires.in_use)) in
-    let free = kept.free ∙ frees-left records numbers i within in
-    let own : List ℕ = (item_walk records (get_or numbers i 0)).met in
-    let later : List ℕ = item_numbers (map (chain_entry records) (drop (i + 1) numbers)) in
-    let own_free : List ℕ = (free_walk records (get_or numbers i 0)).met in
-    let later_free : List ℕ = free_numbers (map (walked_entry records) (drop (i + 1) numbers)) in
-    let part = cut c.args.items.now.met.items own later c.loop-at.start c.from-count.result items count in
-    let part_free = cut c.args.free_lists.now.met.items own_free later_free c.loop-at.free_start c.from-free_count.result free free_count in
-    let is : c.part.result.now ≡ own = c.part.ensures ∙ ap (λ (l : List ℕ). take c.from-count.result (drop c.loop-at.start l)) c.deref.ensures.value ∙ part.0 in
-    let is_free : c.part-in-loop-at.result.now ≡ own_free =
-    c.part-in-loop-at.ensures ∙ ap (λ (l : List ℕ). take c.from-free_count.result (drop c.loop-at.free_start l)) c.deref-in-loop-at.ensures.value ∙ part_free.0 in
-    let entry_of : List ℕ → List ℕ → Entry = λ mine frees. record { number = get_or numbers i 0; items = mine; free_list = frees } in
+    let met : List ℕ = c.args.items.now.met.items in
+    let frees : List ℕ = c.args.free_lists.now.met.items in
+    let Has : AtlasRecords → Type 0 =
+    λ atlas. HasLists atlas numbers met c.args.items.now.counts.items frees c.args.free_lists.now.counts.items (unused_item_walk atlas.records).met in
+    let own : Records → List ℕ = λ records. (item_walk records (get_or numbers i 0)).met in
+    let later : Records → List ℕ = λ records. item_numbers (map (chain_entry records) (drop (i + 1) numbers)) in
+    let own_free : Records → List ℕ = λ records. (free_walk records (get_or numbers i 0)).met in
+    let later_free : Records → List ℕ = λ records. free_numbers (map (walked_entry records) (drop (i + 1) numbers)) in
+    let count : (atlas : AtlasRecords) → Has atlas → c.from-count.result ≡ items_met atlas.records (get_or numbers i 0) =
+    λ atlas has. c.from-count.ensures ∙ c.index.ensures ∙ noted (items_met atlas.records) numbers c.args.items.now.counts.items i c.index.result.now within (has.chain_counts ∙ ap (map (items_met atlas.records)) (sym has.in_use)) in
+    let free_count : (atlas : AtlasRecords) → Has atlas → c.from-free_count.result ≡ frees_met atlas.records (get_or numbers i 0) =
+    λ atlas has. c.from-free_count.ensures ∙ c.index-in-loop-at.ensures ∙ noted (frees_met atlas.records) numbers c.args.free_lists.now.counts.items i c.index-in-loop-at.result.now within (has.list_counts ∙ ap (map (frees_met atlas.records)) (sym has.in_use)) in
+    let items : (atlas : AtlasRecords) → Has atlas → drop c.loop-at.start met ≡ own atlas.records ++ later atlas.records =
+    λ atlas has. kept.items atlas has ∙ items-left atlas.records numbers i within in
+    let free : (atlas : AtlasRecords) → Has atlas → drop c.loop-at.free_start frees ≡ own_free atlas.records ++ later_free atlas.records =
+    λ atlas has. kept.free atlas has ∙ frees-left atlas.records numbers i within in
+    let is : (atlas : AtlasRecords) → Has atlas → c.part.result.now ≡ own atlas.records =
+    λ atlas has. c.part.ensures ∙ ap (λ (l : List ℕ). take c.from-count.result (drop c.loop-at.start l)) c.deref.ensures.value
+    ∙ (cut met (own atlas.records) (later atlas.records) c.loop-at.start c.from-count.result (items atlas has) (count atlas has)).0 in
+    let is_free : (atlas : AtlasRecords) → Has atlas → c.part-in-loop-at.result.now ≡ own_free atlas.records =
+    λ atlas has. c.part-in-loop-at.ensures ∙ ap (λ (l : List ℕ). take c.from-free_count.result (drop c.loop-at.free_start l)) c.deref-in-loop-at.ensures.value
+    ∙ (cut frees (own_free atlas.records) (later_free atlas.records) c.loop-at.free_start c.from-free_count.result (free atlas has) (free_count atlas has)).0 in
+    let entry_of : List ℕ → List ℕ → Entry = λ mine free_list. record { number = get_or numbers i 0; items = mine; free_list = free_list } in
+    let one = c.requires.atlas in
+    let its = c.requires.has in
     record {
-      start = cut-within c.args.items.now.met.items own later c.loop-at.start c.from-count.result kept.start items count;
-      free_start = cut-within c.args.free_lists.now.met.items own_free later_free c.loop-at.free_start c.from-free_count.result kept.free_start free free_count;
+      start = cut-within met (own one.records) (later one.records) c.loop-at.start c.from-count.result kept.start (items one its) (count one its);
+      free_start = cut-within frees (own_free one.records) (later_free one.records) c.loop-at.free_start c.from-free_count.result kept.free_start (free one its) (free_count one its);
       long = omega (arith, c.push_reserved.ensures.len, kept.long, c.push_reserved.new.self.ok, c.loop-at.shelves.ok);
       capacity = c.push_reserved.ensures.capacity ∙ kept.capacity;
-      made = c.push_reserved.ensures.items
-          ∙ ap (λ (es : List Entry). es ++ entry_of c.part.result.now c.part-in-loop-at.result.now ∷ []) kept.made
-          ∙ ap (λ (mine : List ℕ). map (walked_entry records) (take i numbers) ++ entry_of mine c.part-in-loop-at.result.now ∷ []) is
-          ∙ ap (λ (frees : List ℕ). map (walked_entry records) (take i numbers) ++ entry_of own frees ∷ []) is_free
-          ∙ images-next (walked_entry records) numbers i (get_or numbers i 0) within refl;
-      items = part.1;
-      free = part_free.1;
+      made = λ atlas has.
+          c.push_reserved.ensures.items
+          ∙ ap (λ (es : List Entry). es ++ entry_of c.part.result.now c.part-in-loop-at.result.now ∷ []) (kept.made atlas has)
+          ∙ ap (λ (mine : List ℕ). map (walked_entry atlas.records) (take i numbers) ++ entry_of mine c.part-in-loop-at.result.now ∷ []) (is atlas has)
+          ∙ ap (λ (free_list : List ℕ). map (walked_entry atlas.records) (take i numbers) ++ entry_of (own atlas.records) free_list ∷ []) (is_free atlas has)
+          ∙ images-next (walked_entry atlas.records) numbers i (get_or numbers i 0) within refl;
+      items = λ atlas has. (cut met (own atlas.records) (later atlas.records) c.loop-at.start c.from-count.result (items atlas has) (count atlas has)).1;
+      free = λ atlas has. (cut frees (own_free atlas.records) (later_free atlas.records) c.loop-at.free_start c.from-free_count.result (free atlas has) (free_count atlas has)).1;
     }

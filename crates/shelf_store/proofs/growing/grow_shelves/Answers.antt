@@ -1,4 +1,5 @@
 use Rattle.std.proofs.Common.{ap, arith, length, subst, sym, ◌∙◌}
+use Rattle.shelf_records.specs.Private.Kept.{AreKept}
 use Rattle.shelf_records.specs.RecordLists.{Records, shelf_walk}
 use Rattle.shelf_records.proofs.AllLists.LinkedWalks.{walked-numbers}
 use Rattle.shelf_store.specs.Private.RecordsGrown.{records_grown}
@@ -63,6 +64,20 @@ returns-else-is_extended-clause-by_height c =
     by_height-elsewhere frame grown records c.grow_records.new.records c.args.by_height.now.items c.reserve_shelves.new.by_height.items
     (c.in_ok-grow_records.ensures.ok ∙ nothing-grown frame grown c.args.needed records c.requires.needed (sym c.is_extended.ensures ∙ c.if-is_extended.false))
     c.reserve_shelves.ensures.items c.requires.by_height
+
+pub settle_notes-requires-clause-list : goal.settle_notes-requires-clause-list
+settle_notes-requires-clause-list c = record {
+  frame = c.args.grown.now;
+  kept = subst (AreKept c.args.grown.now) (sym c.in_ok-grow_records.ensures.ok) c.requires.kept;
+  by_height = c.sort_shelves.ensures.by_height;
+}
+
+pub settle_notes-requires-then-is_extended-clause-list : goal.settle_notes-requires-then-is_extended-clause-list
+settle_notes-requires-then-is_extended-clause-list c = record {
+  frame = c.args.grown.now;
+  kept = subst (AreKept c.args.grown.now) (sym c.in_ok-grow_records.ensures.ok) c.requires.kept;
+  by_height = c.reorder_shelves.ensures.by_height;
+}
 
 pub settle_notes-requires-clause-room : goal.settle_notes-requires-clause-room
 settle_notes-requires-clause-room c =

@@ -1,4 +1,4 @@
-use Rattle.std.proofs.Common.{◌<◌, ap, arith, length}
+use Rattle.std.proofs.Common.{ap, arith, length}
 use Rattle.shelf_records.specs.RecordLists.{Records}
 use Rattle.shelf_store.specs.Private.ItemReturned.{empty_next}
 use Rattle.shelf_store.proofs.Spelled.ReturnedLengths.{shelf-next-lengths}

@@ -12,3 +12,6 @@ sort_shelves-requires-clause-room c =
       ap length (walked-numbers c.args.records.now (shelf_walk c.args.records.now).met),
       c.requires.room,
     )
+
+pub settle_notes-requires-clause-list : goal.settle_notes-requires-clause-list
+settle_notes-requires-clause-list c = record { frame = c.args.frame.now; kept = c.requires.kept; by_height = c.sort_shelves.ensures.by_height }

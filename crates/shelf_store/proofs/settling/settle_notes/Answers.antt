@@ -8,12 +8,12 @@ use Rattle.shelf_store.proofs.settling.settle_notes.Goals as goal
 
 pub follow-requires-clause-order : goal.follow-requires-clause-order
 follow-requires-clause-order c =
-    rw c.shelves.ensures (by_height-in_order c.args._frame.now c.args.records.now c.args.by_height.now.items c.requires.kept c.requires.by_height)
+    rw c.shelves.ensures (by_height-in_order c.requires.list.frame c.args.records.now c.args.by_height.now.items c.requires.list.kept c.requires.list.by_height)
 
 pub follow-requires-clause-few : goal.follow-requires-clause-few
-follow-requires-clause-few c = rw c.shelves.ensures ((witnesses c.requires.kept).counts.shelves.1)
+follow-requires-clause-few c = rw c.shelves.ensures ((witnesses c.requires.list.kept).counts.shelves.1)
 
 pub returns-clause-settled : goal.returns-clause-settled
 returns-clause-settled c =
-    follows-settled c.args._frame.now c.args.records.now c.follow.new.pending.notes c.args.by_height.now.items c.requires.kept c.requires.by_height
+    follows-settled c.requires.list.frame c.args.records.now c.follow.new.pending.notes c.args.by_height.now.items c.requires.list.kept c.requires.list.by_height
     (subst (λ (shelves : List LinkedShelf). Follows shelves c.args.by_height.now.items c.follow.new.pending.notes) c.shelves.ensures c.follow.ensures.notes)

@@ -44,12 +44,12 @@ kept-fresh inside records is same =
 are-fresh : (inside : Inside) (records : Records) (by_height : List BoundedShelf) → records ≡ fresh_records inside.frame → AreByHeight inside.frame (fresh_records inside.frame) by_height → AreByHeight inside.frame records by_height
 are-fresh inside records by_height same are = subst (λ (r : Records). AreByHeight inside.frame r by_height) (sym same) are
 
-pub settle_notes-requires-clause-kept : goal.settle_notes-requires-clause-kept
-settle_notes-requires-clause-kept c = kept-fresh c.self.inside c.reset_records.new.records c.self.invariant c.reset_records.ensures
-
-pub settle_notes-requires-clause-by_height : goal.settle_notes-requires-clause-by_height
-settle_notes-requires-clause-by_height c =
-    are-fresh c.self.inside c.reset_records.new.records c.reset_by_height.new.by_height.items c.reset_records.ensures c.reset_by_height.ensures.by_height
+pub settle_notes-requires-clause-list : goal.settle_notes-requires-clause-list
+settle_notes-requires-clause-list c = record {
+  frame = c.self.inside.frame;
+  kept = kept-fresh c.self.inside c.reset_records.new.records c.self.invariant c.reset_records.ensures;
+  by_height = are-fresh c.self.inside c.reset_records.new.records c.reset_by_height.new.by_height.items c.reset_records.ensures c.reset_by_height.ensures.by_height;
+}
 
 pub settle_notes-requires-clause-room : goal.settle_notes-requires-clause-room
 settle_notes-requires-clause-room c =

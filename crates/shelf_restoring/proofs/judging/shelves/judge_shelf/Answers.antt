@@ -33,9 +33,8 @@ returns-clause-links c =
     (subst (λ (ns : List ℕ). Decides found.are_linked (LinkedFrom items c.entry.inside.number None ns)) numbers c.judge_items-found.ensures.links))
 
 pub returns-clause-filled : goal.returns-clause-filled
-returns-clause-filled c =
+returns-clause-filled c shelves said =
     let frame = c.args.frame.now in
-    let shelves = c.args._shelves.now in
     let items = c.args.items.now in
     let entry = c.args.entry.now in
     let found = c.judge_items-found.result in
@@ -43,11 +42,11 @@ returns-clause-filled c =
     let shelf = c.args.shelf.now in
     let width : found.width ≡ state.total_width (map (item_at items) entry.items) =
     c.judge_items-found.ensures.width ∙ ap (λ (ns : List ℕ). state.total_width (map (item_at items) ns)) numbers in
-    let says : shelf.is_empty ≡ is_empty_at shelves entry.number = c.requires.shelf.is_empty in
+    let says : shelf.is_empty ≡ is_empty_at shelves entry.number = said.is_empty in
     let one : c.is_one_free-is_empty.result ≡ state.is_one_free (map (item_at items) entry.items) =
     c.is_one_free-is_empty.ensures ∙ ap (λ (ns : List ℕ). state.is_one_free (map (item_at items) ns)) numbers in
     let row : Decides found.lie_in_row (RowFrom frame items (along_of shelves entry.number) entry.items) =
-    subst (λ (s : ℕ). Decides found.lie_in_row (RowFrom frame items s entry.items)) c.requires.shelf.along
+    subst (λ (s : ℕ). Decides found.lie_in_row (RowFrom frame items s entry.items)) said.along
     (subst (λ (ns : List ℕ). Decides found.lie_in_row (RowFrom frame items shelf.x ns)) numbers c.judge_items-found.ensures.places) in
     let full = decides-equal found.width frame.column_width (state.total_width (map (item_at items) entry.items) ≡ frame.column_width)
     (λ same. sym width ∙ same) (λ same. width ∙ same) in

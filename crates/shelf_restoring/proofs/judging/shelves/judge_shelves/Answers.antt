@@ -1,5 +1,5 @@
 -- The flags and the sum after one more shelf.
-use Rattle.std.proofs.Common.{◌≡◌, ℕ, ◌+◌, ◌/◌, ◌%◌, ◌≤◌, Bool, true, false, not, ◌&&◌, List, ◌∷◌, drop, length, map, ap, arith, subst, sym, ◌∙◌}
+use Rattle.std.proofs.Common.{◌≡◌, ℕ, ◌+◌, ◌*◌, ◌/◌, ◌%◌, ◌≤◌, Bool, true, false, not, ◌&&◌, List, ◌∷◌, drop, length, map, ap, arith, subst, sym, ◌∙◌}
 use Rattle.std.proofs.lemmas.List.{drop_all, drop_more}
 use Rattle.std.specs.List.{AllByRecursion}
 use Rattle.std.specs.Prelude.{◌==◌, Decides}
@@ -7,7 +7,7 @@ use Rattle.etagere_base.specs.Lists.{NoNeighbours}
 use Rattle.etagere_base.proofs.DecidingLemmas.{decides-both, decides-map, decides-yes, granted}
 use Rattle.shelf_records.specs.RecordLists.{Entry}
 use Rattle.shelf_model.specs.Merging.{both_free}
-use Rattle.shelf_model.specs.Space.{space_in}
+use Rattle.shelf_model.specs.Space.{allocated_width, space_in}
 use Rattle.shelf_model.specs.State.{is_empty}
 use Rattle.shelf_records.specs.AtlasRecords.{along_of, height_of, item_at, spelled_shelf, spelled_state}
 use Rattle.shelf_records.specs.Private.Judging.{atlas_of_records, column_at, height_below}
@@ -19,7 +19,7 @@ use Rattle.shelf_restoring.proofs.Judged.ItemPasses.{decides-not}
 use Rattle.shelf_restoring.proofs.Judged.JudgedShelves.{follow-kept, shelves-follow}
 use Rattle.shelf_restoring.proofs.Judged.NeighbourPasses.{StandApart, StandsApart, apart-neighbours, neighbours-apart, touches}
 use Rattle.shelf_restoring.proofs.judging.shelves.judge_shelves.Goals as goal
-use Rattle.shelf_restoring.proofs.judging.shelves.judge_shelves.Goals.{After-shelf_of-shelf, then-along-start, else-along-start}
+use Rattle.shelf_restoring.proofs.judging.shelves.judge_shelves.Goals.{then-along-start, else-along-start}
 
 pub loop-entry-preserved : goal.loop-entry-preserved
 loop-entry-preserved c =
@@ -45,11 +45,12 @@ loop-entry-preserved c =
     let more : drop i entries ≡ entry ∷ drop (i + 1) entries = drop_more entries i entry below ∙ ap (λ (e : Entry). e ∷ drop (i + 1) entries) (sym is) in
     let areas = ap (λ (es : List Entry). space_in (map (spelled_shelf atlas) es)) more in
     let number : c.from.result ≡ entry.number = c.from.ensures ∙ ap (λ (e : Entry). e.number) c.entry.view_is in
+    let said : SaysOf shelves entry.number c.shelf_of-shelf.result = subst (λ (n : ℕ). SaysOf shelves n c.shelf_of-shelf.result) number c.shelf_of-shelf.ensures in
     let along : c.from-along.result ≡ along_of shelves entry.number = c.from-along.ensures ∙ c.shelf_of-shelf.ensures.along ∙ ap (along_of shelves) number in
     let tall : c.from-in-loop-entry.result ≡ height_of shelves entry.number = c.from-in-loop-entry.ensures ∙ c.shelf_of-shelf.ensures.height ∙ ap (height_of shelves) number in
     let starts : stacked ≡ true → start % width ≡ 0 = λ e. kept.at_column (both-true c.is_next-is_next.result judged.are_stacked e).1 in
     let next : stacked ≡ true → IsNext frame shelves (start / width) height entry =
-    λ e. granted c.is_next-is_next.result (IsNext frame shelves (start / width) height entry) (c.is_next-is_next.ensures (starts e)) (both-true c.is_next-is_next.result judged.are_stacked e).0 in
+    λ e. granted c.is_next-is_next.result (IsNext frame shelves (start / width) height entry) (c.is_next-is_next.ensures shelves entry said (starts e)) (both-true c.is_next-is_next.result judged.are_stacked e).0 in
     let high : stacked ≡ true → own ≡ c.if-along-start.below + c.from-in-loop-entry.result =
     λ e. elim c.if-along-start.branch [
       | then-along-start w ↦ omega (arith, filled-here frame shelves entry start height (sym along ∙ w.if-along-start.true), w.below-is, tall)
@@ -59,7 +60,9 @@ loop-entry-preserved c =
     let Whole : Type 0 = FollowFrom frame shelves 0 0 entries in
     let follows : IsFlagged stacked Whole (FollowFrom frame shelves (column_at frame shelves entry) own) (i + 1) entries =
     flagged-where c.is_next-is_next.result judged.are_stacked Whole (FollowFrom frame shelves (start / width) height) (FollowFrom frame shelves (column_at frame shelves entry) own) (IsNext frame shelves (start / width) height entry)
-    i entries entry entry (λ later h. h) (λ later h. h) below is (λ e. c.is_next-is_next.ensures (kept.at_column e)) kept.stacked in
+    i entries entry entry (λ later h. h) (λ later h. h) below is (λ e. c.is_next-is_next.ensures shelves entry said (kept.at_column e)) kept.stacked in
+    let space : one.result.space ≡ allocated_width (map (item_at items) entry.items) * height_of shelves entry.number =
+    one.ensures.space ∙ ap (λ (h : ℕ). allocated_width (map (item_at items) entry.items) * h) said.height in
     let own_empty : is_empty (spelled_shelf atlas entry) ≡ one.result.is_empty = sym one.ensures.empty in
     let test : Bool = (c.from-along.result == start) && (was_empty && one.result.is_empty) in
     let Apart : Type 0 = NoNeighbours both_free (map (item_at items) entry.items) in
@@ -82,10 +85,10 @@ loop-entry-preserved c =
       stacked = subst (λ (n : ℕ). IsFlagged stacked Whole (FollowFrom frame shelves n (c.if-along-start.below + c.from-in-loop-entry.result)) (i + 1) entries) column
           (flagged-same stacked Whole (λ (h : ℕ). FollowFrom frame shelves (column_at frame shelves entry) h) own (c.if-along-start.below + c.from-in-loop-entry.result) (i + 1) entries high follows);
       filled = flagged-more one.result.is_filled judged.are_filled (AllByRecursion (HasItems frame shelves items) entries) (AllByRecursion (HasItems frame shelves items)) (AllByRecursion (HasItems frame shelves items)) (HasItems frame shelves items entry)
-          i entries entry entry (λ later h. h) (λ later h. h) below is one.ensures.filled kept.filled;
+          i entries entry entry (λ later h. h) (λ later h. h) below is (one.ensures.filled shelves said) kept.filled;
       apart = λ e. subst (λ (n : ℕ). IsFlagged ((one.result.is_apart && not test) && judged.are_apart) (StandApart atlas 0 false entries) (StandApart atlas n one.result.is_empty) (i + 1) entries) column
           (subst (λ (b : Bool). IsFlagged ((one.result.is_apart && not test) && judged.are_apart) (StandApart atlas 0 false entries) (StandApart atlas (column_at frame shelves entry) b) (i + 1) entries) own_empty (apart e));
-      sum = omega (arith, kept.sum, areas, one.ensures.space);
+      sum = omega (arith, kept.sum, areas, space);
       small = omega (arith, kept.small, one.ensures.small);
       short = (subst (AllByRecursion (λ (e : Entry). length e.items ≤ 65535)) more kept.short).1;
       near = omega (arith, c.from-along.ensures, c.shelf_of-shelf.type_inv);
@@ -95,18 +98,6 @@ loop-entry-preserved c =
       ];
       at_column = λ e. ap (λ (n : ℕ). n % width) along ∙ (next e).along;
     }
-
--- the record of a shelf that is read says what the shelf of its number does
-says : (c : After-shelf_of-shelf) → SaysOf c.args.shelves.now c.entry-item.result.number c.shelf_of-shelf.result
-says c =
-    let number : c.from.result ≡ c.entry-item.result.number = c.from.ensures ∙ ap (λ (e : Entry). e.number) c.entry.view_is in
-    subst (λ (n : ℕ). SaysOf c.args.shelves.now n c.shelf_of-shelf.result) number c.shelf_of-shelf.ensures
-
-pub judge_shelf-one-requires-clause-shelf : goal.judge_shelf-one-requires-clause-shelf
-judge_shelf-one-requires-clause-shelf c = says (goal.at.judge_shelf-one-requires-clause-shelf c).After-shelf_of-shelf
-
-pub is_next-is_next-requires-clause-shelf : goal.is_next-is_next-requires-clause-shelf
-is_next-is_next-requires-clause-shelf c = says (goal.at.is_next-is_next-requires-clause-shelf c).After-shelf_of-shelf
 
 pub returns-clause-stacked : goal.returns-clause-stacked
 returns-clause-stacked c =

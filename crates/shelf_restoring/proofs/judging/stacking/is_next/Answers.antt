@@ -7,15 +7,13 @@ use Rattle.shelf_restoring.proofs.judging.stacking.is_next.Goals as goal
 use Rattle.shelf_restoring.proofs.judging.stacking.is_next.Goals.{else-along-start-via-then-along-start+else-along-start-2, then-height-across_side, else-height-across_side, else-along-start-via-else-along-start, then-along-start-3, else-along-start-3}
 
 pub returns-then-from-below : goal.returns-then-from-below
-returns-then-from-below c = λ at_column.
+returns-then-from-below c = λ shelves entry said at_column.
     let frame = c.args.frame.now in
-    let shelves = c.args._shelves.now in
-    let entry = c.args._entry.now in
     let start = c.args.start in
     let height = c.args.height in
-    let along : c.from-along.result ≡ along_of shelves entry.number = c.from-along.ensures ∙ c.requires.shelf.along in
-    let across : c.from.result ≡ across_of shelves entry.number = c.from.ensures ∙ c.requires.shelf.across in
-    decides-tall c.args.shelf.now.height (height_of shelves entry.number) (IsNext frame shelves (start / frame.column_width) height entry) c.requires.shelf.height
+    let along : c.from-along.result ≡ along_of shelves entry.number = c.from-along.ensures ∙ said.along in
+    let across : c.from.result ≡ across_of shelves entry.number = c.from.ensures ∙ said.across in
+    decides-tall c.args.shelf.now.height (height_of shelves entry.number) (IsNext frame shelves (start / frame.column_width) height entry) said.height
     (λ high. elim c.if-along-start-3.branch [
       | then-along-start-3 w ↦
           next-here frame shelves entry start height c.requires.wide at_column (sym along ∙ w.if-along-start-3.true) (sym across ∙ c.if-from-below.true ∙ w.below-is) high
