@@ -42,6 +42,9 @@ const SHELF_SLACK: u32 = 8;
 /// An item is split where more than this would be left of its width.
 const ITEM_SLACK: u32 = 8;
 
+/// The bits of a link that names no record, as a number.
+const NO_NUMBER: usize = 65535;
+
 /// A place makes no more splits than this.
 pub(crate) const MOST_SPLITS: u32 = 2;
 
@@ -563,17 +566,18 @@ pub(crate) fn search_free_list(records: &Records, width: u32, shelf: usize) -> S
     ensures { result ≡ opening.searched records.now width shelf }
 {
     let items = records.items();
-    let mut at = records.shelves()[shelf].first_unallocated;
-    let mut widest = 0_u16;
-    while let Some(number) = at.number() {
+    let mut number = usize::from(records.shelves()[shelf].first_unallocated.bits());
+    let mut widest = 0_u32;
+    while number < NO_NUMBER {
         let item = &items[number];
-        if u32::from(item.width) >= width {
+        let own = u32::from(item.width);
+        if own >= width {
             return Searched::Found(number);
         }
-        widest = widest.max(item.width);
-        at = item.next_unallocated;
+        widest = widest.max(own);
+        number = usize::from(item.next_unallocated.bits());
     }
-    Searched::Widest(widest)
+    Searched::Widest(widest as u16)
 }
 
 /// All that is found out of an item of a shelf. Each split is decided here.

@@ -1,9 +1,11 @@
 -- Where the search along a free list has come to, step by step, and what the best candidate is of.
-use Rattle.std.proofs.Common.{◌≡◌, ℕ, ◌+◌, ◌<◌, ◌≤◌, Bool, true, false, cond, Option, None, Some, option_map, List, [], ◌∷◌, ◌++◌, append_assoc, length, get_or, map, refl, ap, arith, sym, ◌∙◌, subst}
+use Rattle.std.proofs.Common.{◌≡◌, ℕ, ◌+◌, ◌<◌, ◌≤◌, Bool, true, false, cond, Option, None, Some, option_map, List, [], ◌∷◌, ◌++◌, append_assoc, length, get_or, map, refl, ap, arith, sym, ◌∙◌, subst, ◌==◌}
+use Rattle.std.proofs.lemmas.Bool.{eqb-true}
 use Rattle.std.proofs.lemmas.Bool.Decides.{nat_tests}
 use Rattle.std.specs.Option.{option_map_or}
 use Rattle.std.specs.Prelude.{◌/◌, ◌||◌, find, max, nat_le, nat_lt}
 use Rattle.etagere_base.specs.Lists.{times}
+use Rattle.etagere_links.specs.Links.{link_of, no_link}
 use Rattle.etagere_base.specs.declared.frames.Frame.{Frame}
 use Rattle.etagere_base.specs.declared.sides.Sides.{Sides}
 use Rattle.etagere_base.proofs.TimesLemmas.{find-stands}
@@ -36,6 +38,18 @@ pub record SearchesFree (records : Records) (width shelf widest : ℕ) (at : Opt
   pub whole : passed ++ rest ≡ (free_walk records shelf).met
   pub found : find (is_wide records width) rest ≡ first_wide records width shelf
   pub all : max widest (widest_of records.items rest) ≡ widest_of records.items (free_walk records shelf).met
+
+-- a number below that of none is the record that it names as a link
+pub named : (number : ℕ) → number < no_link → link_of number ≡ Some number
+named number small = by_test (number == no_link) refl
+  where
+    by_test : (t : Bool) → (number == no_link) ≡ t → link_of number ≡ Some number
+    by_test true e = absurd (omega (arith, small, eqb-true number no_link e))
+    by_test false e = ap (λ (t : Bool). cond t None (Some number)) e
+
+-- that of none names none
+pub names-none : (number : ℕ) → number ≡ no_link → link_of number ≡ None
+names-none number same = ap link_of same
 
 -- the search begins with the whole list
 pub free-begins : (records : Records) (width shelf : ℕ) (at : Option ℕ) → IsLinked records (walked_lists records) → 1 ≤ times shelf (shelf_walk records).met → at ≡ first_free_of records.shelves shelf → SearchesFree records width shelf 0 at
