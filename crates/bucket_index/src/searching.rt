@@ -144,6 +144,9 @@ fn first_by_spans(
     let mut at = first;
     let mut left = MOST_BUCKETS;
     for _step in 0..MOST_BUCKETS {
+        if left == 0 {
+            return None;
+        }
         let Some(number) = at.number() else {
             return None;
         };
@@ -154,12 +157,14 @@ fn first_by_spans(
         if is_wanted(wanted, bucket) {
             return Some(number);
         }
-        let ahead = spans.ahead(bucket.next, left - 1, needed);
-        if ahead.left == 0 {
-            return None;
+        let ahead = spans.ahead(at, left, needed);
+        if ahead.left == left {
+            at = bucket.next;
+            left -= 1;
+        } else {
+            at = ahead.at;
+            left = ahead.left;
         }
-        at = ahead.at;
-        left = ahead.left;
     }
     None
 }

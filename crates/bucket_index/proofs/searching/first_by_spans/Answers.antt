@@ -6,6 +6,7 @@ use Rattle.bucket_index.specs.declared.searching.Wanted.{Wanted}
 use Rattle.bucket_index.specs.Private.Searching.{first_from, is_wanted}
 use Rattle.bucket_index.proofs.KnownSpans.{first-ahead, first-at, first-none}
 use Rattle.bucket_index.proofs.searching.first_by_spans.Goals as goal
+use Rattle.bucket_index.proofs.searching.first_by_spans.Goals.{then-ahead-left, else-ahead-left}
 
 -- nothing is found in no step
 first-over : (wanted : Wanted) (buckets : List LinkedBucket) (left : ℕ) (at : Option ℕ) → left ≡ 0 → first_from left wanted buckets at ≡ None
@@ -18,6 +19,10 @@ found-at wanted buckets left number at bucket is some names here tested =
     first-at wanted buckets left (left - 1) number at (Some bucket) names (omega (arith, some)) here
     ∙ ap (λ (t : Bool). cond t (Some number) (first_from (left - 1) wanted buckets bucket.next)) tested
 
+pub returns-then-left-eq0-clause-number : goal.returns-then-left-eq0-clause-number
+returns-then-left-eq0-clause-number c =
+    sym (sym c.loop-step.invariant.rest ∙ first-over c.args.wanted c.args.buckets.now c.loop-step.left c.loop-step.at (omega (arith, c.if-left-eq0.true)))
+
 pub returns-in_default-clause-number : goal.returns-in_default-clause-number
 returns-in_default-clause-number c =
     sym (sym c.loop-step.invariant.rest ∙ first-none c.args.wanted c.args.buckets.now c.loop-step.left c.loop-step.at (sym c.number.ensures.value ∙ c.in_default.is))
@@ -27,41 +32,35 @@ returns-then-number-buckets-clause-number c =
     let left = c.loop-step.left in
     sym (sym c.loop-step.invariant.rest
     ∙ first-at c.args.wanted c.args.buckets.now left (left - 1) c.in-Some.number c.loop-step.at None
-    (sym c.number.ensures.value ∙ c.in-Some.is) (omega (arith, c.loop-step.invariant.some)) (slice_get_past c.args.buckets.now c.in-Some.number (omega arith)))
+    (sym c.number.ensures.value ∙ c.in-Some.is) (omega (arith, c.if-left-eq0.false)) (slice_get_past c.args.buckets.now c.in-Some.number (omega arith)))
 
 pub returns-then-is_wanted-clause-number : goal.returns-then-is_wanted-clause-number
 returns-then-is_wanted-clause-number c =
     let bucket = c.index-buckets-number.result in
     sym (sym c.loop-step.invariant.rest
-    ∙ found-at c.args.wanted c.args.buckets.now c.loop-step.left c.in-Some.number c.loop-step.at bucket true c.loop-step.invariant.some (sym c.number.ensures.value ∙ c.in-Some.is)
+    ∙ found-at c.args.wanted c.args.buckets.now c.loop-step.left c.in-Some.number c.loop-step.at bucket true (omega (arith, c.if-left-eq0.false)) (sym c.number.ensures.value ∙ c.in-Some.is)
     (slice_get_read c.args.buckets.now (length c.args.buckets.now) c.in-Some.number bucket refl (omega arith) c.index-buckets-number.is) (sym c.is_wanted.ensures ∙ c.if-is_wanted.true))
 
-pub returns-then-ahead-eq0-clause-number : goal.returns-then-ahead-eq0-clause-number
-returns-then-ahead-eq0-clause-number c =
-    let bucket = c.index-buckets-number.result in
-    let left = c.loop-step.left in
-    let ahead = c.ahead-ahead.result in
-    sym (sym c.loop-step.invariant.rest
-    ∙ found-at c.args.wanted c.args.buckets.now left c.in-Some.number c.loop-step.at bucket false c.loop-step.invariant.some (sym c.number.ensures.value ∙ c.in-Some.is)
-    (slice_get_read c.args.buckets.now (length c.args.buckets.now) c.in-Some.number bucket refl (omega arith) c.index-buckets-number.is) (sym c.is_wanted.ensures ∙ c.if-is_wanted.false)
-    ∙ first-ahead c.needed_room-needed.result (left - 1) c.args.wanted c.args.buckets.now bucket.next ahead c.needed_room-needed.ensures (c.ahead-ahead.ensures c.args.buckets.now c.requires)
-    ∙ first-over c.args.wanted c.args.buckets.now ahead.left ahead.at (omega (arith, c.if-ahead-eq0.true)))
-
 pub loop-step-preserved : goal.loop-step-preserved
-loop-step-preserved c =
-    let bucket = c.index-buckets-number.result in
-    let left = c.loop-step.left in
-    let ahead = c.ahead-ahead.result in
-    let is = c.ahead-ahead.ensures c.args.buckets.now c.requires in
-    record {
-      rest =
-          sym (found-at c.args.wanted c.args.buckets.now left c.in-Some.number c.loop-step.at bucket false c.loop-step.invariant.some (sym c.number.ensures.value ∙ c.in-Some.is)
-          (slice_get_read c.args.buckets.now (length c.args.buckets.now) c.in-Some.number bucket refl (omega arith) c.index-buckets-number.is) (sym c.is_wanted.ensures ∙ c.if-is_wanted.false)
-          ∙ first-ahead c.needed_room-needed.result (left - 1) c.args.wanted c.args.buckets.now bucket.next ahead c.needed_room-needed.ensures is)
-          ∙ c.loop-step.invariant.rest;
-      few = omega (arith, c.loop-step.invariant.few, c.loop-step.invariant.some, is.passed);
-      some = omega (arith, c.if-ahead-eq0.false);
-    }
+loop-step-preserved c = elim c.if-ahead-left.branch [
+  | then-ahead-left w ↦
+      let bucket = c.index-buckets-number.result in
+      let left = c.loop-step.left in record {
+        rest = rw (w.left-is, w.at-is)
+            (sym (found-at c.args.wanted c.args.buckets.now left c.in-Some.number c.loop-step.at bucket false (omega (arith, c.if-left-eq0.false)) (sym c.number.ensures.value ∙ c.in-Some.is)
+            (slice_get_read c.args.buckets.now (length c.args.buckets.now) c.in-Some.number bucket refl (omega arith) c.index-buckets-number.is) (sym c.is_wanted.ensures ∙ c.if-is_wanted.false))
+            ∙ c.loop-step.invariant.rest);
+        few = omega (arith, w.left-is, c.loop-step.invariant.few, c.if-left-eq0.false);
+      }
+  | else-ahead-left w ↦
+      let ahead = c.ahead-ahead.result in
+      let is = c.ahead-ahead.ensures c.args.buckets.now c.requires in record {
+        rest = rw (w.left-is, w.at-is)
+            (sym (first-ahead c.needed_room-needed.result c.loop-step.left c.args.wanted c.args.buckets.now c.loop-step.at ahead c.needed_room-needed.ensures is) ∙ c.loop-step.invariant.rest);
+        few = omega (arith, w.left-is, c.loop-step.invariant.few, is.passed, w.if-ahead-left.false);
+      }
+]
 
 pub returns-clause-number : goal.returns-clause-number
-returns-clause-number c = absurd (omega (arith, c.loop-step.invariant.few, c.loop-step.invariant.some))
+returns-clause-number c =
+    sym (sym c.loop-step.invariant.rest ∙ first-over c.args.wanted c.args.buckets.now c.loop-step.left c.loop-step.at (omega (arith, c.loop-step.invariant.few)))

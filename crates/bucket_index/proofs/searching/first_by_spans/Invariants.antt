@@ -8,5 +8,4 @@ abbrev pub invariant-loop-step : goal.invariant-loop-step
 invariant-loop-step l = record {
   rest : first_from l.left l.wanted l.buckets l.at ≡ first_from most_buckets l.wanted l.buckets l.fn.first;
   few : l.left + l._step ≤ most_buckets;
-  some : 1 ≤ l.left;
 }
