@@ -29,7 +29,7 @@ def two_widths(_program):
 
 
 def full_shelf(position):
-    """A full shelf of 4095 buckets, of which the one at a place goes and comes."""
+    """A full shelf of 4095 buckets, of which the one at a position goes and comes."""
     filling = long_shelf() + ["a 15 1"] + ["a 16 1"] * (BUCKETS - 1)
     return filling, goes_and_comes([position] * ROUNDS, len(filling) - 1, "a 16 1")
 

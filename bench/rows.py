@@ -59,12 +59,12 @@ def text(lines):
     return "\n".join([*lines, ""]).encode()
 
 
-def goes_and_comes(places, count, asked):
-    """Each time what stands at a place goes, and what is asked for comes there."""
+def goes_and_comes(slots, count, asked):
+    """Each time what a slot holds goes, and what is asked for comes there."""
     holder, lines = {}, []
-    for place in places:
-        lines += [f"r {holder.get(place, place)}", asked]
-        holder[place] = count + len(lines) - 1
+    for slot in slots:
+        lines += [f"r {holder.get(slot, slot)}", asked]
+        holder[slot] = count + len(lines) - 1
     return lines
 
 

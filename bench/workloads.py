@@ -32,8 +32,8 @@ class Script:
 
     def give_back_any(self):
         """Returns something live, each with the same chance."""
-        place = self.random.randrange(len(self.live))
-        self.live[place], self.live[-1] = self.live[-1], self.live[place]
+        index = self.random.randrange(len(self.live))
+        self.live[index], self.live[-1] = self.live[-1], self.live[index]
         self.give_back(self.live.pop())
 
     def give_all_back(self):
@@ -159,8 +159,8 @@ def buckets(program):
     oldest = deque(script.live)
     for _ in range(10):
         for _ in range(1000):
-            place = script.random.randrange(64)
-            oldest[0], oldest[place] = oldest[place], oldest[0]
+            index = script.random.randrange(64)
+            oldest[0], oldest[index] = oldest[index], oldest[0]
             script.give_back(oldest.popleft())
             script.allocate_between(4, 20)
         script.live = []

@@ -10,12 +10,12 @@
 enum { MOST_COMMANDS = 200000, MOST_KEYS = 100000 };
 
 /* What a command got, and whether it has that still. */
-typedef struct Place {
+typedef struct Slot {
     uint32_t id;
     int is_live;
-} Place;
+} Slot;
 
-static Place places[MOST_COMMANDS];
+static Slot slots[MOST_COMMANDS];
 static size_t commands = 0;
 static uint64_t evicted[MOST_KEYS];
 
@@ -46,12 +46,12 @@ static EtagereOptions options(void) {
     return read;
 }
 
-/* The place of the command that the line names, or one that has nothing. */
-static Place *place(void) {
-    static Place nothing;
+/* The slot of the command that the line names, or one that has nothing. */
+static Slot *slot(void) {
+    static Slot nothing;
     uint64_t position = key();
     nothing.is_live = 0;
-    return position < commands ? &places[position] : &nothing;
+    return position < commands ? &slots[position] : &nothing;
 }
 
 static void print_rectangle(EtagereRectangle rectangle) {
@@ -61,8 +61,8 @@ static void print_rectangle(EtagereRectangle rectangle) {
 
 static void print_allocated(EtagereStatus status, EtagereAllocation allocation) {
     if (status == ETAGERE_OK) {
-        places[commands].id = allocation.id;
-        places[commands].is_live = 1;
+        slots[commands].id = allocation.id;
+        slots[commands].is_live = 1;
         printf("placed %" PRIu32, allocation.id);
         print_rectangle(allocation.rectangle);
         putchar('\n');
@@ -71,7 +71,7 @@ static void print_allocated(EtagereStatus status, EtagereAllocation allocation) 
     }
 }
 
-static void print_returned(Place *of, EtagereStatus status) {
+static void print_returned(Slot *of, EtagereStatus status) {
     of->is_live = 0;
     puts(status == ETAGERE_OK ? "returned" : "not live");
 }
@@ -79,7 +79,7 @@ static void print_returned(Place *of, EtagereStatus status) {
 static void print_cleared(void) {
     size_t i;
     for (i = 0; i < commands; i += 1) {
-        places[i].is_live = 0;
+        slots[i].is_live = 0;
     }
     puts("cleared");
 }
@@ -94,7 +94,7 @@ static void print_grown(EtagereStatus status, EtagereStatus memory) {
     }
 }
 
-static void print_found(EtagereAtlas *atlas, const Place *of) {
+static void print_found(EtagereAtlas *atlas, const Slot *of) {
     EtagereRectangle rectangle;
     uint32_t index;
     if (of->is_live && etagere_atlas_get(atlas, of->id, &rectangle) == ETAGERE_OK
@@ -110,18 +110,18 @@ static void print_found(EtagereAtlas *atlas, const Place *of) {
 static void shelf_command(EtagereAtlas *atlas, char command) {
     EtagereAllocation allocation;
     EtagereStatus status;
-    Place *of;
+    Slot *of;
     switch (command) {
     case 'a':
         status = etagere_atlas_allocate(atlas, size(), &allocation);
         print_allocated(status, allocation);
         break;
     case 'r':
-        of = place();
+        of = slot();
         print_returned(of, of->is_live ? etagere_atlas_deallocate(atlas, of->id) : ETAGERE_UNKNOWN_ID);
         break;
     case 'l':
-        print_found(atlas, place());
+        print_found(atlas, slot());
         break;
     case 'g':
         print_grown(etagere_atlas_grow(atlas, size()), ETAGERE_GROW_MEMORY);
@@ -135,14 +135,14 @@ static void shelf_command(EtagereAtlas *atlas, char command) {
 static void bucketed_command(EtagereBucketed *atlas, char command) {
     EtagereAllocation allocation;
     EtagereStatus status;
-    Place *of;
+    Slot *of;
     switch (command) {
     case 'a':
         status = etagere_bucketed_allocate(atlas, size(), &allocation);
         print_allocated(status, allocation);
         break;
     case 'r':
-        of = place();
+        of = slot();
         print_returned(of, of->is_live ? etagere_bucketed_deallocate(atlas, of->id) : ETAGERE_UNKNOWN_ID);
         break;
     case 'g':

@@ -1,4 +1,4 @@
-"""Calls of the rows in calls.calls, to which memory is refused: what they are told, and how their answers are judged."""
+"""Calls of the rows in calls.calls, to which memory is refused: what they are told, and how their answers are checked."""
 
 import sys
 
@@ -6,7 +6,7 @@ from cases import HERE, ROOT
 
 sys.path.insert(0, str(ROOT / "tests/rows"))
 
-from calls import IN_PLACE, LISTS, Stage, answered, is_wanted
+from calls import INSTEAD, LISTS, Stage, answered, is_wanted
 from program import path_of
 from tables import tests_of
 
@@ -22,9 +22,9 @@ class Recording(Stage):
         super().__init__(program, kind)
         self.lines = []
 
-    def tell(self, place, call):
-        self.lines.append(f"{place} {call}")
-        return super().tell(place, call)
+    def tell(self, slot, call):
+        self.lines.append(f"{slot} {call}")
+        return super().tell(slot, call)
 
 
 def told(test):
@@ -54,7 +54,7 @@ def answers(lines, written):
     for line in lines:
         if not rest:
             break
-        is_list = line.split(" ")[1] in LISTS and not rest[0].startswith(IN_PLACE)
+        is_list = line.split(" ")[1] in LISTS and not rest[0].startswith(INSTEAD)
         end = rest.index("end") + 1 if is_list else 1
         parts.append(rest[:end])
         rest = rest[end:]
@@ -62,21 +62,21 @@ def answers(lines, written):
 
 
 def mended(line, answer):
-    """The lines in place of one that was out of memory: nothing, or removals of the keys that it had evicted."""
-    place = line.split(" ")[0]
+    """The lines instead of one that was out of memory: nothing, or removals of the keys that it had evicted."""
+    slot = line.split(" ")[0]
     if answer[0] == "unread":
-        return [f"{place} {NOTHING}"]
+        return [f"{slot} {NOTHING}"]
     if answer[0].startswith("no memory"):
         keys = (key.partition("=")[0] for key in answer[0].split(" ")[3:])
-        return [f"{place} remove {key}" for key in keys] or [f"{place} {NOTHING}"]
+        return [f"{slot} remove {key}" for key in keys] or [f"{slot} {NOTHING}"]
     return [line]
 
 
 def is_mended(program, lines):
-    """Judges calls by those in which each that was out of memory gives way to what it had done. A program that can't even
+    """Checks calls by those in which each that was out of memory gives way to what it had done. A program that can't even
     read a line ends there."""
 
-    def judge(_, ended):
+    def check(_, ended):
         found = answers(lines, ended.lines)
         instead = [mended(*both) for both in zip(lines, found)]
         replies = answers(
@@ -92,7 +92,7 @@ def is_mended(program, lines):
         is_whole = len(found) == len(lines)
         return None if is_whole == (ended.status == 0) else f"status {ended.status} after {len(found)} answers"
 
-    return judge
+    return check
 
 
 def requests_otherwise(program, lines, taken):

@@ -13,8 +13,8 @@ KINDS = (*ATLASES, "cache", "pages", "padded", "padded_cache", "paged_cache", "k
 # What the program writes in more than a line, up to one that ends it.
 LISTS = ("picture", "part", "iter", "moved")
 PICTURES = ("picture", "part")
-# How the one line begins in place of a list.
-IN_PLACE = ("fault ", "no memory", "no such call", "nothing was made")
+# How the one line begins that comes instead of a list.
+INSTEAD = ("fault ", "no memory", "no such call", "nothing was made")
 # What stands in rows for numbers.
 NAMED = {"h": "0", "v": "1", "first": "0", "fullest": "1"}
 # What takes a text; all other calls take numbers, and those of a map names too.
@@ -57,34 +57,34 @@ class Stage:
         if self.running.wait() or self.running.stdout.read():
             raise Otherwise(f"status {self.running.returncode}")
 
-    def tell(self, place, call):
-        """What the program answers to a call of what is in a place."""
+    def tell(self, slot, call):
+        """What the program answers to a call of what is in a slot."""
         word, _, words = call.partition(" ")
         form = f"{NUMBER}|{NAME}" if self.kind == "map" else NUMBER
         if word not in OF_TEXTS and not re.fullmatch(rf"(({form})( (?=.)|$))*", words):
             raise Otherwise(f"no numbers: {words}")
-        self.running.stdin.write(f"{place} {call}\n")
+        self.running.stdin.write(f"{slot} {call}\n")
         lines = [self.running.stdout.readline()]
-        is_list = word in LISTS and not lines[0].startswith(IN_PLACE)
+        is_list = word in LISTS and not lines[0].startswith(INSTEAD)
         while is_list and lines[-1] not in ("end\n", ""):
             lines.append(self.running.stdout.readline())
         if not lines[-1].endswith("\n"):
             raise Otherwise("the program has ended")
         return "".join(lines[:-1] or lines).removesuffix("\n")
 
-    def answer_of(self, place, call):
+    def answer_of(self, slot, call):
         """What a call answers, as rows have it."""
         word = call.split(" ")[0]
         if self.kind in ATLASES and word in ("size", "empty", "spaces"):
-            width, height, is_empty, allocated, free = self.tell(place, "counts").split(" ")
+            width, height, is_empty, allocated, free = self.tell(slot, "counts").split(" ")
             answers = {"size": f"{width} {height}", "spaces": f"{allocated} {free}"}
             return answers.get(word, "yes" if is_empty == "true" else "no")
         if word == "iter" or self.kind in ATLASES and word == "len":
-            lines = [line.replace("at ", "") for line in self.tell(place, "iter").splitlines() if line != "end"]
+            lines = [line.replace("at ", "") for line in self.tell(slot, "iter").splitlines() if line != "end"]
             return str(len(lines)) if word == "len" else " ".join(["all", *lines])
         if word == "moved":
-            return " ".join(line for line in self.tell(place, call).splitlines() if line != "end")
-        answer = self.tell(place, call)
+            return " ".join(line for line in self.tell(slot, call).splitlines() if line != "end")
+        answer = self.tell(slot, call)
         if answer.startswith(" evicts"):
             answer = answer.removeprefix(" ")
         return answer + " none" if answer.endswith("evicts") else answer
@@ -173,7 +173,7 @@ class Stage:
         return self.tell(1, f"make {asked(words)}")
 
     def of_both(self, call):
-        answers = [self.answer_of(place, call) for place in range(1 + self.has_other)]
+        answers = [self.answer_of(slot, call) for slot in range(1 + self.has_other)]
         if answers[0] != answers[-1]:
             raise Otherwise(f"answered {answers[0]}, by the other {answers[-1]}")
         return answers[0]
@@ -192,7 +192,7 @@ def is_one(answer, wanted):
     return answer.startswith(wanted[:-2]) if wanted.endswith("..") else answer == wanted
 
 
-def judge(program, test):
+def check(program, test):
     """Makes the calls of a test."""
     stage = Stage(program, test.kind)
     try:

@@ -18,7 +18,7 @@ class Run:
     lines: list[str]
     wanted: list[tuple[int, str | None]] = field(default_factory=list)
 
-    def judge(self, programs):
+    def check(self, programs):
         """Compares the three ways, and then each line with its row."""
         script = "".join(f"{line}\n" for line in self.lines).encode()
         ways = [self.told([programs["etagere_run"]], script)]
@@ -64,7 +64,7 @@ def runs_of(test):
     yield run
 
 
-def judge(programs, test):
+def check(programs, test):
     """Makes the runs of a test."""
     for run in runs_of(test):
-        run.judge(programs)
+        run.check(programs)

@@ -139,8 +139,8 @@ class Texts:
         return "skipped" if len(lines) >= int(count) else f"{len(lines)} lines are left"
 
 
-def judge(programs, test):
-    """Judges the rows of a test."""
+def check(programs, test):
+    """Checks the rows of a test."""
     texts = Texts(programs)
     for row, _ in test.turns():
         answer = texts.answer(row.call)

@@ -9,7 +9,7 @@ const MOST_SIDE: i32 = png::MOST_SIDE as i32;
 
 /// A sprite's sheet, counted from 0, and its upper left corner there.
 #[derive(Copy, Clone, Debug, PartialEq, Eq)]
-pub struct Place {
+pub struct Packed {
     /// The number of the sheet.
     pub page: usize,
     /// The first pixel.
@@ -61,11 +61,11 @@ impl Packer {
     /// # Errors
     ///
     /// [`Fault::TooLarge`], where an empty sheet has no room for it; [`Fault::Memory`].
-    pub fn place(&mut self, name: &str, size: Size) -> Result<Place, Fault> {
+    pub fn place(&mut self, name: &str, size: Size) -> Result<Packed, Fault> {
         let padded = size2(size.width.saturating_add(self.padding), size.height.saturating_add(self.padding));
         for (number, page) in self.pages.iter_mut().enumerate() {
             if let Some(allocation) = page.try_allocate(padded)? {
-                return Ok(Place { page: number, corner: allocation.rectangle.min });
+                return Ok(Packed { page: number, corner: allocation.rectangle.min });
             }
         }
         let mut page = self.new_page()?;
@@ -73,7 +73,7 @@ impl Packer {
             .try_allocate(padded)?
             .ok_or_else(|| Fault::TooLarge(name.to_owned(), (size.width, size.height), self.side))?;
         self.pages.push(page);
-        Ok(Place { page: self.pages.len() - 1, corner: allocation.rectangle.min })
+        Ok(Packed { page: self.pages.len() - 1, corner: allocation.rectangle.min })
     }
 }
 
@@ -83,18 +83,18 @@ impl Packer {
 /// # Errors
 ///
 /// As [`Packer::place`].
-pub fn place_all(packer: &mut Packer, sprites: &[(&str, Size)]) -> Result<Vec<Place>, Fault> {
+pub fn place_all(packer: &mut Packer, sprites: &[(&str, Size)]) -> Result<Vec<Packed>, Fault> {
     let mut order: Vec<usize> = (0..sprites.len()).collect();
     order.sort_by_key(|&number| {
         let (name, size) = sprites[number];
         (-size.height, -size.width, name)
     });
-    let mut places = vec![Place { page: 0, corner: Point::new(0, 0) }; sprites.len()];
+    let mut packed = vec![Packed { page: 0, corner: Point::new(0, 0) }; sprites.len()];
     for number in order {
         let (name, size) = sprites[number];
-        places[number] = packer.place(name, size)?;
+        packed[number] = packer.place(name, size)?;
     }
-    Ok(places)
+    Ok(packed)
 }
 
 #[cfg(test)]
@@ -105,8 +105,8 @@ mod tests {
     fn a_sprite_as_large_as_a_sheet_has_one() {
         let mut packer = Packer::new(64, 2).expect("a sheet");
         let corner = Point::new(0, 0);
-        assert_eq!(packer.place("whole", size2(64, 64)).expect("fits"), Place { page: 0, corner });
-        assert_eq!(packer.place("other", size2(64, 64)).expect("fits"), Place { page: 1, corner });
+        assert_eq!(packer.place("whole", size2(64, 64)).expect("fits"), Packed { page: 0, corner });
+        assert_eq!(packer.place("other", size2(64, 64)).expect("fits"), Packed { page: 1, corner });
         assert_eq!(packer.pages(), 2);
     }
 

@@ -6,7 +6,7 @@ use std::path::{Path, PathBuf};
 
 use etagere::{size2, Size};
 
-use crate::pack::{place_all, Packer, Place};
+use crate::pack::{place_all, Packed, Packer};
 use crate::png::{self, Image};
 use crate::Fault;
 
@@ -83,16 +83,16 @@ fn read_sprite(path: &Path) -> Result<Sprite, Fault> {
 pub fn write_sheets(sprites: &[Sprite], side: i32, padding: i32, folder: &Path) -> Result<Report, Fault> {
     let mut packer = Packer::new(side, padding)?;
     let sizes: Vec<_> = sprites.iter().map(|sprite| (sprite.name.as_str(), size_of(&sprite.image))).collect();
-    let places = place_all(&mut packer, &sizes)?;
+    let packed = place_all(&mut packer, &sizes)?;
 
     fs::create_dir_all(folder).map_err(|fault| Fault::File(folder.to_owned(), fault))?;
     let mut fill = Vec::new();
     for page in 0..packer.pages() {
-        let sheet = drawn(sprites, &places, page, side);
+        let sheet = drawn(sprites, &packed, page, side);
         write(folder.join(sheet_name(page)), &png::encode(&sheet))?;
-        fill.push(covered(sprites, &places, page) / (f64::from(side) * f64::from(side)));
+        fill.push(covered(sprites, &packed, page) / (f64::from(side) * f64::from(side)));
     }
-    write(folder.join("index.json"), index(sprites, &places, packer.pages(), side).as_bytes())?;
+    write(folder.join("index.json"), index(sprites, &packed, packer.pages(), side).as_bytes())?;
     Ok(Report { sprites: sprites.len(), fill })
 }
 
@@ -104,25 +104,25 @@ fn size_of(image: &Image) -> Size {
 
 fn on_page<'s>(
     sprites: &'s [Sprite],
-    places: &'s [Place],
+    packed: &'s [Packed],
     page: usize,
-) -> impl Iterator<Item = (&'s Sprite, &'s Place)> {
-    sprites.iter().zip(places).filter(move |(_, place)| place.page == page)
+) -> impl Iterator<Item = (&'s Sprite, &'s Packed)> {
+    sprites.iter().zip(packed).filter(move |(_, at)| at.page == page)
 }
 
 /// The sheet with its sprites.
-fn drawn(sprites: &[Sprite], places: &[Place], page: usize, side: i32) -> Image {
+fn drawn(sprites: &[Sprite], packed: &[Packed], page: usize, side: i32) -> Image {
     let side = side.unsigned_abs() as usize;
     let mut sheet = Image::empty(side, side);
-    for (sprite, place) in on_page(sprites, places, page) {
-        sheet.put(&sprite.image, place.corner.x.unsigned_abs() as usize, place.corner.y.unsigned_abs() as usize);
+    for (sprite, at) in on_page(sprites, packed, page) {
+        sheet.put(&sprite.image, at.corner.x.unsigned_abs() as usize, at.corner.y.unsigned_abs() as usize);
     }
     sheet
 }
 
 /// How many pixels of a sheet sprites cover.
-fn covered(sprites: &[Sprite], places: &[Place], page: usize) -> f64 {
-    on_page(sprites, places, page).map(|(sprite, _)| sprite.image.width() as f64 * sprite.image.height() as f64).sum()
+fn covered(sprites: &[Sprite], packed: &[Packed], page: usize) -> f64 {
+    on_page(sprites, packed, page).map(|(sprite, _)| sprite.image.width() as f64 * sprite.image.height() as f64).sum()
 }
 
 fn sheet_name(page: usize) -> String {
@@ -134,11 +134,11 @@ fn write(path: PathBuf, bytes: &[u8]) -> Result<(), Fault> {
 }
 
 /// The index: for each sprite its sheet and its rectangle there, and for each sheet its file and its sides.
-fn index(sprites: &[Sprite], places: &[Place], pages: usize, side: i32) -> String {
+fn index(sprites: &[Sprite], packed: &[Packed], pages: usize, side: i32) -> String {
     let mut text = String::from("{\n  \"frames\": {");
-    for (number, (sprite, place)) in sprites.iter().zip(places).enumerate() {
-        let (name, size, corner) = (quoted(&sprite.name), size_of(&sprite.image), place.corner);
-        let (x, y, w, h, page) = (corner.x, corner.y, size.width, size.height, place.page);
+    for (number, (sprite, at)) in sprites.iter().zip(packed).enumerate() {
+        let (name, size, corner) = (quoted(&sprite.name), size_of(&sprite.image), at.corner);
+        let (x, y, w, h, page) = (corner.x, corner.y, size.width, size.height, at.page);
         let comma = if number == 0 { "" } else { "," };
         // A string takes all.
         let _ =

@@ -78,9 +78,9 @@ fn hash(front: &[u8]) -> usize {
     (number.wrapping_mul(0x9e37_79b1) >> (32 - HASH_BITS)) as usize
 }
 
-/// How many bytes are the same at two places, up to the longest repetition.
-fn same(bytes: &[u8], place: usize, other: usize) -> usize {
-    bytes[place..].iter().zip(&bytes[other..]).take(LONGEST).take_while(|(one, two)| one == two).count()
+/// How many bytes are the same from two indexes on, up to the longest repetition.
+fn same(bytes: &[u8], index: usize, other: usize) -> usize {
+    bytes[index..].iter().zip(&bytes[other..]).take(LONGEST).take_while(|(one, two)| one == two).count()
 }
 
 /// A zlib stream of the bytes.
@@ -90,18 +90,18 @@ pub fn deflate(bytes: &[u8]) -> Vec<u8> {
     // One block, the last one, of fixed codes.
     bits.number(0b011, 3);
     let mut last = vec![None; 1 << HASH_BITS];
-    let mut place = 0;
-    while place < bytes.len() {
-        let before = bytes.get(place..place + SHORTEST).and_then(|front| last[hash(front)].replace(place));
-        let near = before.filter(|before| place - before <= FARTHEST);
-        match near.map(|before| (before, same(bytes, place, before))) {
+    let mut index = 0;
+    while index < bytes.len() {
+        let before = bytes.get(index..index + SHORTEST).and_then(|front| last[hash(front)].replace(index));
+        let near = before.filter(|before| index - before <= FARTHEST);
+        match near.map(|before| (before, same(bytes, index, before))) {
             Some((before, length)) if length >= SHORTEST => {
-                bits.repetition(length, place - before);
-                place += length;
+                bits.repetition(length, index - before);
+                index += length;
             }
             _ => {
-                bits.value(bytes[place].into());
-                place += 1;
+                bits.value(bytes[index].into());
+                index += 1;
             }
         }
     }

@@ -87,11 +87,11 @@ fn pixels_of_another_number() {
 #[test]
 fn each_cut_and_each_wrong_byte_is_told() {
     let file = encode(&picture());
-    for place in 0..file.len() {
+    for index in 0..file.len() {
         let mut broken = file.clone();
-        broken[place] ^= 0x10;
-        assert!(decode(&broken).is_err(), "byte {place}");
-        assert!(decode(&file[..place]).is_err(), "cut at {place}");
+        broken[index] ^= 0x10;
+        assert!(decode(&broken).is_err(), "byte {index}");
+        assert!(decode(&file[..index]).is_err(), "cut at {index}");
     }
 }
 
