@@ -81,14 +81,14 @@ pub unsafe extern "C" fn free(old: *mut c_void) {
 }
 
 /// Refuses the first allocation of a call, then the second, and so on, until none is refused. The calls go over states
-/// that are made alike, and are judged. Says how many were refused.
-fn refusing<S, T>(mut make: impl FnMut() -> S, call: impl Fn(&mut S) -> T, judge: impl Fn(&S, T, bool)) -> u32 {
+/// that are made alike, and are checked. Says how many were refused.
+fn refusing<S, T>(mut make: impl FnMut() -> S, call: impl Fn(&mut S) -> T, check: impl Fn(&S, T, bool)) -> u32 {
     for refused in 1.. {
         let mut state = make();
         BEFORE_REFUSAL.with(|left| left.set(refused));
         let answer = call(&mut state);
         let is_done = BEFORE_REFUSAL.with(|left| left.replace(0)) != 0;
-        judge(&state, answer, !is_done);
+        check(&state, answer, !is_done);
         if is_done {
             return refused - 1;
         }
@@ -140,7 +140,7 @@ fn an_atlas_is_not_made() {
 
 #[test]
 fn nothing_is_allocated() {
-    let mut places = 0;
+    let mut refusals = 0;
     for count in 0..9 {
         let make = || {
             let mut atlas = AtlasAllocator::new(size2(64, 64));
@@ -149,7 +149,7 @@ fn nothing_is_allocated() {
             }
             atlas
         };
-        places += refusing(
+        refusals += refusing(
             make,
             |atlas| atlas.try_allocate(size2(10, 30)),
             |atlas, answer, refused| {
@@ -158,14 +158,14 @@ fn nothing_is_allocated() {
             },
         );
     }
-    assert!(places > 0);
+    assert!(refusals > 0);
     let make = || BucketedAtlasAllocator::new(size2(64, 64));
     let allocate = |atlas: &mut BucketedAtlasAllocator| atlas.try_allocate(size2(20, 30));
-    let places = refusing(make, allocate, |atlas, answer, refused| {
+    let refusals = refusing(make, allocate, |atlas, answer, refused| {
         assert_eq!(answer.err(), refused.then_some(AllocError));
         assert_eq!(atlas.is_empty(), refused);
     });
-    assert!(places > 0);
+    assert!(refusals > 0);
 }
 
 #[test]
@@ -200,64 +200,64 @@ fn nothing_grows() {
 
 #[test]
 fn no_copy_and_no_list_is_made() {
-    let places = refusing(
+    let refusals = refusing(
         atlas,
         |atlas| atlas.try_clone(),
         |_, answer, refused| {
             assert_eq!(answer.err(), refused.then_some(AllocError));
         },
     );
-    assert!(places > 0);
-    let places = refusing(
+    assert!(refusals > 0);
+    let refusals = refusing(
         buckets,
         |atlas| atlas.try_clone(),
         |_, answer, refused| {
             assert_eq!(answer.err(), refused.then_some(AllocError));
         },
     );
-    assert!(places > 0);
-    let places = refusing(
+    assert!(refusals > 0);
+    let refusals = refusing(
         atlas,
         |atlas| atlas.try_iter().map(Iterator::count),
         |_, answer, refused| {
             assert_eq!(answer, if refused { Err(AllocError) } else { Ok(8) });
         },
     );
-    assert!(places > 0);
+    assert!(refusals > 0);
 }
 
 #[test]
 fn no_picture_goes_out() {
-    let judge = |refused, text: &[u8], answer: std::io::Result<()>| {
+    let check = |refused, text: &[u8], answer: std::io::Result<()>| {
         let kind = answer.map_err(|fault| fault.kind()).err();
         assert_eq!(kind, if refused { Some(std::io::ErrorKind::OutOfMemory) } else { None });
         assert_eq!(text.is_empty(), refused);
     };
     let make = || (atlas(), Vec::with_capacity(100_000));
-    let places =
-        refusing(make, |(atlas, text)| atlas.dump_svg(text), |(_, text), answer, refused| judge(refused, text, answer));
-    assert!(places > 0);
+    let refusals =
+        refusing(make, |(atlas, text)| atlas.dump_svg(text), |(_, text), answer, refused| check(refused, text, answer));
+    assert!(refusals > 0);
     let make = || (buckets(), Vec::with_capacity(100_000));
-    let places = refusing(
+    let refusals = refusing(
         make,
         |(atlas, text)| atlas.dump_into_svg(None, text),
-        |(_, text), answer, refused| judge(refused, text, answer),
+        |(_, text), answer, refused| check(refused, text, answer),
     );
-    assert!(places > 0);
+    assert!(refusals > 0);
 }
 
 #[test]
 fn nothing_is_saved_or_restored() {
-    let places = refusing(
+    let refusals = refusing(
         atlas,
         |atlas| atlas.to_json(),
         |_, answer, refused| {
             assert_eq!(answer.err(), refused.then_some(AllocError));
         },
     );
-    assert!(places > 0);
+    assert!(refusals > 0);
     let text = atlas().to_json().expect("memory");
-    let places = refusing(
+    let refusals = refusing(
         || (),
         |()| AtlasAllocator::from_json(&text),
         |(), answer, refused| {
@@ -265,21 +265,21 @@ fn nothing_is_saved_or_restored() {
             assert_eq!(answer.as_ref().is_err_and(|fault| faults.contains(fault)), refused);
         },
     );
-    assert!(places > 0);
+    assert!(refusals > 0);
 }
 
 #[test]
 fn no_cache_is_saved_or_restored() {
-    let places = refusing(
+    let refusals = refusing(
         cache,
         |cache| cache.to_json(),
         |_, answer, refused| {
             assert_eq!(answer.err(), refused.then_some(AllocError));
         },
     );
-    assert!(places > 0);
+    assert!(refusals > 0);
     let text = cache().to_json().expect("memory");
-    let places = refusing(
+    let refusals = refusing(
         || (),
         |()| GlyphCache::from_json(&text),
         |(), answer, refused| {
@@ -287,7 +287,7 @@ fn no_cache_is_saved_or_restored() {
             assert_eq!(answer.as_ref().is_err_and(|fault| faults.contains(fault)), refused);
         },
     );
-    assert!(places > 0);
+    assert!(refusals > 0);
 }
 
 #[test]
@@ -311,7 +311,7 @@ fn keys_that_were_evicted_are_told() {
 
 #[test]
 fn keys_are_not_listed_or_evicted() {
-    let places = refusing(
+    let refusals = refusing(
         cache,
         |cache| cache.entries(),
         |cache, answer, refused| {
@@ -319,8 +319,8 @@ fn keys_are_not_listed_or_evicted() {
             assert_eq!(cache.len(), 8);
         },
     );
-    assert!(places > 0);
-    let places = refusing(
+    assert!(refusals > 0);
+    let refusals = refusing(
         cache,
         |cache| cache.retain(|key, _| key == 3),
         |cache, answer, refused| {
@@ -328,8 +328,8 @@ fn keys_are_not_listed_or_evicted() {
             assert_eq!(cache.len(), if refused { 8 } else { 1 });
         },
     );
-    assert!(places > 0);
-    let places = refusing(
+    assert!(refusals > 0);
+    let refusals = refusing(
         cache,
         |cache| cache.set_capacity(NonZeroUsize::MIN),
         |cache, answer, refused| match answer {
@@ -340,7 +340,7 @@ fn keys_are_not_listed_or_evicted() {
             Err(AllocError) => assert_eq!((refused, cache.len(), cache.capacity()), (true, 8, 16)),
         },
     );
-    assert!(places > 0);
+    assert!(refusals > 0);
 }
 
 #[test]
@@ -349,7 +349,7 @@ fn a_cache_does_not_grow() {
         let options = AllocatorOptions { num_columns: 4, ..DEFAULT_OPTIONS };
         GlyphCache::new(size2(64, 64), &options, NonZeroUsize::MIN).expect("good options")
     };
-    let places = refusing(
+    let refusals = refusing(
         make,
         |cache| cache.grow(size2(1024, 64)),
         |cache, answer, refused| {
@@ -357,5 +357,5 @@ fn a_cache_does_not_grow() {
             assert_eq!(cache.size(), size2(if refused { 64 } else { 1024 }, 64));
         },
     );
-    assert!(places > 0);
+    assert!(refusals > 0);
 }

@@ -4,10 +4,10 @@ mod common;
 
 use std::io::{self, Write};
 
-use common::Random;
+use common::{Atlas, Random};
 use etagere::{
     size2, AllocId, Allocation, AllocatorOptions, AtlasAllocator, BucketedAtlasAllocator, OptionsFault, Recordable,
-    Recorder, Size, UnknownId, DEFAULT_OPTIONS,
+    Recorder, UnknownId, DEFAULT_OPTIONS,
 };
 
 const ALIGNED: AllocatorOptions = AllocatorOptions { alignment: size2(4, 8), num_columns: 3, vertical_shelves: true };
@@ -48,34 +48,8 @@ fn all_that_a_script_can_say_is_recorded() {
     assert_eq!(refused.err(), Some(OptionsFault::Size));
 }
 
-/// An atlas that answers the lines of a script, with the ids that each position has.
-trait Player: Recordable {
-    fn begun(size: Size) -> Self;
-    fn place(&mut self, size: Size) -> Option<Allocation>;
-    fn give_back(&mut self, id: AllocId);
-}
-
-macro_rules! player {
-    ($atlas:ident) => {
-        impl Player for $atlas {
-            fn begun(size: Size) -> Self {
-                Self::new(size)
-            }
-            fn place(&mut self, size: Size) -> Option<Allocation> {
-                self.allocate(size)
-            }
-            fn give_back(&mut self, id: AllocId) {
-                self.deallocate(id);
-            }
-        }
-    };
-}
-
-player!(AtlasAllocator);
-player!(BucketedAtlasAllocator);
-
 /// What the lines of a script behind its header answer: an allocation where one was placed.
-fn replayed<A: Player>(atlas: &mut A, script: &str) -> Vec<Option<Allocation>> {
+fn replayed<A: Atlas>(atlas: &mut A, script: &str) -> Vec<Option<Allocation>> {
     let mut answers: Vec<Option<Allocation>> = Vec::new();
     let mut live: Vec<Option<AllocId>> = Vec::new();
     for line in script.lines().skip(1) {
@@ -94,7 +68,7 @@ fn replayed<A: Player>(atlas: &mut A, script: &str) -> Vec<Option<Allocation>> {
 }
 
 /// Random calls are recorded, and the script is run on a new atlas. Ids are returned twice now and then.
-fn is_replayed<A: Player>(seed: u64) {
+fn is_replayed<A: Atlas + Recordable>(seed: u64) {
     let mut random = Random::new(seed);
     let mut atlas = Recorder::<A, _>::new(size2(256, 256), &DEFAULT_OPTIONS, Vec::new());
     let mut answers = Vec::new();
@@ -105,14 +79,14 @@ fn is_replayed<A: Player>(seed: u64) {
             ids.extend(given.map(|allocation| allocation.id));
             answers.push(given);
         } else {
-            let place = random.below(ids.len() as u32) as usize;
-            let id = if random.below(20) == 0 { ids[place] } else { ids.swap_remove(place) };
+            let index = random.below(ids.len() as u32) as usize;
+            let id = if random.below(20) == 0 { ids[index] } else { ids.swap_remove(index) };
             let _ = atlas.try_deallocate(id);
             answers.push(None);
         }
     }
     let (_atlas, script) = atlas.finish();
-    assert!(replayed(&mut A::begun(size2(256, 256)), &text(script)) == answers);
+    assert!(replayed(&mut A::make(size2(256, 256), &DEFAULT_OPTIONS), &text(script)) == answers);
 }
 
 #[test]

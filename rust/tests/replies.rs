@@ -10,7 +10,7 @@ use std::path::PathBuf;
 use std::process::{Command, Stdio};
 use std::{env, thread};
 
-use common::Random;
+use common::{Atlas, Random};
 use etagere::{
     size2, AllocId, Allocation, AllocatorOptions, AtlasAllocator, AtlasGrowFault, BucketedAtlasAllocator, GlyphCache,
     GlyphFault, GrowFault, Rectangle, Size, DEFAULT_OPTIONS,
@@ -49,12 +49,9 @@ struct Session {
     ids: Vec<Option<AllocId>>,
 }
 
-/// A script's command on an atlas, by which both kinds are called in one way.
-trait Atlas {
+/// A script's other commands on an atlas, and what is written of it.
+trait Scripted: Atlas {
     const KIND: &'static str;
-    fn make(size: Size, options: &AllocatorOptions) -> Self;
-    fn place(&mut self, size: Size) -> Option<Allocation>;
-    fn give_back(&mut self, id: AllocId);
     fn enlarge(&mut self, size: Size) -> Result<(), u32>;
     fn empty(&mut self);
     fn look(&self, id: AllocId) -> Option<(Rectangle, u32)>;
@@ -62,19 +59,10 @@ trait Atlas {
     fn saved(&self) -> Vec<u8>;
 }
 
-macro_rules! atlas {
+macro_rules! scripted {
     ($name:ident $kind:literal $fault:ident, |$atlas:ident, $id:ident| $look:expr) => {
-        impl Atlas for $name {
+        impl Scripted for $name {
             const KIND: &'static str = $kind;
-            fn make(size: Size, options: &AllocatorOptions) -> Self {
-                Self::with_options(size, options)
-            }
-            fn place(&mut self, size: Size) -> Option<Allocation> {
-                self.allocate(size)
-            }
-            fn give_back(&mut self, id: AllocId) {
-                self.deallocate(id);
-            }
             fn enlarge(&mut self, size: Size) -> Result<(), u32> {
                 self.try_grow(size).map_err($fault::number)
             }
@@ -97,8 +85,8 @@ macro_rules! atlas {
     };
 }
 
-atlas!(AtlasAllocator "atlas" AtlasGrowFault, |atlas, id| Some((atlas.get(id), atlas.get_index(id))));
-atlas!(BucketedAtlasAllocator "bucketed" GrowFault, |_atlas, _id| None);
+scripted!(AtlasAllocator "atlas" AtlasGrowFault, |atlas, id| Some((atlas.get(id), atlas.get_index(id))));
+scripted!(BucketedAtlasAllocator "bucketed" GrowFault, |_atlas, _id| None);
 
 fn corners(rectangle: Rectangle) -> String {
     let (min, max) = (rectangle.min, rectangle.max);
@@ -147,7 +135,7 @@ impl Session {
         self.add(&format!("r {position}"), reply, None);
     }
 
-    fn look<A: Atlas>(&mut self, atlas: &A, position: usize) {
+    fn look<A: Scripted>(&mut self, atlas: &A, position: usize) {
         let reply = match self.id(position).and_then(|id| atlas.look(id)) {
             Some((rectangle, index)) => format!("at {} {index}", corners(rectangle)),
             None => "not live".to_owned(),
@@ -155,7 +143,7 @@ impl Session {
         self.add(&format!("l {position}"), &reply, None);
     }
 
-    fn grow<A: Atlas>(&mut self, atlas: &mut A, size: Size) {
+    fn grow<A: Scripted>(&mut self, atlas: &mut A, size: Size) {
         let reply = match atlas.enlarge(size) {
             Ok(()) => "grown".to_owned(),
             Err(number) => format!("grow refused {number}"),
@@ -163,7 +151,7 @@ impl Session {
         self.add(&format!("g {} {}", size.width, size.height), &reply, None);
     }
 
-    fn clear<A: Atlas>(&mut self, atlas: &mut A) {
+    fn clear<A: Scripted>(&mut self, atlas: &mut A) {
         atlas.empty();
         self.ids.fill(None);
         self.add("c", "cleared", None);
@@ -171,7 +159,7 @@ impl Session {
 }
 
 /// Random commands, of items up to a side.
-fn run<A: Atlas>(seed: u64, mut size: Size, options: &AllocatorOptions, side: u32) {
+fn run<A: Scripted>(seed: u64, mut size: Size, options: &AllocatorOptions, side: u32) {
     let AllocatorOptions { alignment, num_columns, vertical_shelves } = *options;
     let direction = if vertical_shelves { 'v' } else { 'h' };
     let (width, height) = alignment.to_tuple();

@@ -316,8 +316,8 @@ fn pictures() {
     let lines = text_of(|output| atlas.dump_into_svg(None, output));
     let inner: Vec<_> = document.lines().collect();
     assert_eq!(lines.lines().collect::<Vec<_>>(), inner[1..inner.len() - 1]);
-    let place = Rectangle::new(point2(5, 6), point2(45, 66));
-    let part = text_of(|output| atlas.dump_into_svg(Some(&place), output));
+    let window = Rectangle::new(point2(5, 6), point2(45, 66));
+    let part = text_of(|output| atlas.dump_into_svg(Some(&window), output));
     let around =
         "    <svg x=\"5\" y=\"6\" width=\"40\" height=\"60\" viewBox=\"0 0 20 30\" preserveAspectRatio=\"none\">";
     assert_eq!(part, format!("{around}\n{lines}    </svg>\n"));
@@ -336,5 +336,5 @@ fn pictures() {
     let mut cache = GlyphCache::new(size2(20, 30), &DEFAULT_OPTIONS, capacity).expect("good options");
     cache.place(1, size2(8, 8)).expect("room");
     assert_eq!(text_of(|output| cache.dump_svg(output)), document);
-    assert_eq!(text_of(|output| cache.dump_into_svg(Some(&place), output)), part);
+    assert_eq!(text_of(|output| cache.dump_into_svg(Some(&window), output)), part);
 }

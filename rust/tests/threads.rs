@@ -6,7 +6,7 @@ use std::num::NonZeroUsize;
 use std::sync::Arc;
 use std::thread;
 
-use common::Random;
+use common::{Atlas, Random};
 use etagere::{
     size2, AllocId, AtlasAllocator, BucketedAtlasAllocator, GlyphCache, Iter, OptionsFault, Rectangle, DEFAULT_OPTIONS,
 };
@@ -23,15 +23,15 @@ fn all_types_may_be_sent_and_shared() {
 }
 
 /// Allocates and gives back at random, and says all that was allocated.
-fn churn(atlas: &mut AtlasAllocator, seed: u64) -> Vec<Rectangle> {
+fn churn<A: Atlas>(atlas: &mut A, seed: u64) -> Vec<Rectangle> {
     let mut random = Random::new(seed);
     let mut live: Vec<AllocId> = Vec::new();
     let mut given = Vec::new();
     for _ in 0..5000 {
         if random.below(3) == 0 && !live.is_empty() {
             let at = random.below(live.len() as u32) as usize;
-            atlas.deallocate(live.swap_remove(at));
-        } else if let Some(item) = atlas.allocate(size2(random.side(40), random.side(40))) {
+            atlas.give_back(live.swap_remove(at));
+        } else if let Some(item) = atlas.place(size2(random.side(40), random.side(40))) {
             live.push(item.id);
             given.push(item.rectangle);
         }
@@ -39,14 +39,19 @@ fn churn(atlas: &mut AtlasAllocator, seed: u64) -> Vec<Rectangle> {
     given
 }
 
-#[test]
-fn two_threads_with_an_atlas_each() {
-    let run = |seed| churn(&mut AtlasAllocator::new(size2(512, 512)), seed);
+fn are_answered_alike<A: Atlas>() {
+    let run = |seed| churn(&mut A::make(size2(512, 512), &DEFAULT_OPTIONS), seed);
     let together = thread::scope(|scope| {
         let threads = [1, 2].map(|seed| scope.spawn(move || run(seed)));
         threads.map(|thread| thread.join().expect("ends well"))
     });
     assert_eq!(together, [run(1), run(2)]);
+}
+
+#[test]
+fn two_threads_with_an_atlas_each() {
+    are_answered_alike::<AtlasAllocator>();
+    are_answered_alike::<BucketedAtlasAllocator>();
 }
 
 #[test]

@@ -1,4 +1,6 @@
-//! Random numbers.
+//! Random numbers, and both kinds of atlas called in one way.
+
+use etagere::{AllocId, Allocation, AllocatorOptions, AtlasAllocator, BucketedAtlasAllocator, Size};
 
 /// Numbers that look random, the same ones for each seed.
 pub struct Random(u64);
@@ -21,3 +23,29 @@ impl Random {
         1 + self.below(greatest) as i32
     }
 }
+
+/// What both kinds of atlas do for the same commands.
+pub trait Atlas {
+    fn make(size: Size, options: &AllocatorOptions) -> Self;
+    fn place(&mut self, size: Size) -> Option<Allocation>;
+    fn give_back(&mut self, id: AllocId);
+}
+
+macro_rules! atlas {
+    ($name:ident) => {
+        impl Atlas for $name {
+            fn make(size: Size, options: &AllocatorOptions) -> Self {
+                Self::with_options(size, options)
+            }
+            fn place(&mut self, size: Size) -> Option<Allocation> {
+                self.allocate(size)
+            }
+            fn give_back(&mut self, id: AllocId) {
+                self.deallocate(id);
+            }
+        }
+    };
+}
+
+atlas!(AtlasAllocator);
+atlas!(BucketedAtlasAllocator);
