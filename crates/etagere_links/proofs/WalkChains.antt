@@ -1,7 +1,7 @@
 -- A list that links spell is what a walk meets, and what a walk meets is a list that links spell.
 use Rattle.std.proofs.Common.{◌≡◌, ◌≢◌, ℕ, zero, suc, ◌<◌, ◌≤◌, Bool, true, false, Option, Some, List, [], ◌∷◌, ◌++◌, length, refl, ap, arith, append_assoc, append-nil, ◌∙◌}
 use Rattle.std.specs.Prelude.{◌==◌, slice_index, if◌then◌else◌}
-use Rattle.etagere_links.specs.Chains.{Leads, IsPile}
+use Rattle.etagere_links.specs.Chains.{Leads, IsList}
 use Rattle.etagere_links.specs.Links.{no_link, link_of, bits_of}
 use Rattle.etagere_base.specs.Lists.{times}
 use Rattle.etagere_links.specs.Walks.{Walked, is_end, walked_from, walk}
@@ -29,28 +29,28 @@ goes-on : (links met : List ℕ) (at : ℕ) → at < length links → length lin
 goes-on links met at within few fresh = grind (arith, has-absent at met fresh)
 
 -- the rest of a walk along links that spell a list
-walked-pile : (links : List ℕ) (next : ℕ → Option ℕ) → ((k : ℕ) → k < length links → slice_index links k ≡ bits_of (next k)) → length links ≤ no_link → (steps : ℕ) (met xs : List ℕ) (start : Option ℕ) → length xs ≤ steps → ((k : ℕ) → times k (met ++ xs) ≤ 1) → ((k : ℕ) → 1 ≤ times k xs → k < length links) → IsPile next start xs → walked_from steps links met (bits_of start) ≡ record { met = met ++ xs; end = no_link }
-walked-pile links next reads few steps met [] start enough once within pile =
+walked-list : (links : List ℕ) (next : ℕ → Option ℕ) → ((k : ℕ) → k < length links → slice_index links k ≡ bits_of (next k)) → length links ≤ no_link → (steps : ℕ) (met xs : List ℕ) (start : Option ℕ) → length xs ≤ steps → ((k : ℕ) → times k (met ++ xs) ≤ 1) → ((k : ℕ) → 1 ≤ times k xs → k < length links) → IsList next start xs → walked_from steps links met (bits_of start) ≡ record { met = met ++ xs; end = no_link }
+walked-list links next reads few steps met [] start enough once within list =
     let stops : is_end links met no_link ≡ true = grind arith in
-    rw (pile, append-nil) (walked_from-end steps links met no_link stops)
-walked-pile links next reads few zero met (x ∷ xs) start enough once within pile = absurd (omega arith)
-walked-pile links next reads few (suc steps) met (x ∷ xs) start enough once within pile =
+    rw (list, append-nil) (walked_from-end steps links met no_link stops)
+walked-list links next reads few zero met (x ∷ xs) start enough once within list = absurd (omega arith)
+walked-list links next reads few (suc steps) met (x ∷ xs) start enough once within list =
     let here : x < length links = within x (omega (arith, times-here x xs)) in
     let fresh : times x met ≡ 0 = omega (arith, once x, times-here x xs, times-append x met (x ∷ xs)) in
     let moved : (met ++ x ∷ []) ++ xs ≡ met ++ x ∷ xs = append_assoc met (x ∷ []) xs in
     let rest : walked_from steps links (met ++ x ∷ []) (bits_of (next x)) ≡ record { met = (met ++ x ∷ []) ++ xs; end = no_link } =
-    walked-pile links next reads few steps (met ++ x ∷ []) xs (next x) (omega arith)
-    (λ k. rw moved (once k)) (λ k stands. within k (omega (arith, stands))) pile.1 in
-    rw pile.0
+    walked-list links next reads few steps (met ++ x ∷ []) xs (next x) (omega arith)
+    (λ k. rw moved (once k)) (λ k stands. within k (omega (arith, stands))) list.1 in
+    rw list.0
     (walked_from-step (suc steps) steps links met x (goes-on links met x here few fresh) refl
     ∙ ap (λ at. walked_from steps links (met ++ x ∷ []) at) (reads x here)
     ∙ rest
     ∙ ap (λ all. record { met = all; end = no_link }) moved)
 
 -- a walk along links that spell a list meets just that list, and ends at none
-pub pile-walk : (links : List ℕ) (next : ℕ → Option ℕ) (xs : List ℕ) (start : Option ℕ) → ((k : ℕ) → k < length links → slice_index links k ≡ bits_of (next k)) → length links ≤ no_link → ((k : ℕ) → times k xs ≤ 1) → ((k : ℕ) → 1 ≤ times k xs → k < length links) → IsPile next start xs → walk links (bits_of start) ≡ record { met = xs; end = no_link }
-pile-walk links next xs start reads few once within pile =
-    walked-pile links next reads few (length links) [] xs start (length-once (length links) xs once within) once within pile
+pub list-walk : (links : List ℕ) (next : ℕ → Option ℕ) (xs : List ℕ) (start : Option ℕ) → ((k : ℕ) → k < length links → slice_index links k ≡ bits_of (next k)) → length links ≤ no_link → ((k : ℕ) → times k xs ≤ 1) → ((k : ℕ) → 1 ≤ times k xs → k < length links) → IsList next start xs → walk links (bits_of start) ≡ record { met = xs; end = no_link }
+list-walk links next xs start reads few once within list =
+    walked-list links next reads few (length links) [] xs start (length-once (length links) xs once within) once within list
 
 -- where a walk came to: links lead through what it met to the link at which it stopped, and what it met differs
 pub record IsWalked (links : List ℕ) (start : ℕ) (walked : Walked) : Type 0 where

@@ -4,13 +4,13 @@ use Rattle.std.proofs.Common.{◌≡◌, ◌≢◌, ℕ, zero, suc, ◌<◌, ◌
 use Rattle.std.proofs.lemmas.List.{length-map}
 use Rattle.std.specs.Prelude.{nat_lt, slice_index, ◌==◌}
 use Rattle.etagere_base.specs.Lists.{times}
-use Rattle.etagere_links.specs.Chains.{IsPile, Leads}
+use Rattle.etagere_links.specs.Chains.{IsList, Leads}
 use Rattle.etagere_links.specs.Edits.{link_at}
 use Rattle.etagere_links.specs.Links.{no_link, bits_of, link_of}
 use Rattle.etagere_links.specs.Walks.{walk_by}
 use Rattle.etagere_links.specs.Lists.{HasEachOnce}
 use Rattle.etagere_links.proofs.ListEnds.{times-here, times-other}
-use Rattle.etagere_links.proofs.WalkChains.{pile-walk, IsWalked, walk-leads}
+use Rattle.etagere_links.proofs.WalkChains.{list-walk, IsWalked, walk-leads}
 
 -- the bits of the link of a record
 pub bits-read : {T : Type 0} (link : T → Option ℕ) (xs : List T) (k : ℕ) → k < length (map (λ (here : T). bits_of (link here)) xs) → slice_index (map (λ (here : T). bits_of (link here)) xs) k ≡ bits_of (link_at link xs k)
@@ -19,11 +19,11 @@ bits-read link (x ∷ xs) zero within = refl
 bits-read link (x ∷ xs) (suc k) within = bits-read link xs k (omega arith)
 
 -- a list that links spell is what the walk meets
-pub walk_by-spelled : {T : Type 0} (link : T → Option ℕ) (records : List T) (start : Option ℕ) (xs : List ℕ) → length records ≤ no_link → ((k : ℕ) → times k xs ≤ 1) → ((k : ℕ) → 1 ≤ times k xs → k < length records) → IsPile (link_at link records) start xs → walk_by link records start ≡ record { met = xs; end = no_link }
-walk_by-spelled {T} link records start xs few once within pile =
+pub walk_by-spelled : {T : Type 0} (link : T → Option ℕ) (records : List T) (start : Option ℕ) (xs : List ℕ) → length records ≤ no_link → ((k : ℕ) → times k xs ≤ 1) → ((k : ℕ) → 1 ≤ times k xs → k < length records) → IsList (link_at link records) start xs → walk_by link records start ≡ record { met = xs; end = no_link }
+walk_by-spelled {T} link records start xs few once within list =
     let long : length (map (λ (here : T). bits_of (link here)) records) ≡ length records = length-map records (λ (here : T). bits_of (link here)) in
-    pile-walk (map (λ (here : T). bits_of (link here)) records) (link_at link records) xs start
-    (bits-read link records) (rw long few) once (λ k stands. rw long (within k stands)) pile
+    list-walk (map (λ (here : T). bits_of (link here)) records) (link_at link records) xs start
+    (bits-read link records) (rw long few) once (λ k stands. rw long (within k stands)) list
 
 -- of what stands once in all lists, a part stands once at most
 pub once-part : (count : ℕ) (xs : List ℕ) (k part : ℕ) → HasEachOnce count xs → part ≤ times k xs → (part ≤ 1) × (1 ≤ part → k < count)
@@ -43,14 +43,14 @@ part-of count all xs each less =
     record { once = λ k. (once-part count all k (times k xs) each (less k)).0; within = λ k. (once-part count all k (times k xs) each (less k)).1 }
 
 -- the walk along a list that is part of what stands once
-pub walk_by-part : {T : Type 0} (link : T → Option ℕ) (records : List T) (start : Option ℕ) (xs : List ℕ) → length records ≤ no_link → IsPart (length records) xs → IsPile (link_at link records) start xs → walk_by link records start ≡ record { met = xs; end = no_link }
-walk_by-part link records start xs few part pile = walk_by-spelled link records start xs few part.once part.within pile
+pub walk_by-part : {T : Type 0} (link : T → Option ℕ) (records : List T) (start : Option ℕ) (xs : List ℕ) → length records ≤ no_link → IsPart (length records) xs → IsList (link_at link records) start xs → walk_by link records start ≡ record { met = xs; end = no_link }
+walk_by-part link records start xs few part list = walk_by-spelled link records start xs few part.once part.within list
 
 -- a walk that ends at none meets a list that links spell, where those that it follows fit their bits
 pub walk_by-leads : {T : Type 0} (link : T → Option ℕ) (records : List T) (start : Option ℕ)
     → ((k : ℕ) → 1 ≤ times k (walk_by link records start).met → link_of (bits_of (link_at link records k)) ≡ link_at link records k)
     → link_of (bits_of start) ≡ start → length records ≤ no_link → (walk_by link records start).end ≡ no_link
-    → IsPile (link_at link records) start (walk_by link records start).met
+    → IsList (link_at link records) start (walk_by link records start).met
 walk_by-leads {T} link records start fit start_fits few ends =
     let links : List ℕ = map (λ (here : T). bits_of (link here)) records in
     let long : length links ≡ length records = length-map records (λ (here : T). bits_of (link here)) in
@@ -64,14 +64,14 @@ walk_by-leads {T} link records start fit start_fits few ends =
     (λ k stands. sym (ap link_of (bits-read link records k (walked.within k stands)) ∙ fit k stands)) to
 
 -- links that spell a list of numbers of records fit their bits
-pile-fits : (next : ℕ → Option ℕ) (start : Option ℕ) (xs : List ℕ) → ((k : ℕ) → 1 ≤ times k xs → k < no_link) → IsPile next start xs
+list-fits : (next : ℕ → Option ℕ) (start : Option ℕ) (xs : List ℕ) → ((k : ℕ) → 1 ≤ times k xs → k < no_link) → IsList next start xs
     → (link_of (bits_of start) ≡ start) × ((k : ℕ) → 1 ≤ times k xs → link_of (bits_of (next k)) ≡ next k)
-pile-fits next start [] small pile = (rw pile refl, λ k stands. absurd (omega arith))
-pile-fits next start (x ∷ xs) small pile =
-    let rest = pile-fits next (next x) xs (λ k stands. small k (omega (arith, stands))) pile.1 in
+list-fits next start [] small list = (rw list refl, λ k stands. absurd (omega arith))
+list-fits next start (x ∷ xs) small list =
+    let rest = list-fits next (next x) xs (λ k stands. small k (omega (arith, stands))) list.1 in
     let low : x < no_link = small x (omega (arith, times-here x xs)) in
     let fits : link_of x ≡ Some x = grind arith in
-    (rw pile.0 fits, λ k stands. by_test k stands (x == k) refl rest)
+    (rw list.0 fits, λ k stands. by_test k stands (x == k) refl rest)
   where
     by_test : (k : ℕ) → 1 ≤ times k (x ∷ xs) → (b : Bool) → (x == k) ≡ b
         → (link_of (bits_of (next x)) ≡ next x) × ((k : ℕ) → 1 ≤ times k xs → link_of (bits_of (next k)) ≡ next k)
@@ -83,11 +83,11 @@ pile-fits next start (x ∷ xs) small pile =
 
 -- the links that a walk along a list that they spell follows fit their bits
 pub walk_by-fits : {T : Type 0} (link : T → Option ℕ) (records : List T) (start : Option ℕ) → length records ≤ no_link
-    → IsPile (link_at link records) start (walk_by link records start).met
+    → IsList (link_at link records) start (walk_by link records start).met
     → (link_of (bits_of start) ≡ start)
     × ((k : ℕ) → 1 ≤ times k (walk_by link records start).met → link_of (bits_of (link_at link records k)) ≡ link_at link records k)
-walk_by-fits {T} link records start few pile =
+walk_by-fits {T} link records start few list =
     let links : List ℕ = map (λ (here : T). bits_of (link here)) records in
     let long : length links ≡ length records = length-map records (λ (here : T). bits_of (link here)) in
     let walked : IsWalked links (bits_of start) (walk_by link records start) = walk-leads links (bits_of start) (rw long few) in
-    pile-fits (link_at link records) start (walk_by link records start).met (λ k stands. omega (arith, walked.within k stands, long, few)) pile
+    list-fits (link_at link records) start (walk_by link records start).met (λ k stands. omega (arith, walked.within k stands, long, few)) list

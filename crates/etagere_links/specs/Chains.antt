@@ -7,5 +7,5 @@ Leads next start [] end = start ≡ end
 Leads next start (x ∷ xs) end = (start ≡ Some x) × Leads next (next x) xs end
 
 -- the links spell this list
-abbrev pub IsPile : (ℕ → Option ℕ) → Option ℕ → List ℕ → Type 0
-IsPile next first xs = Leads next first xs None
+abbrev pub IsList : (ℕ → Option ℕ) → Option ℕ → List ℕ → Type 0
+IsList next first xs = Leads next first xs None

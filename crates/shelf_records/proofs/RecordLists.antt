@@ -1,7 +1,7 @@
 -- Lists of records: taking out, putting in, making unused and taking change one list as a list.
 use Rattle.std.proofs.Common.{◌≡◌, ◌≢◌, ℕ, ◌<◌, ◌≤◌, Option, None, Some, List, [], ◌∷◌, ◌++◌, length, refl, arith, subst, append_assoc, ◌∙◌}
 use Rattle.etagere_links.specs.Chains.{Leads}
-use Rattle.shelf_records.specs.Chains.{IsChainIn, IsPileIn}
+use Rattle.shelf_records.specs.Chains.{IsChainIn, IsListIn}
 use Rattle.etagere_links.specs.Edits.{changed_by, link_at}
 use Rattle.shelf_records.specs.ListEdits.{unlinked, first_without, linked_between, made_unused}
 use Rattle.shelf_records.specs.Families.{Family, IsFamily}
@@ -112,13 +112,13 @@ linked_between-spells {T} family laws records first front back at here fresh onc
           chain.backward;
     }
 
--- the records after one was put onto a pile spell the pile with it on top
-pub made_unused-spells : {T : Type 0} (family : Family T) → IsFamily family → (records : List T) (top : Option ℕ) (xs : List ℕ) (at : ℕ) → at < length records → times at xs ≡ 0 → IsPileIn family records top xs → IsPileIn family (made_unused family top at records) (Some at) (at ∷ xs)
-made_unused-spells family laws records top xs at here fresh pile =
+-- the records after one was put in front of a list spell the list with it in front
+pub made_unused-spells : {T : Type 0} (family : Family T) → IsFamily family → (records : List T) (top : Option ℕ) (xs : List ℕ) (at : ℕ) → at < length records → times at xs ≡ 0 → IsListIn family records top xs → IsListIn family (made_unused family top at records) (Some at) (at ∷ xs)
+made_unused-spells family laws records top xs at here fresh list =
     let top_ : link_at family.next (made_unused family top at records) at ≡ top = next-changed family laws records (Some at) top at refl here in
     let rest : Leads (link_at family.next (made_unused family top at records)) top xs None =
     Leads-frame (link_at family.next records) (link_at family.next (made_unused family top at records)) xs top None
-    (λ k stands. link_at-other family.next (family.with_next top) records (Some at) k (stranger at k xs fresh stands)) pile in
+    (λ k stands. link_at-other family.next (family.with_next top) records (Some at) k (stranger at k xs fresh stands)) list in
     (refl, rw top_ rest)
 
 -- the records after one was put in front of a list spell the list with it in front

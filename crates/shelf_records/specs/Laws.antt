@@ -1,7 +1,7 @@
 -- Laws of edits: what an edit of links does to the list that they spell.
 use Rattle.std.specs.Prelude.{◌≡◌, ℕ, ◌<◌, ◌≤◌, Option, None, Some, option_and_then, List, [], ◌∷◌, ◌++◌, length}
 use Rattle.etagere_base.specs.Lists.{times}
-use Rattle.shelf_records.specs.Chains.{IsChainIn, IsPileIn}
+use Rattle.shelf_records.specs.Chains.{IsChainIn, IsListIn}
 use Rattle.etagere_links.specs.Edits.{link_at}
 use Rattle.shelf_records.specs.ListEdits.{first_without, linked_between, made_unused, unlinked}
 use Rattle.shelf_records.specs.Families.{Family}
@@ -51,22 +51,22 @@ PutsAfter {T} family =
 abbrev pub MakesUnused : {T : Type 0} → Family T → Type 0
 MakesUnused {T} family =
     (records : List T) (top : Option ℕ) (numbers : List ℕ) (number : ℕ)
-    → IsPileIn family records top numbers → IsOutside records numbers number
-    → IsPileIn family (made_unused family top number records) (Some number) (number ∷ numbers)
+    → IsListIn family records top numbers → IsOutside records numbers number
+    → IsListIn family (made_unused family top number records) (Some number) (number ∷ numbers)
 
 -- the record that is taken off what became unused is the one that lies on top, and the others are left
 abbrev pub TakesOffTop : {T : Type 0} → Family T → Type 0
 TakesOffTop {T} family =
     (records : List T) (top : Option ℕ) (number : ℕ) (numbers : List ℕ)
-    → IsPileIn family records top (number ∷ numbers)
+    → IsListIn family records top (number ∷ numbers)
     → (top ≡ Some number)
-    × IsPileIn family records (option_and_then (link_at family.next records) top) numbers
+    × IsListIn family records (option_and_then (link_at family.next records) top) numbers
 
 -- nothing is taken where nothing was unused
 abbrev pub TakesNone : {T : Type 0} → Family T → Type 0
 TakesNone {T} family =
     (records : List T) (top : Option ℕ)
-    → IsPileIn family records top []
+    → IsListIn family records top []
     → (top ≡ None) × (option_and_then (link_at family.next records) top ≡ None)
 
 -- each edit of links changes the list as a list

@@ -4,7 +4,7 @@ use Rattle.std.specs.List.{AllByRecursion}
 use Rattle.etagere_base.specs.Lists.{times}
 use Rattle.shelf_records.specs.declared.records.LinkedItem.{LinkedItem}
 use Rattle.shelf_records.specs.declared.records.LinkedShelf.{LinkedShelf}
-use Rattle.shelf_records.specs.Chains.{IsChainIn, IsPileIn}
+use Rattle.shelf_records.specs.Chains.{IsChainIn, IsListIn}
 use Rattle.shelf_records.specs.Records.{item_chain, free_list, shelf_chain}
 use Rattle.etagere_links.specs.Walks.{Walked, walk_by}
 use Rattle.etagere_links.specs.Edits.{field_at}
@@ -103,8 +103,8 @@ pub record IsLinkedExcept (records : Records) (lists : Lists) (loose_items loose
   pub shelves : IsChainIn shelf_chain records.shelves records.first_shelf
       (shelf_numbers lists.entries)
   pub entries : AllByRecursion (IsEntry records) lists.entries
-  pub unused_items : IsPileIn item_chain records.items records.unused_items lists.unused_items
-  pub unused_shelves : IsPileIn shelf_chain records.shelves records.unused_shelves
+  pub unused_items : IsListIn item_chain records.items records.unused_items lists.unused_items
+  pub unused_shelves : IsListIn shelf_chain records.shelves records.unused_shelves
       lists.unused_shelves
   pub shelves_once : HasEachOnce (length records.shelves)
       (shelf_numbers lists.entries ++ lists.unused_shelves ++ loose_shelves)

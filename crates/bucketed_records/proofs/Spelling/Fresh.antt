@@ -23,7 +23,7 @@ fresh-witnessed frame is_frame = record {
   spells = record {
     shelves = refl;
     buckets = tt;
-    pool = record { pile = refl; once = λ k. grind arith; count = refl; few = omega arith; idle = tt };
+    has_unused = record { list = refl; once = λ k. grind arith; count = refl; few = omega arith; idle = tt };
   };
   valid = fresh-valid frame is_frame;
 }

@@ -8,7 +8,7 @@ use Rattle.etagere_base.proofs.EachLemmas.{Each-weaken}
 use Rattle.etagere_base.proofs.TimesLemmas.{times-append}
 use Rattle.etagere_base.specs.declared.frames.Frame.{Frame}
 use Rattle.etagere_base.specs.Frames.{alignment_along}
-use Rattle.etagere_links.specs.Chains.{IsPile}
+use Rattle.etagere_links.specs.Chains.{IsList}
 use Rattle.etagere_links.specs.Links.{no_link}
 use Rattle.etagere_links.specs.Walks.{Walked}
 use Rattle.etagere_links.proofs.WalkedLists.{IsPart, part-of, walk_by-spelled}
@@ -17,15 +17,15 @@ use Rattle.bucketed_model.specs.Valid.{AreShelves, IsBucket, IsShelf}
 use Rattle.bucketed_model.proofs.Shelving.Shelves.{numbers_of}
 use Rattle.bucketed_records.specs.declared.records.LinkedBucket.{LinkedBucket}
 use Rattle.bucketed_records.specs.BucketRecords.{bucket_at, bucket_walk, next_of, spelled_bucket, spelled_shelf, spelled_state}
-use Rattle.bucketed_records.specs.Private.Store.{AreBucketsSpelled, AreShelvesSpelled, IsPool, Spells, Stored, first_link, kept_shelf, kept_shelves, record_of, shelf_record, stored_state}
+use Rattle.bucketed_records.specs.Private.Store.{AreBucketsSpelled, AreShelvesSpelled, HasUnused, Spells, Stored, first_link, kept_shelf, kept_shelves, record_of, shelf_record, stored_state}
 use Rattle.bucketed_records.specs.declared.records.KeptShelf.{KeptShelf}
 
 -- following links from the first of some buckets meets their numbers
-pub spelled-pile : (records : List LinkedBucket) (number width : ℕ) (bs : List Bucket) → AreBucketsSpelled records number width bs → IsPile (next_of records) (first_link bs) (numbers_of bs)
-spelled-pile records number width [] h = refl
-spelled-pile records number width (b ∷ bs) h =
+pub spelled-list : (records : List LinkedBucket) (number width : ℕ) (bs : List Bucket) → AreBucketsSpelled records number width bs → IsList (next_of records) (first_link bs) (numbers_of bs)
+spelled-list records number width [] h = refl
+spelled-list records number width (b ∷ bs) h =
     let link : next_of records b.tag.number ≡ first_link bs = ap (λ (r : Option LinkedBucket). option_and_then (λ (bucket : LinkedBucket). bucket.next) r) h.0 in
-    (refl, rw link (spelled-pile records number width bs h.1))
+    (refl, rw link (spelled-list records number width bs h.1))
 
 -- the bucket of a number is the one that its record spells
 bucket-read : (records : List LinkedBucket) (number width : ℕ) (next : Option ℕ) (b : Bucket) → b.used ≤ width
@@ -48,7 +48,7 @@ buckets-read records number width (b ∷ bs) fits h =
 pub walk-read : (records : List LinkedBucket) (number width : ℕ) (bs : List Bucket) → length records ≤ no_link → IsPart (length records) (numbers_of bs)
     → AreBucketsSpelled records number width bs → bucket_walk records (first_link bs) ≡ record { met = numbers_of bs; end = no_link }
 walk-read records number width bs few part h =
-    walk_by-spelled (λ (bucket : LinkedBucket). bucket.next) records (first_link bs) (numbers_of bs) few part.once part.within (spelled-pile records number width bs h)
+    walk_by-spelled (λ (bucket : LinkedBucket). bucket.next) records (first_link bs) (numbers_of bs) few part.once part.within (spelled-list records number width bs h)
 
 -- the shelf that a record spells
 pub shelf-read : (frame : Frame) (records : List LinkedBucket) (number : ℕ) (before : List BucketShelf) (s : BucketShelf) → 1 ≤ frame.column_width → length records ≤ no_link
@@ -80,14 +80,14 @@ shelves-read frame records number before (s ∷ ss) wide few part each h =
     ∙ ap (λ (ts : List BucketShelf). s ∷ ts) (shelves-read frame records (suc number) (before ++ s ∷ []) ss wide few others each.1 h.1)
 
 -- the numbers in use are part of all
-pub used-part : (records : List LinkedBucket) (first : Option ℕ) (used unused : List ℕ) → IsPool records first used unused → IsPart (length records) used
-used-part records first used unused pool = part-of (length records) (used ++ unused) used pool.once (λ k. omega (arith, times-append k used unused))
+pub used-part : (records : List LinkedBucket) (first : Option ℕ) (used unused : List ℕ) → HasUnused records first used unused → IsPart (length records) used
+used-part records first used unused has_unused = part-of (length records) (used ++ unused) used has_unused.once (λ k. omega (arith, times-append k used unused))
 
 -- the state that is read back
 pub state-read : (frame : Frame) (stored : Stored) (unused : List ℕ) (ss : List BucketShelf) → 1 ≤ frame.column_width → AreShelves frame ss
     → Spells frame stored unused ss → stored_state frame stored ≡ record { frame = frame; shelves = ss }
 state-read frame stored unused ss wide valid spells =
-    let few : length stored.buckets ≤ no_link = omega (arith, spells.pool.few) in
+    let few : length stored.buckets ≤ no_link = omega (arith, spells.has_unused.few) in
     ap (λ (kept : List KeptShelf). spelled_state frame (map shelf_record kept) stored.buckets) spells.shelves
     ∙ ap (λ (xs : List BucketShelf). let state : BucketedState = record { frame = frame; shelves = xs } in state)
-    (shelves-read frame stored.buckets 0 [] ss wide few (used-part stored.buckets stored.unused (bucket_numbers ss) unused spells.pool) valid.each spells.buckets)
+    (shelves-read frame stored.buckets 0 [] ss wide few (used-part stored.buckets stored.unused (bucket_numbers ss) unused spells.has_unused) valid.each spells.buckets)

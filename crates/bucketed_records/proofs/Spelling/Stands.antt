@@ -196,12 +196,12 @@ witnessed-stands state stored unused column height in_use space witnessed totals
     let ss = state.shelves in
     let spells = witnessed.spells in
     let wide = valid.frame.column_width in
-    let few : length stored.buckets ≤ no_link = omega (arith, spells.pool.few) in
-    let part = used-part stored.buckets stored.unused (bucket_numbers ss) unused spells.pool in
+    let few : length stored.buckets ≤ no_link = omega (arith, spells.has_unused.few) in
+    let part = used-part stored.buckets stored.unused (bucket_numbers ss) unused spells.has_unused in
     let idle_part : IsPart (length stored.buckets) unused =
-    part-of (length stored.buckets) (bucket_numbers ss ++ unused) unused spells.pool.once (λ k. omega (arith, times-append k (bucket_numbers ss) unused)) in
+    part-of (length stored.buckets) (bucket_numbers ss ++ unused) unused spells.has_unused.once (λ k. omega (arith, times-append k (bucket_numbers ss) unused)) in
     let walked : bucket_walk stored.buckets stored.unused ≡ record { met = unused; end = no_link } =
-    walk_by-spelled (λ (bucket : LinkedBucket). bucket.next) stored.buckets stored.unused unused few idle_part.once idle_part.within spells.pool.pile in
+    walk_by-spelled (λ (bucket : LinkedBucket). bucket.next) stored.buckets stored.unused unused few idle_part.once idle_part.within spells.has_unused.list in
     let kept : map shelf_record (kept_shelves frame [] ss) ≡ map shelf_record stored.shelves = ap (map shelf_record) (sym spells.shelves) in
     let each : (P : LinkedBucketShelf → Type 0) → AllByRecursion P (map shelf_record (kept_shelves frame [] ss)) → AllByRecursion P (map shelf_record stored.shelves) =
     λ P ps. subst (AllByRecursion P) kept ps in
@@ -215,7 +215,7 @@ witnessed-stands state stored unused column height in_use space witnessed totals
         | faults.Frame ↦ valid.frame
         | faults.Counts ↦ record {
           shelves = omega (arith, length-map stored.shelves shelf_record, ap (λ (ks : List KeptShelf). length ks) spells.shelves, length-kept frame [] ss, few-shelves frame ss wide valid.shelves.each, valid.shelves.few);
-          buckets = spells.pool.few;
+          buckets = spells.has_unused.few;
         }
         | faults.Link ↦ record {
           shelves = subst (AreLinked stored.buckets 0) kept (linked frame stored.buckets 0 [] ss few part spells.buckets);
@@ -237,11 +237,11 @@ witnessed-stands state stored unused column height in_use space witnessed totals
         | faults.FreeList ↦ tt
         | faults.Sharing ↦ record {
           once = subst (λ (ns : List ℕ). HasEachOnce (length stored.buckets) (ns ++ (bucket_walk stored.buckets stored.unused).met)) (sym met.0 ∙ ap (walked_numbers stored.buckets) kept)
-              (subst (λ (w : Walked). HasEachOnce (length stored.buckets) (bucket_numbers ss ++ w.met)) (sym walked) spells.pool.once);
+              (subst (λ (w : Walked). HasEachOnce (length stored.buckets) (bucket_numbers ss ++ w.met)) (sym walked) spells.has_unused.once);
           ends = each _ met.1;
           unused_end = ap (λ (w : Walked). w.end) walked;
         }
-        | faults.Unused ↦ subst (λ (w : Walked). AllByRecursion (λ (n : ℕ). live_of stored.buckets n ≡ 0) w.met) (sym walked) spells.pool.idle
+        | faults.Unused ↦ subst (λ (w : Walked). AllByRecursion (λ (n : ℕ). live_of stored.buckets n ≡ 0) w.met) (sym walked) spells.has_unused.idle
         | faults.Space ↦ ap (λ (n : ℕ). pos n) totals.space ∙ ap (λ (s : BucketedState). pos (allocated_space s)) (sym read) ∙ sym (area-used records (map shelf_record stored.shelves) has)
         | faults.Memory ↦ tt
       ];

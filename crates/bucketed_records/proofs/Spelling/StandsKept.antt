@@ -14,7 +14,7 @@ use Rattle.etagere_base.specs.Lists.{times}
 use Rattle.etagere_links.proofs.WalkedLists.{IsPart, part-of, walk_by-leads}
 use Rattle.etagere_links.proofs.ListEnds.{times-here}
 use Rattle.etagere_links.proofs.Tallies.{length-each}
-use Rattle.etagere_links.specs.Chains.{IsPile}
+use Rattle.etagere_links.specs.Chains.{IsList}
 use Rattle.etagere_links.specs.Links.{no_link}
 use Rattle.etagere_links.specs.Lists.{HasEachOnce}
 use Rattle.bucketed_model.specs.Frames.{IsBucketedFrame}
@@ -26,7 +26,7 @@ use Rattle.bucketed_records.specs.declared.records.LinkedBucket.{LinkedBucket}
 use Rattle.bucketed_records.specs.declared.records.LinkedBucketShelf.{LinkedBucketShelf}
 use Rattle.bucketed_records.specs.BucketRecords.{BucketRecords, bucket_at, bucket_walk, next_of, spelled_bucket, spelled_shelf, spelled_state, state_of}
 use Rattle.bucketed_records.specs.Private.Restored.{LinkFits, LinksFit, stored_from}
-use Rattle.bucketed_records.specs.Private.Store.{AreBucketsSpelled, AreShelvesSpelled, IsPool, first_link, record_of}
+use Rattle.bucketed_records.specs.Private.Store.{AreBucketsSpelled, AreShelvesSpelled, HasUnused, first_link, record_of}
 use Rattle.bucketed_records.specs.Private.Witnessed.{Witnessed}
 use Rattle.bucketed_records.specs.StandsFor.{AreBuckets, AreLinked, HasBuckets, HasGenerations, IsFilled, StandDown, StandsFor, free_of, generation_of, place_of, shelf_of, walked_numbers, HasCounts, HasLinks, HasShelves, IsShared}
 use Rattle.bucketed_records.proofs.Spelling.UsedAreas.{frees-filled}
@@ -57,10 +57,10 @@ all-numbers frame buckets (shelf ∷ shelves) =
     ∙ ap (λ (ns : List ℕ). (bucket_walk buckets shelf.first_bucket).met ++ ns) (all-numbers frame buckets shelves)
 
 -- the first bucket that links spell
-pub first-spelled : (buckets : List LinkedBucket) (width : ℕ) (link : Option ℕ) (ns : List ℕ) → IsPile (next_of buckets) link ns
+pub first-spelled : (buckets : List LinkedBucket) (width : ℕ) (link : Option ℕ) (ns : List ℕ) → IsList (next_of buckets) link ns
     → first_link (map (bucket_at buckets width) ns) ≡ link
-first-spelled buckets width link [] pile = sym pile
-first-spelled buckets width link (n ∷ ns) pile = ap (λ (m : ℕ). Some m) (bucket_at-number buckets width n) ∙ sym pile.0
+first-spelled buckets width link [] list = sym list
+first-spelled buckets width link (n ∷ ns) list = ap (λ (m : ℕ). Some m) (bucket_at-number buckets width n) ∙ sym list.0
 
 -- a record is that of the bucket that it spells
 record-kept : (buckets : List LinkedBucket) (number width n : ℕ) (next : Option ℕ) → n < length buckets → shelf_of buckets n ≡ number → free_of buckets n ≤ width
@@ -86,14 +86,14 @@ record-kept buckets number width n next within owner fits link =
 
 -- records spell the buckets that links lead to
 buckets-spelled : (buckets : List LinkedBucket) (number width : ℕ) (link : Option ℕ) (ns : List ℕ) → AllByRecursion (λ (n : ℕ). n < length buckets) ns
-    → AllByRecursion (λ (n : ℕ). shelf_of buckets n ≡ number) ns → AllByRecursion (λ (n : ℕ). free_of buckets n ≤ width) ns → IsPile (next_of buckets) link ns
+    → AllByRecursion (λ (n : ℕ). shelf_of buckets n ≡ number) ns → AllByRecursion (λ (n : ℕ). free_of buckets n ≤ width) ns → IsList (next_of buckets) link ns
     → AreBucketsSpelled buckets number width (map (bucket_at buckets width) ns)
-buckets-spelled buckets number width link [] within owners frees pile = tt
-buckets-spelled buckets number width link (n ∷ ns) within owners frees pile =
-    let next : next_of buckets n ≡ first_link (map (bucket_at buckets width) ns) = sym (first-spelled buckets width (next_of buckets n) ns pile.1) in (
+buckets-spelled buckets number width link [] within owners frees list = tt
+buckets-spelled buckets number width link (n ∷ ns) within owners frees list =
+    let next : next_of buckets n ≡ first_link (map (bucket_at buckets width) ns) = sym (first-spelled buckets width (next_of buckets n) ns list.1) in (
       ap (slice_get buckets) (bucket_at-number buckets width n)
           ∙ record-kept buckets number width n (first_link (map (bucket_at buckets width) ns)) within.0 owners.0 frees.0 next,
-      buckets-spelled buckets number width (next_of buckets n) ns within.1 owners.1 frees.1 pile.1,
+      buckets-spelled buckets number width (next_of buckets n) ns within.1 owners.1 frees.1 list.1,
     )
 
 -- each number of a part is below the count
@@ -249,10 +249,10 @@ module _ (atlas : BucketRecords) (fit : LinksFit atlas) (stands : StandsFor atla
   all-count = sym (length-append (bucket_numbers spelled) unused) ∙ once-length (length atlas.buckets) (bucket_numbers spelled ++ unused) once
 
   -- they are buckets of shelves that are spelled
-  pool : IsPool atlas.buckets atlas.unused (bucket_numbers spelled) unused
-  pool =
+  has_unused : HasUnused atlas.buckets atlas.unused (bucket_numbers spelled) unused
+  has_unused =
       record {
-        pile = walk_by-leads (λ (bucket : LinkedBucket). bucket.next) atlas.buckets atlas.unused (λ k stands. fit.next k) fit.unused few sharing.unused_end;
+        list = walk_by-leads (λ (bucket : LinkedBucket). bucket.next) atlas.buckets atlas.unused (λ k stands. fit.next k) fit.unused few sharing.unused_end;
         once = once;
         count = sym all-count;
         few = counts.buckets;
@@ -284,7 +284,7 @@ module _ (atlas : BucketRecords) (fit : LinksFit atlas) (stands : StandsFor atla
         spells = record {
           shelves = refl;
           buckets = shelves-spelled atlas 0 atlas.shelves few fit.next fit.first links.shelves (stands.keeps faults.Runs) sharing.ends within;
-          pool = pool;
+          has_unused = has_unused;
         };
         valid = valid;
       }

@@ -3,7 +3,7 @@
 use Rattle.std.specs.Prelude.{◌≡◌, ℕ, suc, ◌+◌, ◌-◌, ◌≤◌, max, Option, None, Some, List, [], ◌∷◌, ◌++◌, length, map, slice_get, nat_lt, if◌then◌else◌, Bool, ◌==◌}
 use Rattle.std.specs.List.{AllByRecursion}
 use Rattle.etagere_base.specs.declared.frames.Frame.{Frame}
-use Rattle.etagere_links.specs.Chains.{IsPile}
+use Rattle.etagere_links.specs.Chains.{IsList}
 use Rattle.etagere_links.specs.Lists.{HasEachOnce}
 use Rattle.bucketed_model.specs.State.{Bucket, BucketShelf, BucketedState, bucket_numbers, column_height, column_place, most_buckets, most_given}
 use Rattle.bucketed_records.specs.declared.records.LinkedBucket.{LinkedBucket}
@@ -98,9 +98,9 @@ AreShelvesSpelled records number (shelf ∷ shelves) =
 
 -- the records in use have these numbers; the others are the unused ones, in the order of their
 -- links, and hold nothing live
-pub record IsPool (records : List LinkedBucket) (first : Option ℕ) (used unused : List ℕ)
+pub record HasUnused (records : List LinkedBucket) (first : Option ℕ) (used unused : List ℕ)
     : Type 0 where
-  pub pile : IsPile (next_of records) first unused
+  pub list : IsList (next_of records) first unused
   pub once : HasEachOnce (length records) (used ++ unused)
   pub count : length records ≡ length used + length unused
   pub few : length records ≤ most_buckets
@@ -111,7 +111,7 @@ pub record Spells (frame : Frame) (stored : Stored) (unused : List ℕ) (spelled
     : Type 0 where
   pub shelves : stored.shelves ≡ kept_shelves frame [] spelled
   pub buckets : AreShelvesSpelled stored.buckets 0 spelled
-  pub pool : IsPool stored.buckets stored.unused (bucket_numbers spelled) unused
+  pub has_unused : HasUnused stored.buckets stored.unused (bucket_numbers spelled) unused
 
 -- a shelf holds nothing live
 abbrev pub is_kept_idle : KeptShelf → Bool

@@ -20,7 +20,7 @@ use Rattle.bucketed_model.proofs.Validity.EmptiedValid.{return-keeps}
 use Rattle.bucketed_model.proofs.Validity.Spots.{each-numbered, others-buckets, others-shelves, spot-alone}
 use Rattle.bucketed_records.specs.declared.records.LinkedBucket.{LinkedBucket}
 use Rattle.bucketed_records.specs.BucketRecords.{next_of}
-use Rattle.bucketed_records.specs.Private.Store.{AreShelvesSpelled, IsPool, Spells, Stored, first_link, kept_shelf, kept_shelves, live_items, record_of, widest_room}
+use Rattle.bucketed_records.specs.Private.Store.{AreShelvesSpelled, HasUnused, Spells, Stored, first_link, kept_shelf, kept_shelves, live_items, record_of, widest_room}
 use Rattle.bucketed_records.specs.declared.records.KeptShelf.{KeptShelf}
 use Rattle.bucketed_records.specs.StandsFor.{live_of, shelf_of}
 use Rattle.bucketed_records.proofs.Spelling.KeptShelves.{kept-append, kept-heights, length-kept}
@@ -53,19 +53,19 @@ less-returned : (width : ℕ) (r : LinkedBucket) → (returned_record width r).r
 less-returned width r = cond_both (nat_le r.refcount 1) (emptied_record width r) (lessened_record r) (λ (s : LinkedBucket). s.refcount ≤ r.refcount) (λ _. omega arith) (λ _. omega arith)
 
 -- the records in use and the unused ones after a return
-pool-returned : (records : List LinkedBucket) (top : Option ℕ) (used unused : List ℕ) (width n : ℕ) → IsPool records top used unused
-    → IsPool (changed_by (Some n) (returned_record width) records) top used unused
-pool-returned records top used unused width n pool =
+has_unused-returned : (records : List LinkedBucket) (top : Option ℕ) (used unused : List ℕ) (width n : ℕ) → HasUnused records top used unused
+    → HasUnused (changed_by (Some n) (returned_record width) records) top used unused
+has_unused-returned records top used unused width n has_unused =
     let edit = returned_record width in
     let new = changed_by (Some n) edit records in
     let long : length new ≡ length records = length-changed_by edit records (Some n) in
     record {
-      pile = Leads-frame (next_of records) (next_of new) unused top None
-          (λ k stands. link_at-same (λ (r : LinkedBucket). r.next) records new k (map-changed_by (λ (r : LinkedBucket). r.next) edit records (Some n) (next-returned width))) pool.pile;
-      once = rw long pool.once;
-      count = long ∙ pool.count;
-      few = rw long pool.few;
-      idle = Each-weaken (λ (k : ℕ). live_of records k ≡ 0) (λ (k : ℕ). live_of new k ≡ 0) unused (λ k h. omega (arith, h, live-le edit (less-returned width) records n k)) pool.idle;
+      list = Leads-frame (next_of records) (next_of new) unused top None
+          (λ k stands. link_at-same (λ (r : LinkedBucket). r.next) records new k (map-changed_by (λ (r : LinkedBucket). r.next) edit records (Some n) (next-returned width))) has_unused.list;
+      once = rw long has_unused.once;
+      count = long ∙ has_unused.count;
+      few = rw long has_unused.few;
+      idle = Each-weaken (λ (k : ℕ). live_of records k ≡ 0) (λ (k : ℕ). live_of new k ≡ 0) unused (λ k h. omega (arith, h, live-le edit (less-returned width) records n k)) has_unused.idle;
     }
 
 -- a return takes one live item
@@ -146,6 +146,6 @@ item-spells frame stored unused xs number has once some spells =
           ∙ sym (ap (kept_shelves frame []) changed ∙ kept-append frame [] has.front (x' ∷ has.back));
       buckets = subst (λ (w : ℕ). AreShelvesSpelled (changed_by (Some n) (returned_record w) records) 0 (changed_bucket n returned_bucket xs)) (sym wide)
           (shelves-changed-spelled records 0 n (returned_record x.bucket_width) returned_bucket return-keeps xs each spells.buckets);
-      pool = rw (bucket_numbers-changed n returned_bucket return-keeps xs) (pool-returned records stored.unused (bucket_numbers xs) unused width n spells.pool);
+      has_unused = rw (bucket_numbers-changed n returned_bucket return-keeps xs) (has_unused-returned records stored.unused (bucket_numbers xs) unused width n spells.has_unused);
     } in
     subst (λ (m : ℕ). Spells frame (item_returned m stored) unused (changed_bucket m returned_bucket xs)) has.same after

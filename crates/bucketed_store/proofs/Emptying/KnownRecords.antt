@@ -15,7 +15,7 @@ use Rattle.bucketed_model.proofs.Shelving.Shelves.{numbers_of}
 use Rattle.bucketed_model.proofs.Validity.Changed.{EachBucket}
 use Rattle.bucketed_model.proofs.Validity.Spots.{IsOther, others-buckets, others-shelves, spot-alone}
 use Rattle.bucketed_records.specs.declared.records.LinkedBucket.{LinkedBucket}
-use Rattle.bucketed_records.specs.Private.Store.{AreShelvesSpelled, IsPool, first_link, record_of}
+use Rattle.bucketed_records.specs.Private.Store.{AreShelvesSpelled, HasUnused, first_link, record_of}
 use Rattle.bucketed_records.specs.StandsFor.{live_of}
 use Rattle.bucketed_store.specs.Private.Returns.{gives_item, is_known_in}
 use Rattle.bucketed_store.proofs.Emptying.SpelledSpots.{HasBucket, has-bucket, is-spot, record-at, spot_at}
@@ -65,17 +65,17 @@ once-there : (k count n : ℕ) → k < count → n ≡ cond (nat_lt k count) 1 0
 once-there k count n within once = grind arith
 
 -- a record of none of the shelves' buckets is no known one
-pub unused-knows : (records : List LinkedBucket) (top : Option ℕ) (used unused : List ℕ) (id : ℕ) → IsPool records top used unused
+pub unused-knows : (records : List LinkedBucket) (top : Option ℕ) (used unused : List ℕ) (id : ℕ) → HasUnused records top used unused
     → times (tag_of id).number used ≡ 0 → is_known_in records id ≡ false
-unused-knows records top used unused id pool none = by_record (slice_get records (tag_of id).number) refl
+unused-knows records top used unused id has_unused none = by_record (slice_get records (tag_of id).number) refl
   where
     by_record : (r : Option LinkedBucket) → slice_get records (tag_of id).number ≡ r → option_map_or (gives_item id) r false ≡ false
     by_record None e = refl
     by_record (Some r) e =
         let k = (tag_of id).number in
         let within : k < length records = slice_get_within records k r e in
-        let stands = once-there k (length records) (times k (used ++ unused)) within (pool.once k) in
-        let idle = each-times (λ (n : ℕ). live_of records n ≡ 0) unused k pool.idle (omega (arith, stands, none, times-append k used unused)) in
+        let stands = once-there k (length records) (times k (used ++ unused)) within (has_unused.once k) in
+        let idle = each-times (λ (n : ℕ). live_of records n ≡ 0) unused k has_unused.idle (omega (arith, stands, none, times-append k used unused)) in
         let count : live_of records k ≡ r.refcount = ap (λ (o : Option LinkedBucket). option_map_or (λ (s : LinkedBucket). s.refcount) o 0) e in
         idle-gives id r (omega (arith, count, idle))
 
@@ -98,13 +98,13 @@ any-middle test front x back none_front none_back =
 
 -- an id is known where its record has given its item
 pub known-records : (records : List LinkedBucket) (top : Option ℕ) (unused : List ℕ) (xs : List BucketShelf) (id : ℕ) → AreShelvesSpelled records 0 xs
-    → IsPool records top (bucket_numbers xs) unused → ((n : ℕ) → times n (bucket_numbers xs) ≤ 1)
+    → HasUnused records top (bucket_numbers xs) unused → ((n : ℕ) → times n (bucket_numbers xs) ≤ 1)
     → is_known_in records id ≡ list_any (gives_in id) xs
-known-records records top unused xs id spelled pool once = by_count (times (tag_of id).number (bucket_numbers xs)) refl
+known-records records top unused xs id spelled has_unused once = by_count (times (tag_of id).number (bucket_numbers xs)) refl
   where
     by_count : (n : ℕ) → times (tag_of id).number (bucket_numbers xs) ≡ n → is_known_in records id ≡ list_any (gives_in id) xs
     by_count zero e =
-        unused-knows records top (bucket_numbers xs) unused id pool e ∙ sym (others-know id xs (others-shelves (tag_of id).number xs e))
+        unused-knows records top (bucket_numbers xs) unused id has_unused e ∙ sym (others-know id xs (others-shelves (tag_of id).number xs e))
     by_count (suc n) e =
         let k = (tag_of id).number in
         let has : HasBucket k xs = has-bucket k xs (omega (arith, e)) in

@@ -46,7 +46,7 @@ giver-of stored unused state id witnessed known = by_count (times (tag_of id).nu
   where
     by_count : (n : ℕ) → times (tag_of id).number (bucket_numbers state.shelves) ≡ n → IsGiver id state.shelves
     by_count zero e =
-        let unknown : is_known_in stored.buckets id ≡ false = unused-knows stored.buckets stored.unused (bucket_numbers state.shelves) unused id witnessed.spells.pool e in absurd (cc)
+        let unknown : is_known_in stored.buckets id ≡ false = unused-knows stored.buckets stored.unused (bucket_numbers state.shelves) unused id witnessed.spells.has_unused e in absurd (cc)
     by_count (suc n) e =
         let has : HasBucket (tag_of id).number state.shelves = has-bucket (tag_of id).number state.shelves (omega (arith, e)) in
         let at = record-at stored.buckets (tag_of id).number state.shelves has witnessed.spells.buckets in
@@ -57,7 +57,7 @@ giver-of stored unused state id witnessed known = by_count (times (tag_of id).nu
 -- the records say whether an id is known
 pub known-is : (stored : Stored) (unused : List ℕ) (state : BucketedState) (id : ℕ) → Witnessed stored unused state → is_known_in stored.buckets id ≡ is_known state id
 known-is stored unused state id witnessed =
-    known-records stored.buckets stored.unused unused state.shelves id witnessed.spells.buckets witnessed.spells.pool witnessed.valid.shelves.numbers
+    known-records stored.buckets stored.unused unused state.shelves id witnessed.spells.buckets witnessed.spells.has_unused witnessed.valid.shelves.numbers
 
 -- the records after a return
 abbrev pub stored_returned : ℕ → Stored → Dropping
@@ -141,7 +141,7 @@ returned-is stored unused state id witnessed known =
       shelf = slice_get_within stored.shelves (shelf_of records number) kept here;
       free = omega (arith, free, width);
       few_shelves = omega (arith, long, length-map xs (changed_in number returned_bucket), few-shelves state.frame xs valid.frame.column_width valid.shelves.each, valid.shelves.few);
-      few_buckets = spelled.pool.few;
+      few_buckets = spelled.has_unused.few;
       unused = all.unused;
       witnessed = record { spells = all.spells; valid = returned-valid state id valid };
       in_use = omega (arith, all.count, buckets_in_use-changed number returned_bucket xs);

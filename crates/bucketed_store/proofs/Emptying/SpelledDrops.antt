@@ -21,11 +21,11 @@ use Rattle.bucketed_model.specs.State.{Bucket, BucketShelf, bucket_numbers, is_i
 use Rattle.bucketed_model.proofs.Shelving.Shelves.{numbers_of}
 use Rattle.bucketed_records.specs.declared.records.LinkedBucket.{LinkedBucket}
 use Rattle.bucketed_records.specs.BucketRecords.{next_of}
-use Rattle.bucketed_records.specs.Private.Store.{last_kept, AreBucketsSpelled, IsPool, Spells, first_link, kept_shelf, kept_shelves}
+use Rattle.bucketed_records.specs.Private.Store.{last_kept, AreBucketsSpelled, HasUnused, Spells, first_link, kept_shelf, kept_shelves}
 use Rattle.bucketed_records.specs.declared.records.KeptShelf.{KeptShelf}
 use Rattle.bucketed_records.specs.StandsFor.{live_of}
 use Rattle.bucketed_records.proofs.Spelling.KeptShelves.{kept-append, last-kept}
-use Rattle.bucketed_records.proofs.Spelling.ReadBack.{spelled-pile}
+use Rattle.bucketed_records.proofs.Spelling.ReadBack.{spelled-list}
 use Rattle.bucketed_store.specs.Private.Returns.{Dropping, end_dropped, ends_idle, last_dropped, linked_to, row_unused, row_count, row_end, row_from}
 use Rattle.bucketed_store.specs.declared.dropping.RowEnd.{RowEnd}
 use Rattle.bucketed_store.proofs.Emptying.SpelledSpots.{shelf-spelled, shelves-frame, shelves-front-spelled}
@@ -59,53 +59,53 @@ idle-lives records shelf width (b ∷ bs) spelled idle =
     )
 
 -- the records after a list of idle buckets became unused: which stay, and which are unused
-pub record IsAside (records : List LinkedBucket) (top : Option ℕ) (front unused : List ℕ) (bs : List Bucket) : Type 0 where
+pub record IsRowUnused (records : List LinkedBucket) (top : Option ℕ) (front unused : List ℕ) (bs : List Bucket) : Type 0 where
   pub stays : (k : ℕ) → 1 ≤ times k front → slice_get (row_unused (first_link bs) top records) k ≡ slice_get records k
-  pub pool : IsPool (row_unused (first_link bs) top records) (or_else (first_link bs) top) front (numbers_of bs ++ unused)
+  pub has_unused : HasUnused (row_unused (first_link bs) top records) (or_else (first_link bs) top) front (numbers_of bs ++ unused)
   pub count : row_count records (first_link bs) ≡ length bs
 
 -- idle buckets are unused
 pub row-made_unused : (records : List LinkedBucket) (top : Option ℕ) (front unused : List ℕ) (shelf width : ℕ) (bs : List Bucket)
-    → AreBucketsSpelled records shelf width bs → list_all is_idle_bucket bs ≡ true → IsPool records top (front ++ numbers_of bs) unused
-    → IsAside records top front unused bs
-row-made_unused records top front unused shelf width [] spelled idle pool =
-    record { stays = λ k stands. refl; pool = subst (λ (ns : List ℕ). IsPool records top ns unused) (append-nil front) pool; count = refl }
-row-made_unused records top front unused shelf width (b ∷ bs) spelled idle pool =
+    → AreBucketsSpelled records shelf width bs → list_all is_idle_bucket bs ≡ true → HasUnused records top (front ++ numbers_of bs) unused
+    → IsRowUnused records top front unused bs
+row-made_unused records top front unused shelf width [] spelled idle has_unused =
+    record { stays = λ k stands. refl; has_unused = subst (λ (ns : List ℕ). HasUnused records top ns unused) (append-nil front) has_unused; count = refl }
+row-made_unused records top front unused shelf width (b ∷ bs) spelled idle has_unused =
     let n = b.tag.number in
     let ns = numbers_of bs in
     let end = last_of n ns in
     let all : (k : ℕ) → times k ((front ++ n ∷ ns) ++ unused) ≡ times k front + times k (n ∷ ns) + times k unused =
     λ k. omega (arith, times-append k (front ++ n ∷ ns) unused, times-append k front (n ∷ ns)) in
     let once : (k : ℕ) → times k front + times k (n ∷ ns) + times k unused ≤ 1 =
-    λ k. (once-part (length records) ((front ++ n ∷ ns) ++ unused) k (times k front + times k (n ∷ ns) + times k unused) pool.once (omega (arith, all k))).0 in
+    λ k. (once-part (length records) ((front ++ n ∷ ns) ++ unused) k (times k front + times k (n ∷ ns) + times k unused) has_unused.once (omega (arith, all k))).0 in
     let within : end < length records =
-    (once-part (length records) ((front ++ n ∷ ns) ++ unused) end (times end (n ∷ ns)) pool.once (omega (arith, all end))).1 (last_of-stands n ns) in
-    let leads : Leads (next_of records) (Some n) (n ∷ ns) None = spelled-pile records shelf width (b ∷ bs) spelled in
+    (once-part (length records) ((front ++ n ∷ ns) ++ unused) end (times end (n ∷ ns)) has_unused.once (omega (arith, all end))).1 (last_of-stands n ns) in
+    let leads : Leads (next_of records) (Some n) (n ∷ ns) None = spelled-list records shelf width (b ∷ bs) spelled in
     let long : length (front ++ n ∷ ns) ≡ length front + suc (length ns) = length-append front (n ∷ ns) in
     let row : row_end records n ≡ record { last = end; count = suc (length ns) } =
-    row-is records (length records) 1 n ns (Some n) (omega (arith, pool.count, long)) leads ∙ ap (λ (m : ℕ). record { last = end; count = m }) (omega arith) in
+    row-is records (length records) 1 n ns (Some n) (omega (arith, has_unused.count, long)) leads ∙ ap (λ (m : ℕ). record { last = end; count = m }) (omega arith) in
     let new = changed_by (Some end) (linked_to top) records in
     let same : changed_by (Some (row_end records n).last) (linked_to top) records ≡ new = ap (λ (e : RowEnd). changed_by (Some e.last) (linked_to top) records) row in
     let other : (k : ℕ) → end ≢ k → Some end ≢ Some k = λ k differs e. (let equal : end ≡ k = cc in differs equal) in
     let kept : (k : ℕ) → live_of new k ≡ live_of records k = λ k. field_at-kept (λ (r : LinkedBucket). r.refcount) 0 (linked_to top) records end k (λ r. refl) in
-    let pile = spliced (next_of records) (next_of new) n ns unused (Some n) top (λ k. omega (arith, once k))
+    let list = spliced (next_of records) (next_of new) n ns unused (Some n) top (λ k. omega (arith, once k))
     (λ k differs. link_at-other (λ (r : LinkedBucket). r.next) (linked_to top) records (Some end) k (other k differs))
     (link_at-changed (λ (r : LinkedBucket). r.next) (linked_to top) records (Some end) top end refl within (λ r. refl))
-    leads pool.pile in
-    let after : IsPool new (Some n) front ((n ∷ ns) ++ unused) = record {
-      pile = pile;
+    leads has_unused.list in
+    let after : HasUnused new (Some n) front ((n ∷ ns) ++ unused) = record {
+      list = list;
       once = λ k. rw (length-changed_by (linked_to top) records (Some end))
-          (omega (arith, all k, times-append k front ((n ∷ ns) ++ unused), times-append k (n ∷ ns) unused) ∙ pool.once k);
-      count = omega (arith, pool.count, long, length-append (n ∷ ns) unused, length-changed_by (linked_to top) records (Some end));
-      few = omega (arith, pool.few, length-changed_by (linked_to top) records (Some end));
+          (omega (arith, all k, times-append k front ((n ∷ ns) ++ unused), times-append k (n ∷ ns) unused) ∙ has_unused.once k);
+      count = omega (arith, has_unused.count, long, length-append (n ∷ ns) unused, length-changed_by (linked_to top) records (Some end));
+      few = omega (arith, has_unused.few, length-changed_by (linked_to top) records (Some end));
       idle = Each-append (λ (k : ℕ). live_of new k ≡ 0) (n ∷ ns) unused
           (Each-weaken (λ (k : ℕ). live_of records k ≡ 0) (λ (k : ℕ). live_of new k ≡ 0) (n ∷ ns) (λ k h. kept k ∙ h) (idle-lives records shelf width (b ∷ bs) spelled idle))
-          (Each-weaken (λ (k : ℕ). live_of records k ≡ 0) (λ (k : ℕ). live_of new k ≡ 0) unused (λ k h. kept k ∙ h) pool.idle);
+          (Each-weaken (λ (k : ℕ). live_of records k ≡ 0) (λ (k : ℕ). live_of new k ≡ 0) unused (λ k h. kept k ∙ h) has_unused.idle);
     } in
     record {
       stays = λ k stands. rw same (get-changed_by-other (linked_to top) records (Some end) k
           (other k (λ e. (let here : 1 ≤ times k (n ∷ ns) = subst (λ (j : ℕ). 1 ≤ times j (n ∷ ns)) e (last_of-stands n ns) in omega (arith, once k, stands, here)))));
-      pool = subst (λ (rs : List LinkedBucket). IsPool rs (Some n) front ((n ∷ ns) ++ unused)) (sym same) after;
+      has_unused = subst (λ (rs : List LinkedBucket). HasUnused rs (Some n) front ((n ∷ ns) ++ unused)) (sym same) after;
       count = ap (λ (e : RowEnd). e.count) row ∙ ap suc (length-map bs (λ (bucket : Bucket). bucket.tag.number));
     }
 
@@ -130,16 +130,16 @@ drops-last frame done unused xs x spells idle =
     let numbers : bucket_numbers (xs ++ x ∷ []) ≡ bucket_numbers xs ++ numbers_of x.buckets =
     numbers-append xs (x ∷ []) ∙ ap (λ (ns : List ℕ). bucket_numbers xs ++ ns) (append-nil (numbers_of x.buckets)) in
     let row = shelf-spelled records 0 xs x [] spells.buckets in
-    let aside = row-made_unused records done.stored.unused (bucket_numbers xs) unused (0 + length xs) x.bucket_width x.buckets row idle
-    (subst (λ (ns : List ℕ). IsPool records done.stored.unused ns unused) numbers spells.pool) in
+    let unused_row = row-made_unused records done.stored.unused (bucket_numbers xs) unused (0 + length xs) x.bucket_width x.buckets row idle
+    (subst (λ (ns : List ℕ). HasUnused records done.stored.unused ns unused) numbers spells.has_unused) in
     record {
       last = ap last_kept spells.shelves ∙ last-kept frame xs x;
       spells = record {
         shelves = ap (λ (ks : List KeptShelf). take (length ks - 1) ks) whole ∙ front-kept (kept_shelves frame [] xs) kept;
-        buckets = shelves-frame records (row_unused (first_link x.buckets) done.stored.unused records) 0 xs aside.stays (shelves-front-spelled records 0 xs (x ∷ []) spells.buckets);
-        pool = aside.pool;
+        buckets = shelves-frame records (row_unused (first_link x.buckets) done.stored.unused records) 0 xs unused_row.stays (shelves-front-spelled records 0 xs (x ∷ []) spells.buckets);
+        has_unused = unused_row.has_unused;
       };
-      count = ap (λ (n : ℕ). done.count + n) aside.count;
+      count = ap (λ (n : ℕ). done.count + n) unused_row.count;
     }
 
 -- a list goes on by a link

@@ -152,7 +152,7 @@ allocation-at state size sides destination stored valid p =
     subst (Spells frame (taken_from frame sides (placement_by destination) (found_seen spot) stored) p.ready.unused) (sym changed)
     (spells-taken frame after p.ready.unused shelves spot.number spot.bucket.tag.number sides.along spot.shelf records.at records.once
     (ready.valid.numbers spot.bucket.tag.number) ready.valid.few
-    (used-not_unused after.buckets after.unused (bucket_numbers shelves) p.ready.unused spot.bucket.tag.number p.ready.spells.pool stands) p.ready.spells) in
+    (used-not_unused after.buckets after.unused (bucket_numbers shelves) p.ready.unused spot.bucket.tag.number p.ready.spells.has_unused stands) p.ready.spells) in
     let read = witnessed-read frame (taken_from frame sides (placement_by destination) (found_seen spot) stored) p.ready.unused new.shelves is_valid spells in
     let fits = (spot-valid frame shelves spot ready.can.at ready.valid).1.used in
     record {

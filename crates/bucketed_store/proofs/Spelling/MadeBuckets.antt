@@ -18,7 +18,7 @@ use Rattle.bucketed_model.specs.State.{Bucket, BucketShelf, Tag, bucket_numbers,
 use Rattle.bucketed_model.proofs.Shelving.Shelves.{numbers_of}
 use Rattle.bucketed_records.specs.declared.records.LinkedBucket.{LinkedBucket}
 use Rattle.bucketed_records.specs.BucketRecords.{next_of}
-use Rattle.bucketed_records.specs.Private.Store.{AreBucketsSpelled, AreShelvesSpelled, IsPool, first_link, record_of}
+use Rattle.bucketed_records.specs.Private.Store.{AreBucketsSpelled, AreShelvesSpelled, HasUnused, first_link, record_of}
 use Rattle.bucketed_records.specs.StandsFor.{live_of}
 use Rattle.bucketed_store.specs.Private.StoreEdits.{Made, after_first, made_again, made_many, made_new, made_one, new_record}
 use Rattle.bucketed_store.specs.declared.making.NewBuckets.{NewBuckets}
@@ -48,14 +48,14 @@ pub record IsMade (new : NewBuckets) (made after : Made) (used : List ℕ) : Typ
   pub first : after.first ≡ Some number
   pub tag : IsTag (record { number = number; generation = generation })
   pub fresh : times number used ≡ 0
-  pub pool : IsPool after.buckets after.unused (number ∷ used) unused
+  pub has_unused : HasUnused after.buckets after.unused (number ∷ used) unused
   pub here : slice_get after.buckets number ≡ Some (new_record new made.first generation)
   pub stays : StaysBut (number ∷ []) made.buckets after.buckets
   pub grows : length after.buckets ≡ max (length made.buckets) (length used + 1)
 
 -- a number that is counted once in all, and stands among the unused, is not in use
-not-used : (records : List LinkedBucket) (first : Option ℕ) (used : List ℕ) (u : ℕ) (us : List ℕ) → IsPool records first used (u ∷ us) → (u < length records) × (times u used ≡ 0) × (times u us ≡ 0)
-not-used records first used u us pool = by_test (nat_lt u (length records)) refl (pool.once u)
+not-used : (records : List LinkedBucket) (first : Option ℕ) (used : List ℕ) (u : ℕ) (us : List ℕ) → HasUnused records first used (u ∷ us) → (u < length records) × (times u used ≡ 0) × (times u us ≡ 0)
+not-used records first used u us has_unused = by_test (nat_lt u (length records)) refl (has_unused.once u)
   where
     counts : times u (used ++ u ∷ us) ≡ times u used + suc (times u us)
     counts = omega (arith, times-append u used (u ∷ us), times-here u us)
@@ -78,30 +78,30 @@ once-more n k true e = grind arith
 once-more n k false e = grind arith
 
 -- a bucket in a new record
-made_new-is : (new : NewBuckets) (made : Made) (used : List ℕ) → IsPool made.buckets made.unused used [] → length used < most_buckets
+made_new-is : (new : NewBuckets) (made : Made) (used : List ℕ) → HasUnused made.buckets made.unused used [] → length used < most_buckets
     → IsMade new made (made_new new made) used
-made_new-is new made used pool few =
+made_new-is new made used has_unused few =
     let number = length made.buckets in
     let r = new_record new made.first 0 in
     let long : length (made.buckets ++ r ∷ []) ≡ suc number = omega (arith, length-append made.buckets (r ∷ [])) in
-    let none : times number used ≡ 0 = unstood (pool.once number) in
+    let none : times number used ≡ 0 = unstood (has_unused.once number) in
     record {
       number = number;
       generation = 0;
       unused = [];
       first = refl;
-      tag = record { number = omega (arith, pool.count); generation = omega arith };
+      tag = record { number = omega (arith, has_unused.count); generation = omega arith };
       fresh = none;
-      pool = record {
-        pile = pool.pile;
-        once = λ k. rw long (omega (arith, times-append k used [], times-append k (number ∷ used) [], pool.once k, once-more number k (number == k) refl));
-        count = omega (arith, long, pool.count);
-        few = omega (arith, long, pool.count);
+      has_unused = record {
+        list = has_unused.list;
+        once = λ k. rw long (omega (arith, times-append k used [], times-append k (number ∷ used) [], has_unused.once k, once-more number k (number == k) refl));
+        count = omega (arith, long, has_unused.count);
+        few = omega (arith, long, has_unused.count);
         idle = tt;
       };
       here = slice_get-append made.buckets r [] number refl;
       stays = λ k record_ other h. get-front made.buckets (r ∷ []) k record_ h;
-      grows = omega (arith, long, pool.count);
+      grows = omega (arith, long, has_unused.count);
     }
   where
     unstood : times (length made.buckets) (used ++ []) ≡ cond (nat_lt (length made.buckets) (length made.buckets)) 1 0 → times (length made.buckets) used ≡ 0
@@ -110,48 +110,48 @@ made_new-is new made used pool few =
         omega (arith, times-append (length made.buckets) used [], rw past at h)
 
 -- a bucket in an unused record
-made_again-is : (new : NewBuckets) (made : Made) (used : List ℕ) (u : ℕ) (us : List ℕ) (old : LinkedBucket) → IsPool made.buckets made.unused used (u ∷ us)
+made_again-is : (new : NewBuckets) (made : Made) (used : List ℕ) (u : ℕ) (us : List ℕ) (old : LinkedBucket) → HasUnused made.buckets made.unused used (u ∷ us)
     → slice_get made.buckets u ≡ Some old → IsMade new made (made_again new made u old) used
-made_again-is new made used u us old pool at =
+made_again-is new made used u us old has_unused at =
     let change : LinkedBucket → LinkedBucket = λ _. new_record new made.first ((old.generation + 1) % 256) in
     let records = changed_by (Some u) change made.buckets in
     let long : length records ≡ length made.buckets = length-changed_by change made.buckets (Some u) in
-    let parts = not-used made.buckets made.unused used u us pool in
+    let parts = not-used made.buckets made.unused used u us has_unused in
     let next : next_of made.buckets u ≡ old.next = ap (λ (r : Option LinkedBucket). option_and_then (λ (bucket : LinkedBucket). bucket.next) r) at in
     record {
       number = u;
       generation = (old.generation + 1) % 256;
       unused = us;
       first = refl;
-      tag = record { number = omega (arith, parts.0, pool.few); generation = mod-lt (old.generation + 1) (omega arith) };
+      tag = record { number = omega (arith, parts.0, has_unused.few); generation = mod-lt (old.generation + 1) (omega arith) };
       fresh = parts.1;
-      pool = record {
-        pile = Leads-frame (next_of made.buckets) (next_of records) us old.next None
+      has_unused = record {
+        list = Leads-frame (next_of made.buckets) (next_of records) us old.next None
             (λ k stands. link_at-other (λ (bucket : LinkedBucket). bucket.next) change made.buckets (Some u) k (λ e. let same : k ≡ u = cc in omega (arith, parts.2, ap (λ (n : ℕ). times n us) same, stands)))
-            (rw next at pool.pile.1);
-        once = λ k. rw long (omega (arith, times-append k used (u ∷ us), times-append k (u ∷ used) us, pool.once k));
-        count = omega (arith, long, pool.count);
-        few = omega (arith, long, pool.few);
-        idle = idle-kept change made.buckets u us parts.2 pool.idle.1;
+            (rw next at has_unused.list.1);
+        once = λ k. rw long (omega (arith, times-append k used (u ∷ us), times-append k (u ∷ used) us, has_unused.once k));
+        count = omega (arith, long, has_unused.count);
+        few = omega (arith, long, has_unused.few);
+        idle = idle-kept change made.buckets u us parts.2 has_unused.idle.1;
       };
       here = get-changed_by change made.buckets (Some u) u refl ∙ ap (λ (r : Option LinkedBucket). option_map change r) at;
       stays = λ k record_ other h. get-changed_by-other change made.buckets (Some u) k (λ e. let same : u ≡ k = cc in omega (arith, other, ap (λ (n : ℕ). times k (n ∷ [])) same, times-here k [])) ∙ h;
-      grows = omega (arith, long, pool.count);
+      grows = omega (arith, long, has_unused.count);
     }
 
 -- a bucket that is made
-pub made_one-is : (new : NewBuckets) (made : Made) (used unused : List ℕ) → IsPool made.buckets made.unused used unused → length used < most_buckets
+pub made_one-is : (new : NewBuckets) (made : Made) (used unused : List ℕ) → HasUnused made.buckets made.unused used unused → length used < most_buckets
     → IsMade new made (made_one new made) used
-made_one-is new made used [] pool few =
-    let same : made_one new made ≡ made_new new made = ap (λ (link : Option ℕ). option_map_or (λ (number : ℕ). option_map_or (made_again new made number) (slice_get made.buckets number) (made_new new made)) link (made_new new made)) pool.pile in
-    subst (λ (after : Made). IsMade new made after used) (sym same) (made_new-is new made used pool few)
-made_one-is new made used (u ∷ us) pool few =
-    let within = (not-used made.buckets made.unused used u us pool).0 in
+made_one-is new made used [] has_unused few =
+    let same : made_one new made ≡ made_new new made = ap (λ (link : Option ℕ). option_map_or (λ (number : ℕ). option_map_or (made_again new made number) (slice_get made.buckets number) (made_new new made)) link (made_new new made)) has_unused.list in
+    subst (λ (after : Made). IsMade new made after used) (sym same) (made_new-is new made used has_unused few)
+made_one-is new made used (u ∷ us) has_unused few =
+    let within = (not-used made.buckets made.unused used u us has_unused).0 in
     let found = get-some made.buckets u within in
     let same : made_one new made ≡ made_again new made u found.0 =
-    ap (λ (link : Option ℕ). option_map_or (λ (number : ℕ). option_map_or (made_again new made number) (slice_get made.buckets number) (made_new new made)) link (made_new new made)) pool.pile.0
+    ap (λ (link : Option ℕ). option_map_or (λ (number : ℕ). option_map_or (made_again new made number) (slice_get made.buckets number) (made_new new made)) link (made_new new made)) has_unused.list.0
     ∙ ap (λ (r : Option LinkedBucket). option_map_or (made_again new made u) r (made_new new made)) found.1 in
-    subst (λ (after : Made). IsMade new made after used) (sym same) (made_again-is new made used u us found.0 pool found.1)
+    subst (λ (after : Made). IsMade new made after used) (sym same) (made_again-is new made used u us found.0 has_unused found.1)
 
 -- buckets stay spelled where none of their records is put to use
 pub buckets-stay : (old new : List LinkedBucket) (numbers : List ℕ) (number width : ℕ) (bs : List Bucket) → StaysBut numbers old new
@@ -171,15 +171,15 @@ shelves-stay old new numbers number (s ∷ ss) stays apart h = (
   shelves-stay old new numbers (suc number) ss stays (λ k stands. apart k (omega (arith, stands, times-append k (numbers_of s.buckets) (bucket_numbers ss)))) h.1,
 )
 
--- the pool of numbers in another order
-pub pool-same : (records : List LinkedBucket) (first : Option ℕ) (used other unused : List ℕ) → ((k : ℕ) → times k other ≡ times k used) → length other ≡ length used
-    → IsPool records first used unused → IsPool records first other unused
-pool-same records first used other unused same long pool = record {
-  pile = pool.pile;
-  once = λ k. omega (arith, times-append k other unused, times-append k used unused, same k, pool.once k);
-  count = omega (arith, long, pool.count);
-  few = pool.few;
-  idle = pool.idle;
+-- what is in use and unused, with the numbers in another order
+pub has_unused-same : (records : List LinkedBucket) (first : Option ℕ) (used other unused : List ℕ) → ((k : ℕ) → times k other ≡ times k used) → length other ≡ length used
+    → HasUnused records first used unused → HasUnused records first other unused
+has_unused-same records first used other unused same long has_unused = record {
+  list = has_unused.list;
+  once = λ k. omega (arith, times-append k other unused, times-append k used unused, same k, has_unused.once k);
+  count = omega (arith, long, has_unused.count);
+  few = has_unused.few;
+  idle = has_unused.idle;
 }
 
 -- one more new bucket at the left of others is the last in the order of search
@@ -210,13 +210,13 @@ pub record AreMade (count shelf width place : ℕ) (before after : Made) (used :
   pub numbers : (k : ℕ) → times k (tag_numbers tags) + times k used ≤ 1
   pub first : after.first ≡ first_link (new_buckets place width tags ++ bs)
   pub spelled : AreBucketsSpelled after.buckets shelf width (new_buckets place width tags ++ bs)
-  pub pool : IsPool after.buckets after.unused (tag_numbers tags ++ used) unused
+  pub has_unused : HasUnused after.buckets after.unused (tag_numbers tags ++ used) unused
   pub stays : StaysBut (tag_numbers tags) before.buckets after.buckets
   pub grows : length after.buckets ≡ max (length before.buckets) (length used + count)
 
 -- what is in use stands once at most
-used-once : (records : List LinkedBucket) (first : Option ℕ) (used unused : List ℕ) → IsPool records first used unused → (k : ℕ) → times k used ≤ 1
-used-once records first used unused pool k = by_test (nat_lt k (length records)) (pool.once k)
+used-once : (records : List LinkedBucket) (first : Option ℕ) (used unused : List ℕ) → HasUnused records first used unused → (k : ℕ) → times k used ≤ 1
+used-once records first used unused has_unused k = by_test (nat_lt k (length records)) (has_unused.once k)
   where
     by_test : (b : Bool) → times k (used ++ unused) ≡ cond b 1 0 → times k used ≤ 1
     by_test true h = omega (arith, times-append k used unused, h)
@@ -224,24 +224,24 @@ used-once records first used unused pool k = by_test (nat_lt k (length records))
 
 -- so many buckets made from left to right
 pub made_many-are : (count shelf width place : ℕ) (before : Made) (used unused : List ℕ) (bs : List Bucket) → before.first ≡ first_link bs
-    → AreBucketsSpelled before.buckets shelf width bs → ((k : ℕ) → times k (numbers_of bs) ≤ times k used) → IsPool before.buckets before.unused used unused
+    → AreBucketsSpelled before.buckets shelf width bs → ((k : ℕ) → times k (numbers_of bs) ≤ times k used) → HasUnused before.buckets before.unused used unused
     → length used + count ≤ most_buckets
     → AreMade count shelf width place before (made_many count (record { shelf = shelf; width = width; x = place }) before) used bs
-made_many-are zero shelf width place before used unused bs first spelled part pool few = record {
+made_many-are zero shelf width place before used unused bs first spelled part has_unused few = record {
   tags = [];
   unused = unused;
   count_is = refl;
   each = tt;
-  numbers = λ k. omega (arith, used-once before.buckets before.unused used unused pool k);
+  numbers = λ k. omega (arith, used-once before.buckets before.unused used unused has_unused k);
   first = first;
   spelled = spelled;
-  pool = pool;
+  has_unused = has_unused;
   stays = λ k record_ other h. h;
-  grows = omega (arith, pool.count);
+  grows = omega (arith, has_unused.count);
 }
-made_many-are (suc count) shelf width place before used unused bs first spelled part pool few =
+made_many-are (suc count) shelf width place before used unused bs first spelled part has_unused few =
     let new : NewBuckets = record { shelf = shelf; width = width; x = place } in
-    let one : IsMade new before (made_one new before) used = made_one-is new before used unused pool (omega (arith, few)) in
+    let one : IsMade new before (made_one new before) used = made_one-is new before used unused has_unused (omega (arith, few)) in
     let middle : Made = made_one new before in
     let tag : Tag = record { number = one.number; generation = one.generation } in
     let full : width - 0 ≡ width = omega arith in
@@ -254,7 +254,7 @@ made_many-are (suc count) shelf width place before used unused bs first spelled 
     (λ k stands. apart k one.number (omega (arith, stands, part k)) one.fresh) spelled in
     let rest : AreMade count shelf width (place + width) middle (made_many count (after_first new) middle) (one.number ∷ used) (new_bucket place tag ∷ bs) =
     made_many-are count shelf width (place + width) middle (one.number ∷ used) one.unused (new_bucket place tag ∷ bs) one.first (here, kept)
-    (λ k. omega (arith, part k)) one.pool (omega (arith, few)) in
+    (λ k. omega (arith, part k)) one.has_unused (omega (arith, few)) in
     let order : new_buckets (place + width) width rest.tags ++ new_bucket place tag ∷ bs ≡ new_buckets place width (rest.tags ++ tag ∷ []) ++ bs =
     sym (ap (λ (xs : List Bucket). xs ++ bs) (new-left place width rest.tags tag) ∙ append_assoc (new_buckets (place + width) width rest.tags) (new_bucket place tag ∷ []) bs) in
     let own : (k : ℕ) → times k (tag_numbers (rest.tags ++ tag ∷ [])) ≡ times k (tag_numbers rest.tags) + times k (one.number ∷ []) = numbers-left rest.tags tag in
@@ -266,10 +266,10 @@ made_many-are (suc count) shelf width place before used unused bs first spelled 
       numbers = λ k. omega (arith, own k, rest.numbers k);
       first = rest.first ∙ ap first_link order;
       spelled = subst (AreBucketsSpelled (made_many count (after_first new) middle).buckets shelf width) order rest.spelled;
-      pool = pool-same _ _ (tag_numbers rest.tags ++ one.number ∷ used) (tag_numbers (rest.tags ++ tag ∷ []) ++ used) rest.unused
+      has_unused = has_unused-same _ _ (tag_numbers rest.tags ++ one.number ∷ used) (tag_numbers (rest.tags ++ tag ∷ []) ++ used) rest.unused
           (λ k. omega (arith, times-append k (tag_numbers rest.tags) (one.number ∷ used), times-append k (tag_numbers (rest.tags ++ tag ∷ [])) used, own k))
           (omega (arith, length-append (tag_numbers rest.tags) (one.number ∷ used), length-append (tag_numbers (rest.tags ++ tag ∷ [])) used, tags-length rest.tags, tags-length (rest.tags ++ tag ∷ []), length-append rest.tags (tag ∷ [])))
-          rest.pool;
+          rest.has_unused;
       stays = λ k record_ other h. rest.stays k record_ (omega (arith, other, own k)) (one.stays k record_ (omega (arith, other, own k)) h);
       grows = omega (arith, one.grows, rest.grows);
     }

@@ -23,7 +23,7 @@ use Rattle.bucketed_records.specs.declared.records.KeptShelf.{KeptShelf}
 use Rattle.bucketed_records.proofs.Spelling.KeptShelves.{Ends, ends-of, kept-append, last, last-kept, length-kept, nothing}
 use Rattle.bucketed_store.specs.Private.StoreEdits.{IsShort, Made, StayShort, made_many, next_across, stored_shelf, stored_shelves}
 use Rattle.bucketed_store.proofs.Spelling.Ends.{short-kept}
-use Rattle.bucketed_store.proofs.Spelling.MadeBuckets.{AreMade, made_many-are, pool-same, shelves-stay, tags-length}
+use Rattle.bucketed_store.proofs.Spelling.MadeBuckets.{AreMade, made_many-are, has_unused-same, shelves-stay, tags-length}
 
 -- the records of shelves and of one more at their end
 pub spelled-append : (records : List LinkedBucket) (number : ℕ) (ss : List BucketShelf) (s : BucketShelf) → AreShelvesSpelled records number ss
@@ -158,7 +158,7 @@ stored_shelf-is frame new stored unused ss is_frame valid fits spells =
     let width = width_of_share frame new.count in
     let before : Made = record { buckets = stored.buckets; unused = stored.unused; first = None } in
     let made : AreMade new.count (length stored.shelves) width place before (made_many new.count (record { shelf = length stored.shelves; width = width; x = place }) before) (bucket_numbers ss) [] =
-    made_many-are new.count (length stored.shelves) width place before (bucket_numbers ss) unused [] refl tt (λ k. omega arith) spells.pool
+    made_many-are new.count (length stored.shelves) width place before (bucket_numbers ss) unused [] refl tt (λ k. omega arith) spells.has_unused
     (omega (arith, in-use-length ss, fits.few)) in
     let s = made_shelf frame new made.tags in
     let some : 1 ≤ length made.tags = omega (arith, made.count_is, fits.some) in
@@ -185,10 +185,10 @@ stored_shelf-is frame new stored unused ss is_frame valid fits spells =
             ∙ sym (kept-append frame [] ss (s ∷ []));
         buckets = spelled-append records 0 ss s
             (shelves-stay stored.buckets records (tag_numbers made.tags) 0 ss made.stays (λ k stands. omega (arith, stands, made.numbers k)) spells.buckets) own;
-        pool = pool-same records _ (tag_numbers made.tags ++ bucket_numbers ss) (bucket_numbers (ss ++ s ∷ [])) made.unused
+        has_unused = has_unused-same records _ (tag_numbers made.tags ++ bucket_numbers ss) (bucket_numbers (ss ++ s ∷ [])) made.unused
             (λ k. omega (arith, numbers k, times-append k (tag_numbers made.tags) (bucket_numbers ss)))
             (omega (arith, in-use-length (ss ++ s ∷ []), buckets_in_use-append ss (s ∷ []), length-new place width made.tags, in-use-length ss, length-append (tag_numbers made.tags) (bucket_numbers ss), tags-length made.tags))
-            made.pool;
+            made.has_unused;
       };
       grows = omega (arith, made.grows, in-use-length ss);
       short = subst (IsShort frame) (sym spells.shelves) (short-kept frame ss valid);

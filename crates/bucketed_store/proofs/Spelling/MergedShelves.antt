@@ -12,7 +12,7 @@ use Rattle.bucketed_model.specs.Merging.{Group, is_idle_in, merged_shelves, merg
 use Rattle.bucketed_model.specs.State.{Bucket, BucketShelf, bucket_numbers, column_height, column_place, is_idle, with_height}
 use Rattle.bucketed_model.proofs.Shelving.Shelves.{column_height-append, own-height}
 use Rattle.bucketed_records.specs.declared.records.LinkedBucket.{LinkedBucket}
-use Rattle.bucketed_records.specs.Private.Store.{AreShelvesSpelled, IsPool, Spells, Stored, kept_shelf, kept_shelves, live_items}
+use Rattle.bucketed_records.specs.Private.Store.{AreShelvesSpelled, HasUnused, Spells, Stored, kept_shelf, kept_shelves, live_items}
 use Rattle.bucketed_records.specs.declared.records.KeptShelf.{KeptShelf}
 use Rattle.bucketed_records.proofs.Spelling.KeptShelves.{live-idle, kept-heights, length-kept}
 use Rattle.bucketed_store.specs.Private.Placing.{is_kept_idle_in, kept_height, kept_mergeable, kept_serves}
@@ -312,5 +312,5 @@ pub spells-merged : (frame : Frame) (stored : Stored) (unused : List ℕ) (ss : 
 spells-merged frame stored unused ss group few row spells = record {
   shelves = ap (kept_merged group) spells.shelves ∙ merged-kept frame group ss few row;
   buckets = spelled-merged stored.buckets 0 group.first group.others ss spells.buckets;
-  pool = subst (λ (ns : List ℕ). IsPool stored.buckets stored.unused ns unused) (sym (numbers-merged group.first group.others ss)) spells.pool;
+  has_unused = subst (λ (ns : List ℕ). HasUnused stored.buckets stored.unused ns unused) (sym (numbers-merged group.first group.others ss)) spells.has_unused;
 }

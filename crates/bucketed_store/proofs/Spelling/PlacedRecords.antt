@@ -196,9 +196,9 @@ destination-ready frame sides stored unused ss destination is_frame asks valid s
           can = record {
             each = news-new frame ss sides news made.tags fits made.new_tags.count;
             shelves = omega (arith, few-shelves frame ss is_frame.column_width valid.each, valid.few, ap (λ (ks : List KeptShelf). length ks) spells.shelves, length-kept frame [] ss);
-            buckets = omega (arith, used, in-use-length (ss ++ made_shelves frame news made.tags), made.spells.pool.count, made.spells.pool.few, spells.pool.few);
+            buckets = omega (arith, used, in-use-length (ss ++ made_shelves frame news made.tags), made.spells.has_unused.count, made.spells.has_unused.few, spells.has_unused.few);
             short = made.short;
-            used = omega (arith, in-use-length ss, spells.pool.count);
+            used = omega (arith, in-use-length ss, spells.has_unused.count);
             records = made.grows;
           };
         }

@@ -22,7 +22,7 @@ use Rattle.bucketed_model.proofs.Shelving.Shelves.{column_height-append, numbers
 use Rattle.bucketed_model.proofs.Validity.Spots.{IsSpot, spot-alone, times-here}
 use Rattle.bucketed_model.proofs.Validity.Taken.{CanTake, spot-valid}
 use Rattle.bucketed_records.specs.declared.records.LinkedBucket.{LinkedBucket}
-use Rattle.bucketed_records.specs.Private.Store.{AreBucketsSpelled, IsPool, Spells, Stored, first_link, kept_shelf, kept_shelves, live_items, record_of}
+use Rattle.bucketed_records.specs.Private.Store.{AreBucketsSpelled, HasUnused, Spells, Stored, first_link, kept_shelf, kept_shelves, live_items, record_of}
 use Rattle.bucketed_records.specs.declared.records.KeptShelf.{KeptShelf}
 use Rattle.bucketed_store.specs.Private.StoreEdits.{CanGive, CanGiveFrom, height_of, kept_allocation, live_items_of}
 use Rattle.bucketed_store.specs.Private.StoreEdits as store
@@ -169,8 +169,8 @@ spot-given frame shelves spot item number next fits =
     } in given) used
 
 -- a number in use is not unused
-pub used-not_unused : (records : List LinkedBucket) (first : Option ℕ) (used unused : List ℕ) (n : ℕ) → IsPool records first used unused → 1 ≤ times n used → times n unused ≡ 0
-used-not_unused records first used unused n pool stands = by_test (nat_lt n (length records)) (pool.once n)
+pub used-not_unused : (records : List LinkedBucket) (first : Option ℕ) (used unused : List ℕ) (n : ℕ) → HasUnused records first used unused → 1 ≤ times n used → times n unused ≡ 0
+used-not_unused records first used unused n has_unused stands = by_test (nat_lt n (length records)) (has_unused.once n)
   where
     by_test : (b : Bool) → times n (used ++ unused) ≡ cond b 1 0 → times n unused ≡ 0
     by_test true h = omega (arith, times-append n used unused, h, stands)

@@ -16,7 +16,7 @@ use Rattle.bucketed_model.proofs.Validity.Changed.{bucket_numbers-changed}
 use Rattle.bucketed_model.proofs.Validity.Taken.{take-keeps}
 use Rattle.bucketed_records.specs.declared.records.LinkedBucket.{LinkedBucket}
 use Rattle.bucketed_records.specs.BucketRecords.{next_of}
-use Rattle.bucketed_records.specs.Private.Store.{AreBucketsSpelled, AreShelvesSpelled, IsPool, Spells, Stored, first_link, kept_shelf, kept_shelves, live_items, record_of, widest_room}
+use Rattle.bucketed_records.specs.Private.Store.{AreBucketsSpelled, AreShelvesSpelled, HasUnused, Spells, Stored, first_link, kept_shelf, kept_shelves, live_items, record_of, widest_room}
 use Rattle.bucketed_records.specs.declared.records.KeptShelf.{KeptShelf}
 use Rattle.bucketed_records.proofs.Spelling.KeptShelves.{kept-heights}
 use Rattle.bucket_index.specs.Private.Searching.{widest_from}
@@ -171,14 +171,14 @@ spells-taken frame stored unused ss number n item s at here once few fresh spell
       shelves = ap (changed_by (Some number) (given_from (widest_from most_buckets records (first_bucket_of stored.shelves number)))) spells.shelves
           ∙ kept-taken frame [] ss number n item _ s at here once room;
       buckets = spelled;
-      pool = subst (λ (ns : List ℕ). IsPool records stored.unused ns unused) (sym numbers) (record {
-        pile = Leads-frame (next_of stored.buckets) (next_of records) unused stored.unused None
+      has_unused = subst (λ (ns : List ℕ). HasUnused records stored.unused ns unused) (sym numbers) (record {
+        list = Leads-frame (next_of stored.buckets) (next_of records) unused stored.unused None
             (λ k stands. link_at-same (λ (bucket : LinkedBucket). bucket.next) stored.buckets records k (map-changed_by (λ (bucket : LinkedBucket). bucket.next) (taken_record item) stored.buckets (Some n) (λ x. refl)))
-            spells.pool.pile;
-        once = λ k. rw long (spells.pool.once k);
-        count = omega (arith, long, spells.pool.count);
-        few = omega (arith, long, spells.pool.few);
-        idle = idle-kept (taken_record item) stored.buckets n unused fresh spells.pool.idle;
+            spells.has_unused.list;
+        once = λ k. rw long (spells.has_unused.once k);
+        count = omega (arith, long, spells.has_unused.count);
+        few = omega (arith, long, spells.has_unused.few);
+        idle = idle-kept (taken_record item) stored.buckets n unused fresh spells.has_unused.idle;
       });
     }
   where

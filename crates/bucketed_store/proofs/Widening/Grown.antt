@@ -113,14 +113,14 @@ grown-is stored unused state size witnessed fits =
         spells = rw after (record {
           shelves = made.shelves ∙ kept-places frame (grown_frame frame size) [] (grown state size wide.tags).shelves places;
           buckets = made.buckets;
-          pool = made.pool;
+          has_unused = made.has_unused;
         });
         valid = grown-valid state size wide.tags valid fits tags;
       };
       made = ap (λ (ks : List KeptShelf). total (grow_counts frame size xs) + left_after added left ks) spells.shelves ∙ total-left frame added left [] xs;
       space = space-grown state size wide.tags valid fits tags;
       records = ap (λ (s : Stored). length s.buckets) after ∙ wide.grows;
-      used = omega (arith, spells.pool.count, in-use-length xs);
+      used = omega (arith, spells.has_unused.count, in-use-length xs);
       in_use = wide.in_use;
     }
 

@@ -23,7 +23,7 @@ use Rattle.bucketed_store.specs.Private.StoreEdits.{Made, first_bucket_of, made_
 use Rattle.bucketed_store.proofs.Emptying.ItemReturns.{changed-middle}
 use Rattle.bucketed_store.proofs.Emptying.SpelledSpots.{shelf-spelled}
 use Rattle.bucketed_store.proofs.Emptying.SpelledReturns.{widest-all}
-use Rattle.bucketed_store.proofs.Spelling.MadeBuckets.{AreMade, made_many-are, pool-same, shelves-stay, StaysBut}
+use Rattle.bucketed_store.proofs.Spelling.MadeBuckets.{AreMade, made_many-are, has_unused-same, shelves-stay, StaysBut}
 
 -- a shelf with further buckets, side by side from a place on
 abbrev pub wider : ℕ → List Tag → BucketShelf → BucketShelf
@@ -106,7 +106,7 @@ widens-shelf frame stored unused front x back place count spells few =
     let are : AreMade count i w place before made (bucket_numbers xs) x.buckets =
     subst (λ (m : Made). AreMade count i w place before m (bucket_numbers xs) x.buckets) same
     (made_many-are count i w place before (bucket_numbers xs) unused x.buckets first
-    (subst (λ (n : ℕ). AreBucketsSpelled stored.buckets n w x.buckets) zero_plus (shelf-spelled stored.buckets 0 front x back spells.buckets)) inside spells.pool
+    (subst (λ (n : ℕ). AreBucketsSpelled stored.buckets n w x.buckets) zero_plus (shelf-spelled stored.buckets 0 front x back spells.buckets)) inside spells.has_unused
     (omega (arith, few, in-use-length xs))) in
     let y = wider place are.tags x in
     let members : (k : ℕ) → times k (bucket_numbers (front ++ y ∷ back)) ≡ times k (tag_numbers are.tags) + times k (bucket_numbers xs) =
@@ -148,10 +148,10 @@ widens-shelf frame stored unused front x back place count spells few =
         buckets = spelled-wider stored.buckets made.buckets (tag_numbers are.tags) 0 front x y back are.stays
             (λ k stands. omega (arith, stands, are.numbers k))
             (subst (λ (n : ℕ). AreBucketsSpelled made.buckets n w y.buckets) (sym zero_plus) are.spelled) spells.buckets;
-        pool = pool-same made.buckets made.unused (tag_numbers are.tags ++ bucket_numbers xs) (bucket_numbers (front ++ y ∷ back)) are.unused
+        has_unused = has_unused-same made.buckets made.unused (tag_numbers are.tags ++ bucket_numbers xs) (bucket_numbers (front ++ y ∷ back)) are.unused
             (λ k. omega (arith, members k, times-append k (tag_numbers are.tags) (bucket_numbers xs)))
             (omega (arith, in-use-length (front ++ y ∷ back), in-use-length xs, more, length-append (tag_numbers are.tags) (bucket_numbers xs), length-map are.tags (λ (t : Tag). t.number), are.count_is))
-            are.pool;
+            are.has_unused;
       };
       grows = omega (arith, are.grows, in-use-length xs);
     }

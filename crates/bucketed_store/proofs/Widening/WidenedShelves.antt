@@ -44,7 +44,7 @@ pub widens-shelves : (frame : Frame) (stored : Stored) (unused : List ℕ) (fron
     → ((k : ℕ) → times k (bucket_numbers (front ++ back)) ≤ 1) → Spells frame stored unused (front ++ back) → buckets_in_use (front ++ back) + left ≤ most_buckets
     → WidensShelves frame stored (shelves_widened (length back) (length front) place added left stored) front back place added left
 widens-shelves frame stored unused front [] place added left once spells few =
-    record { tags = []; unused = unused; count_is = refl; each = tt; numbers = λ k. omega (arith, once k); in_use = omega arith; spells = spells; grows = omega (arith, spells.pool.count, in-use-length (front ++ [])) }
+    record { tags = []; unused = unused; count_is = refl; each = tt; numbers = λ k. omega (arith, once k); in_use = omega arith; spells = spells; grows = omega (arith, spells.has_unused.count, in-use-length (front ++ [])) }
 widens-shelves frame stored unused front (x ∷ back) place added left once spells few =
     let i = length front in
     let count = share added x.bucket_width left in

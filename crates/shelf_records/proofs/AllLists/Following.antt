@@ -3,13 +3,13 @@ use Rattle.std.proofs.Common.{◌≡◌, ℕ, suc, ◌+◌, ◌<◌, ◌≤◌, 
 use Rattle.std.specs.Prelude.{◌==◌, if◌then◌else◌}
 use Rattle.etagere_base.specs.Lists.{times}
 use Rattle.etagere_base.proofs.TimesLemmas.{times-append}
-use Rattle.etagere_links.specs.Chains.{IsPile, Leads}
+use Rattle.etagere_links.specs.Chains.{IsList, Leads}
 use Rattle.etagere_links.specs.Edits.{link_at}
 use Rattle.etagere_links.proofs.ListEnds.{times-here}
 
 -- where links have led after so many steps: what is left of the list, which they spell from here on
 pub record IsLeft {T : Type 0} (next : T → Option ℕ) (records : List T) (at : Option ℕ) (steps : ℕ) (rest : List ℕ) : Type 0 where
-  pub leads : IsPile (link_at next records) at rest
+  pub leads : IsList (link_at next records) at rest
   pub within : (k : ℕ) → 1 ≤ times k rest → k < length records
   pub enough : length rest + steps ≤ length records
 
@@ -60,10 +60,10 @@ counted-here [] others n fresh = grind arith
 counted-here (x ∷ xs) others n fresh = grind (arith, fresh, counted-here xs others n (omega (arith, fresh)))
 
 -- so many as are left
-counted-left : (next : ℕ → Option ℕ) (at : Option ℕ) (passed rest : List ℕ) → ((k : ℕ) → times k (passed ++ rest) ≤ 1) → IsPile next at rest → count_from at (passed ++ rest) ≡ length rest
-counted-left next at passed [] once pile = rw pile refl
-counted-left next at passed (x ∷ xs) once pile =
-    rw pile.0 (counted-here passed xs x (omega (arith, once x, times-append x passed (x ∷ xs), times-here x xs)))
+counted-left : (next : ℕ → Option ℕ) (at : Option ℕ) (passed rest : List ℕ) → ((k : ℕ) → times k (passed ++ rest) ≤ 1) → IsList next at rest → count_from at (passed ++ rest) ≡ length rest
+counted-left next at passed [] once list = rw list refl
+counted-left next at passed (x ∷ xs) once list =
+    rw list.0 (counted-here passed xs x (omega (arith, once x, times-append x passed (x ∷ xs), times-here x xs)))
 
 -- a step leaves fewer, where no number stands twice
 pub step-nearer : {T : Type 0} (next : T → Option ℕ) (records : List T) (at : Option ℕ) (number steps : ℕ) (passed rest : List ℕ) → ((k : ℕ) → times k (passed ++ rest) ≤ 1) → IsLeft next records at steps rest → at ≡ Some number → count_from (link_at next records number) (passed ++ rest) < count_from at (passed ++ rest)

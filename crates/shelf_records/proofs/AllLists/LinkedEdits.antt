@@ -8,7 +8,7 @@ use Rattle.etagere_base.specs.Lists.{times}
 use Rattle.shelf_records.specs.RecordLists.{Records, Entry, Lists, shelf_numbers, item_numbers, IsEntry, IsLinkedExcept}
 use Rattle.shelf_records.specs.Records.{item_chain, shelf_chain}
 use Rattle.shelf_records.proofs.FirstLinks.{SameChain}
-use Rattle.shelf_records.proofs.AllLists.LinkedFrames.{chain-same, pile-frame, pile-same, entries-frame, item_numbers-append, shelf_numbers-append}
+use Rattle.shelf_records.proofs.AllLists.LinkedFrames.{chain-same, list-frame, list-same, entries-frame, item_numbers-append, shelf_numbers-append}
 use Rattle.etagere_links.proofs.ListEnds.{times-here}
 use Rattle.etagere_links.proofs.WalkedLists.{once-part}
 
@@ -112,8 +112,8 @@ module _ {records : Records} (around : Around) (entry : Entry) {loose loose_shel
         entries = Each-append (IsEntry new) before (edited ∷ after)
             (frame before (λ k. omega arith) (λ k. omega arith) (Each-front (IsEntry records) before (entry ∷ after) linked.entries))
             (edits.lists, frame after (λ k. omega arith) (λ k. omega arith) (Each-back (IsEntry records) before (entry ∷ after) linked.entries).1);
-        unused_items = rw edits.unused_items (pile-frame item_chain records.items new.items records.unused_items around.unused_items (λ k stands. edits.items k (linked-apart.others k (omega (arith, stands)))) linked.unused_items);
-        unused_shelves = rw edits.unused_shelves (pile-same shelf_chain records.shelves new.shelves records.unused_shelves around.unused_shelves edits.shelves.next linked.unused_shelves);
+        unused_items = rw edits.unused_items (list-frame item_chain records.items new.items records.unused_items around.unused_items (λ k stands. edits.items k (linked-apart.others k (omega (arith, stands)))) linked.unused_items);
+        unused_shelves = rw edits.unused_shelves (list-same shelf_chain records.shelves new.shelves records.unused_shelves around.unused_shelves edits.shelves.next linked.unused_shelves);
         shelves_once = rw (numbers, edits.shelves.count) linked.shelves_once;
         items_once = λ k.
             let same : times k (item_numbers (before ++ edited ∷ after) ++ around.unused_items ++ loose') ≡ times k (item_numbers (before ++ entry ∷ after) ++ around.unused_items ++ loose) = omega (arith, edits.members k, items-count around edited loose' k, items-count around entry loose k) in

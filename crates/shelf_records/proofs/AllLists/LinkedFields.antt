@@ -13,7 +13,7 @@ use Rattle.shelf_records.specs.RecordLists.{Records, Entry, Lists, first_item_of
 use Rattle.etagere_links.specs.Lists.{HasEachOnce}
 use Rattle.shelf_records.specs.Records.{item_chain, free_list, shelf_chain}
 use Rattle.etagere_links.proofs.FieldChanges.{field_at-kept, field_at-other}
-use Rattle.shelf_records.proofs.AllLists.LinkedFrames.{chain-frame, chain-same, pile-frame, pile-same, entries-frame}
+use Rattle.shelf_records.proofs.AllLists.LinkedFrames.{chain-frame, chain-same, list-frame, list-same, entries-frame}
 use Rattle.shelf_records.proofs.AllLists.LinkedUnused.{three-count, IsLoose, loose-of}
 use Rattle.etagere_links.proofs.WalkedLists.{once-part}
 use Rattle.etagere_links.proofs.ListEnds.{times-here, times-other}
@@ -84,7 +84,7 @@ module _ {records : Records} {lists : Lists} {loose loose_shelves : List ℕ} wh
       record {
         shelves = linked.shelves;
         entries = entries-same records number change keeps lists.entries linked.entries;
-        unused_items = pile-same item_chain items new records.unused_items lists.unused_items (λ k. link_at-same item_chain.next items new k (map-changed_by item_chain.next change items (Some number) keeps.next)) linked.unused_items;
+        unused_items = list-same item_chain items new records.unused_items lists.unused_items (λ k. link_at-same item_chain.next items new k (map-changed_by item_chain.next change items (Some number) keeps.next)) linked.unused_items;
         unused_shelves = linked.unused_shelves;
         shelves_once = linked.shelves_once;
         items_once = λ k. rw (length-changed_by change items (Some number)) (linked.items_once k);
@@ -106,7 +106,7 @@ module _ {records : Records} {lists : Lists} {loose loose_shelves : List ℕ} wh
               field_at-kept (λ (x : LinkedShelf). x.first_unallocated) None change shelves number k keeps.first_unallocated,
             )) linked.entries;
         unused_items = linked.unused_items;
-        unused_shelves = pile-same shelf_chain shelves new records.unused_shelves lists.unused_shelves next linked.unused_shelves;
+        unused_shelves = list-same shelf_chain shelves new records.unused_shelves lists.unused_shelves next linked.unused_shelves;
         shelves_once = λ k. rw (length-changed_by change shelves (Some number)) (linked.shelves_once k);
         items_once = linked.items_once;
       }
@@ -122,7 +122,7 @@ module _ {records : Records} {lists : Lists} {loose loose_shelves : List ℕ} wh
         entries = entries-frame records (item_changed number change records) lists.entries
             (λ k stands. get-changed_by-other change items (Some number) k (differs number k (item_numbers lists.entries) is.no_used stands))
             (λ k stands. (refl, refl)) linked.entries;
-        unused_items = pile-frame item_chain items new records.unused_items lists.unused_items
+        unused_items = list-frame item_chain items new records.unused_items lists.unused_items
             (λ k stands. get-changed_by-other change items (Some number) k (differs number k lists.unused_items is.no_unused stands)) linked.unused_items;
         unused_shelves = linked.unused_shelves;
         shelves_once = linked.shelves_once;
@@ -145,7 +145,7 @@ module _ {records : Records} {lists : Lists} {loose loose_shelves : List ℕ} wh
               field_at-other (λ (x : LinkedShelf). x.first_unallocated) None change shelves (Some number) k (differs number k used is.no_used stands),
             )) linked.entries;
         unused_items = linked.unused_items;
-        unused_shelves = pile-frame shelf_chain shelves new records.unused_shelves lists.unused_shelves
+        unused_shelves = list-frame shelf_chain shelves new records.unused_shelves lists.unused_shelves
             (λ k stands. get-changed_by-other change shelves (Some number) k (differs number k lists.unused_shelves is.no_unused stands)) linked.unused_shelves;
         shelves_once = λ k. rw (length-changed_by change shelves (Some number)) (linked.shelves_once k);
         items_once = linked.items_once;
@@ -165,7 +165,7 @@ module _ {records : Records} {lists : Lists} {loose loose_shelves : List ℕ} wh
         entries = entries-frame records (item_made item records) lists.entries
             (λ k stands. get-made items item k (within k (times k used) (omega (arith, three-count used lists.unused_items loose k)) stands))
             (λ k stands. (refl, refl)) linked.entries;
-        unused_items = pile-frame item_chain items new records.unused_items lists.unused_items
+        unused_items = list-frame item_chain items new records.unused_items lists.unused_items
             (λ k stands. get-made items item k (within k (times k lists.unused_items) (omega (arith, three-count used lists.unused_items loose k)) stands)) linked.unused_items;
         unused_shelves = linked.unused_shelves;
         shelves_once = linked.shelves_once;
@@ -191,7 +191,7 @@ module _ {records : Records} {lists : Lists} {loose loose_shelves : List ℕ} wh
               ap (λ r. option_map_or (λ (x : LinkedShelf). x.first_unallocated) r None) (same k stands),
             )) linked.entries;
         unused_items = linked.unused_items;
-        unused_shelves = pile-frame shelf_chain shelves new records.unused_shelves lists.unused_shelves
+        unused_shelves = list-frame shelf_chain shelves new records.unused_shelves lists.unused_shelves
             (λ k stands. get-made shelves shelf k (within k (times k lists.unused_shelves) (omega (arith, three-count used lists.unused_shelves loose_shelves k)) stands)) linked.unused_shelves;
         shelves_once = λ k. rw longer (each-more (length shelves) used lists.unused_shelves loose_shelves linked.shelves_once k);
         items_once = linked.items_once;

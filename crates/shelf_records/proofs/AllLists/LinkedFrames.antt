@@ -4,7 +4,7 @@ use Rattle.std.specs.Prelude.{slice_get, option_and_then}
 use Rattle.etagere_base.proofs.TimesLemmas.{times-append}
 use Rattle.std.specs.List.{AllByRecursion}
 use Rattle.etagere_base.specs.Lists.{times}
-use Rattle.shelf_records.specs.Chains.{IsPileIn, IsChainIn}
+use Rattle.shelf_records.specs.Chains.{IsListIn, IsChainIn}
 use Rattle.shelf_records.specs.declared.records.LinkedShelf.{LinkedShelf}
 use Rattle.etagere_links.specs.Edits.{link_at}
 use Rattle.shelf_records.specs.Families.{Family}
@@ -26,10 +26,10 @@ chain-frame family records new first xs same chain =
       backward = LeadsBack-frame (link_at family.previous records) (link_at family.previous new) xs None (λ k stands. ap (λ r. option_and_then family.previous r) (same k stands)) chain.backward;
     }
 
--- a pile whose records are the same is spelled as before
-pub pile-frame : {T : Type 0} (family : Family T) (records new : List T) (top : Option ℕ) (xs : List ℕ) → SameAt records new xs → IsPileIn family records top xs → IsPileIn family new top xs
-pile-frame family records new top xs same pile =
-    Leads-frame (link_at family.next records) (link_at family.next new) xs top None (λ k stands. ap (λ r. option_and_then family.next r) (same k stands)) pile
+-- a list whose records are the same is spelled as before
+pub list-frame : {T : Type 0} (family : Family T) (records new : List T) (top : Option ℕ) (xs : List ℕ) → SameAt records new xs → IsListIn family records top xs → IsListIn family new top xs
+list-frame family records new top xs same list =
+    Leads-frame (link_at family.next records) (link_at family.next new) xs top None (λ k stands. ap (λ r. option_and_then family.next r) (same k stands)) list
 
 -- a list whose links are the same everywhere is spelled as before
 pub chain-same : {T : Type 0} (family : Family T) (records new : List T) (first : Option ℕ) (xs : List ℕ) → ((k : ℕ) → link_at family.next new k ≡ link_at family.next records k) → ((k : ℕ) → link_at family.previous new k ≡ link_at family.previous records k) → IsChainIn family records first xs → IsChainIn family new first xs
@@ -69,6 +69,6 @@ pub shelf_numbers-append : (before after : List Entry) → shelf_numbers (before
 shelf_numbers-append [] after = refl
 shelf_numbers-append (entry ∷ before) after = ap (λ ns. entry.number ∷ ns) (shelf_numbers-append before after)
 
--- a pile whose links are the same everywhere is spelled as before
-pub pile-same : {T : Type 0} (family : Family T) (records new : List T) (top : Option ℕ) (xs : List ℕ) → ((k : ℕ) → link_at family.next new k ≡ link_at family.next records k) → IsPileIn family records top xs → IsPileIn family new top xs
-pile-same family records new top xs next pile = Leads-frame (link_at family.next records) (link_at family.next new) xs top None (λ k stands. next k) pile
+-- a list whose links are the same everywhere is spelled as before
+pub list-same : {T : Type 0} (family : Family T) (records new : List T) (top : Option ℕ) (xs : List ℕ) → ((k : ℕ) → link_at family.next new k ≡ link_at family.next records k) → IsListIn family records top xs → IsListIn family new top xs
+list-same family records new top xs next list = Leads-frame (link_at family.next records) (link_at family.next new) xs top None (λ k stands. next k) list

@@ -18,7 +18,7 @@ use Rattle.shelf_records.proofs.Chains.{Leads-start, next-is, previous-is}
 use Rattle.shelf_records.proofs.Families.{shelf_chain-laws}
 use Rattle.etagere_links.proofs.FieldChanges.{field_at-same}
 use Rattle.shelf_records.proofs.AllLists.LinkedEdits.{Around, with_entry}
-use Rattle.shelf_records.proofs.AllLists.LinkedFrames.{pile-frame, entries-frame, item_numbers-append, shelf_numbers-append}
+use Rattle.shelf_records.proofs.AllLists.LinkedFrames.{list-frame, entries-frame, item_numbers-append, shelf_numbers-append}
 use Rattle.shelf_records.proofs.AllLists.LinkedUnused.{lists_of, three-count, IsLoose, loose-of}
 use Rattle.etagere_links.proofs.WalkedLists.{once-part, IsPart, part-of}
 use Rattle.etagere_links.proofs.ListEnds.{times-here}
@@ -78,7 +78,7 @@ module _ {records : Records} (around : Around) (entry : Entry) {loose loose_shel
             (frame around.before (Each-front (IsEntry records) around.before (entry ∷ around.after) linked.entries))
             (frame around.after (Each-back (IsEntry records) around.before (entry ∷ around.after) linked.entries).1);
         unused_items = linked.unused_items;
-        unused_shelves = pile-frame shelf_chain shelves new records.unused_shelves around.unused_shelves
+        unused_shelves = list-frame shelf_chain shelves new records.unused_shelves around.unused_shelves
             (λ k stands. get-unlinked shelf_chain shelves records.first_shelf front back number k chain
             (let most : times k all ≤ 1 = (once-part (length shelves) all k (times k all) once (omega arith)).0 in
             omega (arith, most, stands, parts k, three-count (front ++ number ∷ back) around.unused_shelves loose_shelves k))) linked.unused_shelves;
@@ -127,7 +127,7 @@ module _ {records : Records} (around : Around) (entry : Entry) {loose loose_shel
             (frame around.before (Each-front (IsEntry records) around.before (entry ∷ around.after) linked.entries))
             (frame (entry ∷ added ∷ around.after) ((Each-back (IsEntry records) around.before (entry ∷ around.after) linked.entries).0, (is_entry, (Each-back (IsEntry records) around.before (entry ∷ around.after) linked.entries).1)));
         unused_items = linked.unused_items;
-        unused_shelves = pile-frame shelf_chain shelves new records.unused_shelves around.unused_shelves
+        unused_shelves = list-frame shelf_chain shelves new records.unused_shelves around.unused_shelves
             (λ k stands. get-linked shelf_chain shelves (Some previous) next number k
             (λ e. let here : 1 ≤ times k (number ∷ loose_shelves) = subst (λ (m : ℕ). 1 ≤ times m (number ∷ loose_shelves)) e (omega (arith, times-here number loose_shelves)) in omega (arith, most k, here, stands))
             (λ e. let same : previous ≡ k = cc in let here : 1 ≤ times k (previous ∷ back) = rw same (omega (arith, times-here k back)) in omega (arith, most k, count k, here, stands))

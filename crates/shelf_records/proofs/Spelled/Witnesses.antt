@@ -3,7 +3,7 @@ use Rattle.std.proofs.Common.{pos, ◌≡◌, ℕ, ◌≤◌, false, None, List,
 use Rattle.std.specs.Prelude.{◌<◌, ◌%◌}
 use Rattle.etagere_base.specs.declared.frames.Frame as frames
 use Rattle.etagere_base.specs.declared.faults.RestoreFault.TheVariants.{Frame, Counts, Link, Shelves, Runs, Neighbours, FreeList, Sharing, Unused, Space, Memory}
-use Rattle.shelf_records.specs.Chains.{IsPileIn, LeadsBack}
+use Rattle.shelf_records.specs.Chains.{IsListIn, LeadsBack}
 use Rattle.etagere_links.specs.Edits.{link_at}
 use Rattle.etagere_links.proofs.WalkedLists.{walk_by-fits}
 use Rattle.shelf_records.specs.Records.{free_list, item_chain, shelf_chain}
@@ -153,7 +153,7 @@ linked-fit records few_shelves few_items linked =
     let each = entries-fit records few_items (shelf_walk records).met linked.entries in
     record {
       shelves = walk_by-fits shelf_chain.next records.shelves records.first_shelf few_shelves
-          (subst (λ (ns : List ℕ). IsPileIn shelf_chain records.shelves records.first_shelf ns)
+          (subst (λ (ns : List ℕ). IsListIn shelf_chain records.shelves records.first_shelf ns)
           (walked-numbers records (shelf_walk records).met) linked.shelves.forward);
       unused_shelves = walk_by-fits shelf_chain.next records.shelves records.unused_shelves few_shelves linked.unused_shelves;
       unused_items = walk_by-fits item_chain.next records.items records.unused_items few_items linked.unused_items;

@@ -2,7 +2,7 @@ use Rattle.std.proofs.Common.{◌≡◌, ℕ, Option, None, List, ◌∷◌, ◌
 use Rattle.std.specs.Prelude.{option_and_then}
 use Rattle.etagere_links.specs.Edits.{link_at}
 use Rattle.shelf_records.specs.ListEdits.{first_without, unlinked}
-use Rattle.shelf_records.specs.Chains.{IsChainIn, IsPileIn}
+use Rattle.shelf_records.specs.Chains.{IsChainIn, IsListIn}
 use Rattle.shelf_records.specs.Families.{Family, IsFamily}
 use Rattle.shelf_records.specs.Laws.{EditsAList}
 use Rattle.shelf_records.specs.ListEnds.{first_or, last_or}
@@ -35,7 +35,7 @@ edits family laws =
       makes_unused = λ records top numbers number spelled outside.
           made_unused-spells family laws records top numbers number outside.there outside.absent spelled;
       takes_off_top = λ records top number numbers spelled.
-          (spelled.0, subst (λ (from : Option ℕ). IsPileIn family records (option_and_then (link_at family.next records) from) numbers) (sym spelled.0) spelled.1);
+          (spelled.0, subst (λ (from : Option ℕ). IsListIn family records (option_and_then (link_at family.next records) from) numbers) (sym spelled.0) spelled.1);
       takes_none = λ records top spelled.
           (spelled, subst (λ (from : Option ℕ). option_and_then (link_at family.next records) from ≡ None) (sym spelled) refl);
     }
