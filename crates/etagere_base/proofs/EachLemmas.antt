@@ -46,9 +46,9 @@ pub Each-middle : {X : Type 0} (P : X → Type 0) (xs : List X) (y : X) (ys : Li
 Each-middle P xs y ys each = (Each-back P xs (y ∷ ys) each).0
 
 -- the facts of the others, without the element in the middle
-pub Each-remove_place : {X : Type 0} (P : X → Type 0) (xs : List X) (y : X) (ys : List X)
+pub Each-remove_number : {X : Type 0} (P : X → Type 0) (xs : List X) (y : X) (ys : List X)
     → AllByRecursion P (xs ++ y ∷ ys) → AllByRecursion P (xs ++ ys)
-Each-remove_place P xs y ys each =
+Each-remove_number P xs y ys each =
     Each-append P xs ys (Each-front P xs (y ∷ ys) each) (Each-back P xs (y ∷ ys) each).1
 
 -- a fact of each stays with those that pass a test

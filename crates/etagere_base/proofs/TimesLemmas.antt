@@ -5,7 +5,7 @@ use Rattle.std.specs.List.{flat_map, list_any}
 use Rattle.std.specs.Prelude.{find, not, ◌==◌, nat_lt}
 use Rattle.etagere_base.specs.Lists.{times, total}
 use Rattle.etagere_base.proofs.Totals.{total-append}
-use Rattle.etagere_base.specs.Lists.{remove_place, replace_place}
+use Rattle.etagere_base.specs.Lists.{remove_number, replace_number}
 
 -- a number stands in the list that it is put in front of
 pub times-here : (n : ℕ) (xs : List ℕ) → times n (n ∷ xs) ≡ 1 + times n xs
@@ -42,42 +42,42 @@ find-stands test (y ∷ ys) x h = by_test (test y) refl h (find-stands test ys x
     by_test false e k later = let found = later k in (found.0, omega (arith, found.1))
 
 -- a number that does not stand in a list is not replaced
-replace_place-absent : (n new : ℕ) (ns : List ℕ) → times n ns ≡ 0 → replace_place n new ns ≡ ns
-replace_place-absent n new [] h = refl
-replace_place-absent n new (m ∷ ms) h =
-    let rest : replace_place n new ms ≡ ms = replace_place-absent n new ms (omega (arith, h)) in
+replace_number-absent : (n new : ℕ) (ns : List ℕ) → times n ns ≡ 0 → replace_number n new ns ≡ ns
+replace_number-absent n new [] h = refl
+replace_number-absent n new (m ∷ ms) h =
+    let rest : replace_number n new ms ≡ ms = replace_number-absent n new ms (omega (arith, h)) in
     let other : (m == n) ≡ false = grind arith in
     simp (other, rest) refl
 
 -- a number that does not stand in a list is not left out
-remove_place-absent : (n : ℕ) (ns : List ℕ) → times n ns ≡ 0 → remove_place n ns ≡ ns
-remove_place-absent n [] h = refl
-remove_place-absent n (m ∷ ms) h =
-    let rest : remove_place n ms ≡ ms = remove_place-absent n ms (omega (arith, h)) in
+remove_number-absent : (n : ℕ) (ns : List ℕ) → times n ns ≡ 0 → remove_number n ns ≡ ns
+remove_number-absent n [] h = refl
+remove_number-absent n (m ∷ ms) h =
+    let rest : remove_number n ms ≡ ms = remove_number-absent n ms (omega (arith, h)) in
     let other : (m == n) ≡ false = grind arith in
     simp (other, rest) refl
 
 -- how often a number stands in a list after one that stood there once was replaced
-pub times-replace_place : (k n new : ℕ) (ns : List ℕ) → times n ns ≡ 1 → times k (replace_place n new ns) + hit n k ≡ times k ns + hit new k
-times-replace_place k n new [] h = cc
-times-replace_place k n new (m ∷ ms) h = by_test (m == n) refl (times-replace_place k n new ms)
+pub times-replace_number : (k n new : ℕ) (ns : List ℕ) → times n ns ≡ 1 → times k (replace_number n new ns) + hit n k ≡ times k ns + hit new k
+times-replace_number k n new [] h = cc
+times-replace_number k n new (m ∷ ms) h = by_test (m == n) refl (times-replace_number k n new ms)
   where
-    by_test : (b : Bool) → (m == n) ≡ b → (times n ms ≡ 1 → times k (replace_place n new ms) + hit n k ≡ times k ms + hit new k) → times k (cond b new m ∷ replace_place n new ms) + hit n k ≡ times k (m ∷ ms) + hit new k
+    by_test : (b : Bool) → (m == n) ≡ b → (times n ms ≡ 1 → times k (replace_number n new ms) + hit n k ≡ times k ms + hit new k) → times k (cond b new m ∷ replace_number n new ms) + hit n k ≡ times k (m ∷ ms) + hit new k
     by_test true e later =
         let same : m ≡ n = grind arith in
-        let rest : replace_place n new ms ≡ ms = replace_place-absent n new ms (grind arith) in
+        let rest : replace_number n new ms ≡ ms = replace_number-absent n new ms (grind arith) in
         rw (same, rest) (omega arith)
     by_test false e later = omega (arith, later (grind arith))
 
 -- how often a number stands in a list after one that stood there once was left out
-pub times-remove_place : (k n : ℕ) (ns : List ℕ) → times n ns ≡ 1 → times k (remove_place n ns) + hit n k ≡ times k ns
-times-remove_place k n [] h = cc
-times-remove_place k n (m ∷ ms) h = by_test (m == n) refl (times-remove_place k n ms)
+pub times-remove_number : (k n : ℕ) (ns : List ℕ) → times n ns ≡ 1 → times k (remove_number n ns) + hit n k ≡ times k ns
+times-remove_number k n [] h = cc
+times-remove_number k n (m ∷ ms) h = by_test (m == n) refl (times-remove_number k n ms)
   where
-    by_test : (b : Bool) → (m == n) ≡ b → (times n ms ≡ 1 → times k (remove_place n ms) + hit n k ≡ times k ms) → times k (cond (not b) (m ∷ remove_place n ms) (remove_place n ms)) + hit n k ≡ times k (m ∷ ms)
+    by_test : (b : Bool) → (m == n) ≡ b → (times n ms ≡ 1 → times k (remove_number n ms) + hit n k ≡ times k ms) → times k (cond (not b) (m ∷ remove_number n ms) (remove_number n ms)) + hit n k ≡ times k (m ∷ ms)
     by_test true e later =
         let same : m ≡ n = grind arith in
-        let rest : remove_place n ms ≡ ms = remove_place-absent n ms (grind arith) in
+        let rest : remove_number n ms ≡ ms = remove_number-absent n ms (grind arith) in
         rw (same, rest) (omega arith)
     by_test false e later = omega (arith, later (grind arith))
 

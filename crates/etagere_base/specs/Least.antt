@@ -6,7 +6,7 @@ pub record Found : Type 0 where
   pub number : ℕ
   pub rank : ℕ
 
--- what was found, seen from one place further to the left
+-- what was found, seen from one position further to the left
 abbrev pub one_later : Found → Found
 one_later found = record { number = suc found.number; rank = found.rank }
 

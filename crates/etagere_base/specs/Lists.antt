@@ -1,4 +1,4 @@
--- Plain lists: totals, edits at one place, and facts of neighbours and pairs.
+-- Plain lists: totals, edits of one element, and facts of neighbours and pairs.
 use Rattle.std.specs.Prelude.{◌≡◌, ℕ, zero, suc, ◌+◌, Bool, false, not, List, [], ◌∷◌, ◌++◌, filter, map, ◌==◌, if◌then◌else◌}
 
 -- a measure of the elements, added up
@@ -38,9 +38,9 @@ NoNeighbours touch (x ∷ []) = Unit {0}
 NoNeighbours touch (x ∷ y ∷ ys) = (touch x y ≡ false) × NoNeighbours touch (y ∷ ys)
 
 -- the list without a number
-abbrev pub remove_place : ℕ → List ℕ → List ℕ
-remove_place n ns = filter (λ m. not (m == n)) ns
+abbrev pub remove_number : ℕ → List ℕ → List ℕ
+remove_number n ns = filter (λ m. not (m == n)) ns
 
 -- the list with a number replaced by another
-abbrev pub replace_place : ℕ → ℕ → List ℕ → List ℕ
-replace_place n new ns = map (λ m. if m == n then new else m) ns
+abbrev pub replace_number : ℕ → ℕ → List ℕ → List ℕ
+replace_number n new ns = map (λ m. if m == n then new else m) ns

@@ -1,4 +1,4 @@
--- Merging at one place of a list, which is all that a return has to do.
+-- Merging at one position of a list, which is all that a return has to do.
 use Rattle.std.specs.Prelude.{ℕ, zero, suc, Bool, List, [], ◌∷◌, if◌then◌else◌}
 
 -- the element of this number and the one after it become one where the two touch

@@ -23,9 +23,9 @@ struct Argument {
 /// How an argument is given.
 #[derive(Clone, Copy)]
 enum Kind {
-    /// By its place among the words.
+    /// By its position among the words.
     Word,
-    /// By its place among the words, and it has to be there.
+    /// By its position among the words, and it has to be there.
     Needed,
     /// By its name behind `--`, without a value.
     Flag,
@@ -195,7 +195,7 @@ fn given<'a>(alloc: Global, argument: &Argument) -> Arg<'a> {
     }
 }
 
-/// An argument that is given by its place.
+/// An argument that is given by its position.
 fn new_arg<'a>(alloc: Global, argument: &Argument) -> Arg<'a> {
     Arg::new(alloc, argument.name)
         .help(argument.help)

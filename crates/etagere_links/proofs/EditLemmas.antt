@@ -1,9 +1,9 @@
--- Changing one element of a list is writing to its place.
+-- Changing one element of a list is writing to its position.
 use Rattle.std.proofs.Common.{◌≡◌, ℕ, zero, suc, ◌<◌, ◌≤◌, Some, Option, List, [], ◌∷◌, length, get_or, refl, ap, arith, sym}
 use Rattle.std.proofs.Math.ListN.{set}
 use Rattle.etagere_links.specs.Edits.{changed_at, changed_by}
 
--- a write of the changed element to its place
+-- a write of the changed element to its position
 pub set-changed : {T : Type 0} (change : T → T) (xs : List T) (number : ℕ) (d : T) → number < length xs → set xs number (change (get_or xs number d)) ≡ changed_at number change xs
 set-changed change [] number d within = absurd (omega arith)
 set-changed change (y ∷ ys) zero d within = refl
@@ -15,7 +15,7 @@ changed_at-past change [] number past = refl
 changed_at-past change (y ∷ ys) zero past = absurd (omega arith)
 changed_at-past change (y ∷ ys) (suc number) past = ap (λ zs. y ∷ zs) (changed_at-past change ys number (omega arith))
 
--- a write of the changed element to the place that a link names
+-- a write of the changed element to the position that a link names
 pub set-changed_by : {T : Type 0} (change : T → T) (xs : List T) (link : Option ℕ) (number : ℕ) (y d : T) → link ≡ Some number → number < length xs → y ≡ change (get_or xs number d) → set xs number y ≡ changed_by link change xs
 set-changed_by change xs link number y d names within e = rw (names, e) (set-changed change xs number d within)
 

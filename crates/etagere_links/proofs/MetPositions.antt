@@ -11,14 +11,14 @@ use Rattle.std.specs.Prelude.{◌==◌, nat_lt}
 use Rattle.etagere_links.specs.Private.Positions.{ArePositions}
 use Rattle.etagere_links.proofs.WalkSteps.{has}
 
--- a number at a place stands in the list
+-- a number at a position stands in the list
 pub has-at : (numbers : List ℕ) (position number : ℕ) → position < length numbers → get_or numbers position 0 ≡ number
     → has number numbers ≡ true
 has-at [] position number within e = absurd (omega arith)
 has-at (n ∷ ns) zero number within e = grind arith
 has-at (n ∷ ns) (suc position) number within e = grind (arith, has-at ns position number (omega arith) e)
 
--- a number that stands in a list does so at a place
+-- a number that stands in a list does so at a position
 record IsAt (numbers : List ℕ) (number : ℕ) : Type 0 where
   position : ℕ
   within : position < length numbers
@@ -34,7 +34,7 @@ has-position (n ∷ ns) number h = by_test (n == number) refl (has-position ns n
         let rest = later (grind arith) in
         record { position = suc rest.position; within = omega (arith, rest.within); is = rest.is }
 
--- the place noted for a number that stands in the list is among the list's, and has it
+-- the position noted for a number that stands in the list is one of the list's, and has it
 pub has-noted : (positions met : List ℕ) (number : ℕ) → ArePositions positions met → has number met ≡ true
     → (get_or positions number 0 < length met) × (get_or met (get_or positions number 0) 0 ≡ number)
 has-noted positions met number at_positions h =
@@ -42,7 +42,7 @@ has-noted positions met number at_positions h =
     let noted : get_or positions number 0 ≡ found.position = ap (λ (n : ℕ). get_or positions n 0) (sym found.is) ∙ at_positions found.position found.within in
     (rw noted found.within, rw noted found.is)
 
--- the places after one more was met that was not met before
+-- the positions after one more was met that was not met before
 pub at_positions-more : (positions met : List ℕ) (number position : ℕ) → number < length positions → position ≡ length met
     → has number met ≡ false → ArePositions positions met → ArePositions (set positions number position) (met ++ number ∷ [])
 at_positions-more positions met number position within last fresh at_positions k below = by_test (k == length met) refl
@@ -58,7 +58,7 @@ at_positions-more positions met number position within last fresh at_positions k
         let other : get_or met k 0 ≢ number = λ same. let found = has-at met k number before same in absurd (cc) in
         rw is (get_or-set_other positions number (get_or met k 0) position 0 other ∙ at_positions k before)
 
--- where the place noted is one of those that were met, it has the number exactly where that was met
+-- where the position noted is one of those that were met, it has the number exactly where that was met
 pub noted-within : (positions met : List ℕ) (position number : ℕ) → position ≡ get_or positions number 0 → position < length met
     → ArePositions positions met → (get_or met position 0 == number) ≡ has number met
 noted-within positions met position number noted within at_positions = by_test (has number met) refl

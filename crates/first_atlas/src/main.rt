@@ -6,12 +6,12 @@ use etagere::{AtlasAllocator, Point, size2};
 
 fn main(rt: HostRuntime) -> Result<()> {
     let mut atlas = AtlasAllocator::new(rt.alloc(), size2(1000, 1000))?;
-    let corner = place_three(&mut atlas)?;
+    let corner = allocate_three(&mut atlas)?;
     println!(rt; "{} {}", corner.x, corner.y)?;
     Ok(())
 }
 
-fn place_three(atlas: &mut AtlasAllocator) -> Result<Point> {
+fn allocate_three(atlas: &mut AtlasAllocator) -> Result<Point> {
     let first = atlas.allocate(size2(100, 100))?.context("no room")?;
     atlas.allocate(size2(900, 200))?.context("no room")?;
     atlas.deallocate(first.id)?;

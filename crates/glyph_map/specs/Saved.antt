@@ -26,7 +26,7 @@ module _ {K V : Type 0} where
     pub is_cache : unkeyed cache ≡ cache_of state
     pub pairs_are : pairs_of state.entries ≡ pairs
 
-  -- the key that stands at this place stands behind it too
+  -- the key that stands at this position stands behind it too
   pub record StandsTwice (eq : K → K → Bool) (pairs : List (K × V)) (index : ℕ) : Type 0 where
     pub pair : K × V
     pub found : slice_get pairs index ≡ Some pair

@@ -1,5 +1,5 @@
-//! What is saved of a map, whose keys go by their places; and keys and values for a map that is restored: each goes under
-//! the number that its place in the snapshot has, or all come back.
+//! What is saved of a map, whose keys go by their positions; and keys and values for a map that is restored: each goes
+//! under the number that its position in the snapshot has, or all come back.
 //!
 //! Definitions: `Saved` for the rules, `Private.Numbering` and `Private.Entering` for what stands under which number.
 
@@ -19,7 +19,7 @@ use lru::LruCache;
 use std::alloc::{AllocError, Global};
 use std::hash::Hash;
 
-/// Saved keys in the same order, with numbers from 0 on in place of the keys.
+/// Saved keys in the same order, with numbers from 0 on instead of the keys.
 pub(crate) fn numbered(alloc: Global, saved: &[SavedKey]) -> Result<Vec<SavedKey>, AllocError>
     ensures { IfOk result (λ keys. keys.items ≡ numbered_from 0 saved.now) }
 {

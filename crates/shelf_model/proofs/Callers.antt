@@ -17,7 +17,7 @@ use Rattle.etagere_base.specs.Rectangles.{AreApart, SharesNone}
 use Rattle.etagere_base.specs.Sides.{side}
 use Rattle.etagere_base.proofs.AcceptedFrames.{accepted-frame}
 use Rattle.etagere_base.proofs.FirstFound.{is_some-find}
-use Rattle.etagere_base.proofs.EachLemmas.{Each-append, Each-back, Each-both, Each-front, Each-remove_place, Each-weaken}
+use Rattle.etagere_base.proofs.EachLemmas.{Each-append, Each-back, Each-both, Each-front, Each-remove_number, Each-weaken}
 use Rattle.etagere_base.proofs.TimesLemmas.{times-append}
 use Rattle.shelf_model.proofs.Allocations.EqualCounts.{times-length}
 pub use Rattle.shelf_model.proofs.Taken.Allocated.{Allocated}
@@ -199,7 +199,7 @@ Each-added P old new added adds each here =
 Each-removed : (P : Allocation → Type 0) (old new : List Allocation) (added : Allocation)
     → Adds old added new → AllByRecursion P new → AllByRecursion P old
 Each-removed P old new added adds each =
-    subst (AllByRecursion P) (sym adds.before) (Each-remove_place P adds.front added adds.back (subst (AllByRecursion P) adds.after each))
+    subst (AllByRecursion P) (sym adds.before) (Each-remove_number P adds.front added adds.back (subst (AllByRecursion P) adds.after each))
 
 -- what is allocated under an id is allocated
 pub found-allocated : (state : AtlasState) (allocation : Allocation)

@@ -4,7 +4,7 @@ use Rattle.etagere_base.specs.declared.frames.Frame.{Frame}
 use Rattle.shelf_model.specs.Merging.{merged}
 use Rattle.shelf_model.specs.Places.{column_place}
 use Rattle.shelf_model.specs.State.{Item, Shelf, AtlasState, is_free, total_width}
-use Rattle.etagere_base.specs.Lists.{remove_place}
+use Rattle.etagere_base.specs.Lists.{remove_number}
 
 -- the item is allocated by this id
 abbrev pub has_id : ℕ → Option ℕ → Bool
@@ -41,7 +41,7 @@ freed (suc n) (item ∷ items) = item ∷ freed n items
 abbrev pub returned_free_list : ℕ → List Item → ℕ → List ℕ → List ℕ
 returned_free_list here items n free_list =
     let others = if is_free_at (suc n) items
-    then remove_place (place_at here items (suc n)) free_list else free_list in
+    then remove_number (place_at here items (suc n)) free_list else free_list in
     if is_free_before n items then others else place_at here items n ∷ others
 
 -- the shelf with the item of this number free, and the free list that it has once its neighbours

@@ -2,7 +2,7 @@
 use Rattle.std.specs.Prelude.{ℕ, ◌+◌, ◌-◌, max, None, Some, List, [], ◌∷◌, if◌then◌else◌}
 use Rattle.etagere_base.specs.declared.frames.Frame.{Frame}
 use Rattle.shelf_model.specs.Choice.{Placement}
-use Rattle.etagere_base.specs.Lists.{remove_place, replace_place, replaced_at}
+use Rattle.etagere_base.specs.Lists.{remove_number, replace_number, replaced_at}
 use Rattle.shelf_model.specs.State.{Item, Shelf, AtlasState, empty_shelf, items_in_use}
 
 -- what becomes of the item of a placement: what is given of it, and where it is split the rest,
@@ -17,8 +17,8 @@ item_pieces placement id item =
 abbrev pub taken_free_list : Placement → List ℕ → List ℕ
 taken_free_list placement free_list =
     if placement.splits_item
-    then replace_place placement.along (placement.along + placement.width) free_list
-    else remove_place placement.along free_list
+    then replace_number placement.along (placement.along + placement.width) free_list
+    else remove_number placement.along free_list
 
 -- the shelf of a placement after it was taken
 abbrev pub taken_shelf : Placement → ℕ → Shelf → Shelf

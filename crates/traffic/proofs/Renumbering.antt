@@ -93,8 +93,8 @@ module _ (new_position : ℕ → ℕ) (one : (m n : ℕ) → new_position m ≡ 
       first-at position entries ∙ ap first_of (are.same position) ∙ sym (first-at (new_position position) others)
 
   -- a test of two positions
-  test-place : (m n : ℕ) → (new_position m == new_position n) ≡ (m == n)
-  test-place m n = by_test (m == n) refl
+  test-position : (m n : ℕ) → (new_position m == new_position n) ≡ (m == n)
+  test-position m n = by_test (m == n) refl
     where
       by_test : (b : Bool) → (m == n) ≡ b → (new_position m == new_position n) ≡ b
       by_test true is = let same : m ≡ n = eqb-true m n is in eq-eqb (new_position m) (new_position n) (ap new_position same)
@@ -113,7 +113,7 @@ module _ (new_position : ℕ → ℕ) (one : (m n : ℕ) → new_position m ≡ 
         same = λ n.
             all-append n entries (record { position = here; allocation = allocation })
             ∙ ap (λ (l : List Allocation). l ++ cond (here == n) (allocation ∷ []) []) (are.same n)
-            ∙ ap (λ (b : Bool). all_at (new_position n) others ++ cond b (allocation ∷ []) []) (sym (test-place here n))
+            ∙ ap (λ (b : Bool). all_at (new_position n) others ++ cond b (allocation ∷ []) []) (sym (test-position here n))
             ∙ sym (all-append (new_position n) others (record { position = new_position here; allocation = allocation }));
       }
 
@@ -129,8 +129,8 @@ module _ (new_position : ℕ → ℕ) (one : (m n : ℕ) → new_position m ≡ 
           (all-without-here gone entries ∙ ap but_first (are.same gone) ∙ sym (all-without-here (new_position gone) others))
       by_test n false is =
           let apart : gone ≢ n = λ e. absurd (grind (arith, eq-eqb)) in
-          let places_apart : new_position gone ≢ new_position n = λ e. apart (one gone n e) in
-          all-without-other gone n entries apart ∙ are.same n ∙ sym (all-without-other (new_position gone) (new_position n) others places_apart)
+          let positions_apart : new_position gone ≢ new_position n = λ e. apart (one gone n e) in
+          all-without-other gone n entries apart ∙ are.same n ∙ sym (all-without-other (new_position gone) (new_position n) others positions_apart)
 
   -- what a renumbered command does to what is live
   renumbered_effect : Effect → Effect

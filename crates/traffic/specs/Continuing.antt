@@ -27,9 +27,9 @@ IsCutAnywhere {S} {C} kind =
 
 -- a command that names another position, which depends on the one that it names
 abbrev pub renumbered : (ℕ → ℕ) → AtlasCommand → AtlasCommand
-renumbered place (Return position) = Return (place position)
-renumbered place (Look position) = Look (place position)
-renumbered place command = command
+renumbered new_position (Return position) = Return (new_position position)
+renumbered new_position (Look position) = Look (new_position position)
+renumbered new_position command = command
 
 -- the position of the entry that has this id; 0 where there is none
 abbrev pub position_under : ℕ → List Entry → ℕ

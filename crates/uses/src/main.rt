@@ -20,7 +20,7 @@ use glyph_shelf::GlyphCache;
 use pages::{PAGE, PagedAllocation, allocate_on_pages};
 use recording::Recorder;
 use saving::reopen;
-use sheet::place_sheet;
+use sheet::allocate_sheet;
 use std::env;
 use std::num::NonZeroUsize;
 use texture::pixel_offset;
@@ -109,7 +109,7 @@ fn show_sheet(rt: &(impl Print + AllocGlobal)) -> Result<()> {
 
 fn show_placed(rt: &(impl Print + AllocGlobal), atlas: &mut AtlasAllocator) -> Result<()> {
     let sizes = [size2(32, 32), size2(16, 20), size2(20, 20), size2(64, 8)];
-    let allocations = place_sheet(rt.alloc(), atlas, &sizes)?;
+    let allocations = allocate_sheet(rt.alloc(), atlas, &sizes)?;
     show_allocations(rt, &allocations, sizes.len())
 }
 

@@ -15,7 +15,7 @@ use std::alloc::{AllocError, Global};
 ///
 /// `Err` comes only where memory was refused, and leaves in the atlas what was placed until then. Takes memory for the
 /// places, and that of the allocations.
-pub fn place_sheet(
+pub fn allocate_sheet(
     alloc: Global,
     atlas: &mut AtlasAllocator,
     sizes: &[Size],

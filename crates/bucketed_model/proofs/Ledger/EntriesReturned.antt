@@ -3,7 +3,7 @@ use Rattle.std.proofs.Common.{◌≡◌, ℕ, ◌+◌, ◌-◌, ◌≤◌, Bool,
 use Rattle.std.proofs.lemmas.Bool.{cond_both, leb-true}
 use Rattle.std.specs.Prelude.{nat_le}
 use Rattle.std.specs.List.{AllByRecursion}
-use Rattle.etagere_base.proofs.EachLemmas.{Each-both, Each-remove_place, Each-weaken}
+use Rattle.etagere_base.proofs.EachLemmas.{Each-both, Each-remove_number, Each-weaken}
 use Rattle.etagere_base.specs.declared.frames.Frame.{Frame}
 use Rattle.etagere_base.specs.declared.ids.Allocation.{Allocation}
 use Rattle.bucketed_model.specs.Returning.{emptied_bucket, is_same_tag, lessened_bucket, returned_bucket, tag_of}
@@ -16,7 +16,7 @@ use Rattle.bucketed_model.proofs.Ledger.EntriesTaken.{live-one, stands-one}
 order-without : (frame : Frame) (one : List Allocation) (e : Allocation) (other : List Allocation) → AreInOrder frame (one ++ e ∷ other) → AreInOrder frame (one ++ other)
 order-without frame [] e other order = order.1
 order-without frame (x ∷ one) e other order =
-    (Each-remove_place (λ (later : Allocation). tag_of x.id ≡ tag_of later.id → Precedes frame x later) one e other order.0, order-without frame one e other order.1)
+    (Each-remove_number (λ (later : Allocation). tag_of x.id ≡ tag_of later.id → Precedes frame x later) one e other order.0, order-without frame one e other order.1)
 
 -- where no entry has a tag, each has another
 others-entries : (tag : Tag) (entries : List Allocation) → entries_of tag entries ≡ 0 → AllByRecursion (λ (e : Allocation). tag_of e.id ≡ tag → ⊥) entries
@@ -102,7 +102,7 @@ in_buckets-emptied frame front back across height b one e other none_front none_
     let own = counts-own front back across height b one other (none_front b.tag refl) (none_back b.tag refl) (counted b.tag) in
     let live : b.live ≡ 1 = omega arith in
     let others = Each-both (IsInABucket frame (front ++ (middle ++ back))) (λ (a : Allocation). tag_of a.id ≡ b.tag → ⊥) (one ++ other)
-    (Each-remove_place (IsInABucket frame (front ++ (middle ++ back))) one e other in_buckets.placed) (others-entries b.tag (one ++ other) (omega (arith, own, live))) in
+    (Each-remove_number (IsInABucket frame (front ++ (middle ++ back))) one e other in_buckets.placed) (others-entries b.tag (one ++ other) (omega (arith, own, live))) in
     record {
       counted = λ tag. omega (arith, live_of-append tag front back, counts tag (is_same_tag tag b.tag) live (counted tag));
       placed = Each-weaken (λ (a : Allocation). IsInABucket frame (front ++ (middle ++ back)) a × (tag_of a.id ≡ b.tag → ⊥)) (IsInABucket frame (front ++ back)) (one ++ other)
@@ -146,7 +146,7 @@ in_buckets-lessened frame front back across height b one e other same many in_bu
       );
       placed = Each-weaken (IsInABucket frame (front ++ (middle ++ back))) (IsInABucket frame (front ++ less ∷ back)) (one ++ other)
           (λ (a : Allocation) (h : IsInABucket frame (front ++ (middle ++ back)) a). stays-lessened frame front back across height b a h)
-          (Each-remove_place (IsInABucket frame (front ++ (middle ++ back))) one e other in_buckets.placed);
+          (Each-remove_number (IsInABucket frame (front ++ (middle ++ back))) one e other in_buckets.placed);
       ordered = order-without frame one e other in_buckets.ordered;
     } in
     subst (λ (bs : List BusyBucket). AreInBuckets frame (front ++ (bs ++ back)) (one ++ other)) (sym (busy-lessened across height b many)) now

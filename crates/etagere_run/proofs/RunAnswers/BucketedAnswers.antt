@@ -7,7 +7,7 @@ use Rattle.etagere_base.specs.declared.geometry.Size.{Size}
 use Rattle.etagere_base.specs.declared.ids.Allocation.{Allocation}
 use Rattle.std.specs.List.{AllByRecursion}
 use Rattle.etagere_base.specs.Rectangles.{IsAligned}
-use Rattle.etagere_base.proofs.EachLemmas.{Each-append, Each-middle, Each-remove_place, Each-weaken}
+use Rattle.etagere_base.proofs.EachLemmas.{Each-append, Each-middle, Each-remove_number, Each-weaken}
 use Rattle.bucketed_model.specs.Atlas.{Allocates, Grows}
 use Rattle.bucketed_model.specs.Frames.{IsBucketedFrame}
 use Rattle.bucketed_model.specs.Growing.{grown_frame}
@@ -118,7 +118,7 @@ gone_back position other allocation entries later old new tied is new_is later_i
       tied = rw later_is (record {
         tied = rw (adds.before, new_is) (tied-returned adds.front allocation adds.back old before);
         aligned = rw adds.before (Each-aligned old.frame new.frame (adds.front ++ adds.back) same
-            (Each-remove_place (IsAlignedIn old.frame) adds.front allocation adds.back aligned));
+            (Each-remove_number (IsAlignedIn old.frame) adds.front allocation adds.back aligned));
       });
     }
 

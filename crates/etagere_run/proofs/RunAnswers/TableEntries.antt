@@ -1,4 +1,4 @@
--- The table of a ledger and its entries: a place has the entry of its position, and takes it out alone.
+-- The table of a ledger and its entries: a slot has the entry of its position, and takes it out alone.
 use Rattle.std.proofs.Common.{◌≡◌, ℕ, zero, suc, ◌+◌, ◌-◌, ◌<◌, ◌≤◌, true, false, ◌==◌, Option, None, Some, List, [], ◌∷◌, ◌++◌, drop, length, get_or, refl, ap, sym, ◌∙◌, ⊎_elim, arith}
 use Rattle.std.specs.Prelude.{IfNone, IfSome, slice_get, slice_set}
 use Rattle.std.proofs.lemmas.Bool.Decides.{nat_tests}
@@ -11,7 +11,7 @@ use Rattle.etagere_run.specs.Answers.Private.Given.{with_entry}
 use Rattle.etagere_run.specs.Answers.Private.Ids.{id_in, ids_in}
 use Rattle.etagere_run.specs.Answers.Private.Tables.{entries_above, entries_from}
 
--- what a place has that may be there
+-- what a slot has that may be there
 abbrev given_in : Option (Option Allocation) → Option Allocation
 given_in None = None
 given_in (Some given) = given
@@ -26,7 +26,7 @@ later_position m n less = grind (arith, nat_tests)
 same_position : (m n : ℕ) → m ≡ n → (m == n) ≡ true
 same_position m n same = grind (arith, nat_tests)
 
--- a place behind a front
+-- a slot behind a front
 slice_get-drop : {X : Type 0} (n k : ℕ) (xs : List X) → slice_get (drop n xs) k ≡ slice_get xs (n + k)
 slice_get-drop zero k xs = ap (slice_get xs) (omega arith)
 slice_get-drop (suc n) k [] = refl
@@ -34,7 +34,7 @@ slice_get-drop (suc n) k (x ∷ xs) =
     let next : suc n + k ≡ suc (n + k) = omega arith in
     rw next (slice_get-drop n k xs)
 
--- nothing is live at a position before all places
+-- nothing is live at a position before all slots
 allocation_at-before : (position first : ℕ) (slots : List (Option Allocation)) → position < first
     → allocation_at position (entries_from first slots) ≡ None
 allocation_at-before position first [] before = refl
@@ -44,7 +44,7 @@ allocation_at-before position first (Some given ∷ slots) before =
     rw (later_position position first before)
     (allocation_at-before position (first + 1) slots (omega (arith, before)))
 
--- what is live at the position of a place is what it has
+-- what is live at the position of a slot is what it has
 allocation_at-from : (first n : ℕ) (slots : List (Option Allocation))
     → allocation_at (first + n) (entries_from first slots) ≡ given_in (slice_get slots n)
 allocation_at-from first n [] = refl
@@ -60,7 +60,7 @@ allocation_at-from first (suc n) (Some given ∷ slots) =
     rw (other_position first (first + suc n) (omega arith))
     (ap (λ (m : ℕ). allocation_at m (entries_from (first + 1) slots)) next ∙ allocation_at-from (first + 1) n slots)
 
--- taking out a position before all places takes nothing out
+-- taking out a position before all slots takes nothing out
 without-before : (position first : ℕ) (slots : List (Option Allocation)) → position < first
     → without position (entries_from first slots) ≡ entries_from first slots
 without-before position first [] before = refl
@@ -71,7 +71,7 @@ without-before position first (Some given ∷ slots) before =
     (ap (λ (l : List Entry). record { position = first; allocation = given } ∷ l)
     (without-before position (first + 1) slots (omega (arith, before))))
 
--- emptying a place takes out its position
+-- emptying a slot takes out its position
 without-from : (first n : ℕ) (slots : List (Option Allocation))
     → entries_from first (slice_set slots n None) ≡ without (first + n) (entries_from first slots)
 without-from first n [] = refl
@@ -88,7 +88,7 @@ without-from first (suc n) (Some given ∷ slots) =
     (ap (λ (l : List Entry). record { position = first; allocation = given } ∷ l)
     (without-from (first + 1) n slots ∙ ap (λ (m : ℕ). without m (entries_from (first + 1) slots)) (sym next)))
 
--- one more place adds what it has, last
+-- one more slot adds what it has, last
 more-from : (first : ℕ) (slots : List (Option Allocation)) (given : Option Allocation)
     → entries_from first (slots ++ given ∷ []) ≡ with_entry (first + length slots) given (entries_from first slots)
 more-from first [] None = refl
@@ -109,7 +109,7 @@ more-from first (Some here ∷ slots) given =
     behind None = refl
     behind (Some allocation) = refl
 
--- what a place above the floor has
+-- what a slot above the floor has
 pub allocation_at-slot : (floor position : ℕ) (slots : List (Option Allocation)) (given : Option Allocation)
     → floor ≤ position → position < length slots → given ≡ get_or slots position given
     → given ≡ allocation_at position (entries_above floor slots)
@@ -122,7 +122,7 @@ allocation_at-slot floor position slots given above within is =
     ∙ allocation_at-from floor (position - floor) (drop floor slots)
     ∙ ap given_in here)
 
--- nothing is live at a position below the floor, or past the places
+-- nothing is live at a position below the floor, or past the slots
 pub allocation_at-none : (floor position : ℕ) (slots : List (Option Allocation))
     → ¬ ((floor ≤ position) × (position < length slots))
     → None ≡ allocation_at position (entries_above floor slots)
@@ -139,7 +139,7 @@ allocation_at-none floor position slots none =
     ∙ ap given_in (slice_get-drop floor (position - floor) slots ∙ ap (slice_get slots) at ∙ slice_get_past slots position past)))
     (cases_lt position floor)
 
--- emptying a place above the floor takes out its position
+-- emptying a slot above the floor takes out its position
 pub without-slot : (floor position : ℕ) (slots : List (Option Allocation)) → floor ≤ position
     → entries_above floor (slice_set slots position None) ≡ without position (entries_above floor slots)
 without-slot floor position slots above =
@@ -149,7 +149,7 @@ without-slot floor position slots above =
     ∙ without-from floor (position - floor) (drop floor slots)
     ∙ ap (λ (n : ℕ). without n (entries_above floor slots)) at
 
--- one more place adds what it has, last
+-- one more slot adds what it has, last
 pub more-slots : (floor : ℕ) (slots : List (Option Allocation)) (given : Option Allocation) → floor ≤ length slots
     → entries_above floor (slots ++ given ∷ []) ≡ with_entry (length slots) given (entries_above floor slots)
 more-slots floor slots given within =
@@ -157,11 +157,11 @@ more-slots floor slots given within =
     ∙ more-from floor (drop floor slots) given
     ∙ ap (λ (n : ℕ). with_entry n given (entries_above floor slots)) (omega (arith, length-drop floor slots, within))
 
--- there are as many ids as places
+-- there are as many ids as slots
 pub as-many : (ids : List (Option ℕ)) (slots : List (Option Allocation)) → ids ≡ ids_in slots → length slots ≡ length ids
 as-many ids slots is = rw is (sym (length-map slots id_in))
 
--- the id that a place above the floor has
+-- the id that a slot above the floor has
 pub id_at-slot : (floor position : ℕ) (slots : List (Option Allocation)) (id : Option ℕ)
     → floor ≤ position → position < length slots → id ≡ get_or (ids_in slots) position id
     → id ≡ id_in (allocation_at position (entries_above floor slots))
@@ -171,7 +171,7 @@ id_at-slot floor position slots id above within is =
     is ∙ get_or-map id_in slots position None id within
     ∙ ap id_in (allocation_at-slot floor position slots given above within read)
 
--- no id is at a position below the floor, or past the places
+-- no id is at a position below the floor, or past the slots
 pub id_at-none : (floor position : ℕ) (slots : List (Option Allocation))
     → ¬ ((floor ≤ position) × (position < length slots))
     → None ≡ id_in (allocation_at position (entries_above floor slots))
@@ -188,7 +188,7 @@ pub none-of : (given : Option Allocation) → None ≡ id_in given → given ≡
 none-of None is = refl
 none-of (Some allocation) is = absurd (cc)
 
--- an empty place stays as it is when it is emptied
+-- an empty slot stays as it is when it is emptied
 pub emptied-none : (slots : List (Option Allocation)) (position : ℕ) (id : Option ℕ) → position < length slots
     → id ≡ get_or (ids_in slots) position id → id ≡ None → slice_set slots position None ≡ slots
 emptied-none slots position id within read none =
@@ -197,7 +197,7 @@ emptied-none slots position id within read none =
     let gone : given ≡ None = none-of given (sym none ∙ same) in
     ap (slice_set slots position) (sym gone) ∙ set-get_or slots position None
 
--- the ids of the places when one is emptied, and when there is one more
+-- the ids of the slots when one is emptied, and when there is one more
 pub ids-emptied : (ids after : List (Option ℕ)) (slots : List (Option Allocation)) (slot : ℕ) (id : Option ℕ) → ids ≡ ids_in slots
     → after ≡ slice_set ids slot id → id ≡ None → after ≡ ids_in (slice_set slots slot None)
 ids-emptied ids after slots slot id before is none =

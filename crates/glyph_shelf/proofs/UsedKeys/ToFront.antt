@@ -3,7 +3,7 @@ use Rattle.std.proofs.Common.{◌≡◌, ℕ, ◌+◌, ◌==◌, cond, List, ◌
 use Rattle.std.proofs.lemmas.List.{map-append}
 use Rattle.std.specs.List.{AllByRecursion}
 use Rattle.etagere_base.specs.Lists.{times}
-use Rattle.etagere_base.proofs.EachLemmas.{Each-middle, Each-remove_place}
+use Rattle.etagere_base.proofs.EachLemmas.{Each-middle, Each-remove_number}
 use Rattle.etagere_base.proofs.TimesLemmas.{times-append}
 use Rattle.glyph_shelf.proofs.UsedKeys.Entries.{Among}
 
@@ -13,7 +13,7 @@ module _ {X : Type 0} (others : List X) (one : X) (all : List X) (among : Among 
   each-front P each =
       let split = subst (AllByRecursion P) among.after each in (
         Each-middle P among.front one among.back split,
-        subst (AllByRecursion P) (sym among.before) (Each-remove_place P among.front one among.back split),
+        subst (AllByRecursion P) (sym among.before) (Each-remove_number P among.front one among.back split),
       )
 
   -- how often a number stands in the numbers of all

@@ -19,7 +19,7 @@ use Rattle.glyph_shelf.specs.Promises.{KeepsCachePromises}
 use Rattle.glyph_shelf.specs.Saved.{without_frame}
 use Rattle.moves.specs.Atlases.Arranging.{HasRoom, moved_from}
 use Rattle.moves.specs.declared.atlases.rearrangement.Move.{Move}
-use Rattle.moves.specs.Caches.Arranging.{HasMoved, IsLeftOut, key_at, key_left, key_move, keys_told, moved_cache, new_place}
+use Rattle.moves.specs.Caches.Arranging.{HasMoved, IsLeftOut, key_at, key_left, key_move, keys_told, moved_cache, new_allocation}
 use Rattle.moves.specs.Caches.Private.Following.{Follows, IsMovedInto}
 use Rattle.moves.specs.declared.caches.rearrangement.KeyMove.{KeyMove}
 use Rattle.moves.specs.declared.caches.rearrangement.UnplacedKey.{UnplacedKey}
@@ -122,9 +122,9 @@ module _ (old : CacheState) (moves : List Move) (unplaced : List Allocation) (at
       let found = each-map (IsFound all) (λ (m : Move). m.before) moves (Each-front (IsFound all) (moved_from moves) unplaced into.each.found) in
       let own = each-map (λ (p : ℕ × Allocation). under (moved_by_id moves) p.0 ≡ Some p.1) (λ (m : Move). (m.before.id, m.after)) moves
       (under-own (moved_by_id moves) (λ id. subst (λ (l : List ℕ). times id l ≤ 1) (sym (moved_by_id-ids moves)) (moved-once id))) in
-      let facts = Each-both (λ (m : Move). IsFound all m.before) (λ (m : Move). (new_place moves m.before.id ≡ Some m.after) × HasRoom m) moves found
-      (Each-both (λ (m : Move). new_place moves m.before.id ≡ Some m.after) HasRoom moves own rooms) in
-      each-filter_map (λ (m : Move). IsFound all m.before × ((new_place moves m.before.id ≡ Some m.after) × HasRoom m))
+      let facts = Each-both (λ (m : Move). IsFound all m.before) (λ (m : Move). (new_allocation moves m.before.id ≡ Some m.after) × HasRoom m) moves found
+      (Each-both (λ (m : Move). new_allocation moves m.before.id ≡ Some m.after) HasRoom moves own rooms) in
+      each-filter_map (λ (m : Move). IsFound all m.before × ((new_allocation moves m.before.id ≡ Some m.after) × HasRoom m))
       (HasMoved old (moved_cache old moves atlas)) (key_move old) moves
       (λ m told fact is.
       let named = mapped-some (λ (key : ℕ). record { key = key; before = m.before.rectangle; after = m.after.rectangle }) (key_at old m.before.id) told is in
@@ -144,11 +144,11 @@ module _ (old : CacheState) (moves : List Move) (unplaced : List Allocation) (at
   left-each =
       let all : List Allocation = allocations old.atlas in
       let found = Each-back (IsFound all) (moved_from moves) unplaced into.each.found in
-      let gone = Each-weaken (λ (a : Allocation). 1 ≤ times a.id (ids_of unplaced)) (λ (a : Allocation). new_place moves a.id ≡ None) unplaced
+      let gone = Each-weaken (λ (a : Allocation). 1 ≤ times a.id (ids_of unplaced)) (λ (a : Allocation). new_allocation moves a.id ≡ None) unplaced
       (λ a some. under-absent a.id (moved_by_id moves)
       (subst (λ (l : List ℕ). times a.id l ≡ 0) (sym (moved_by_id-ids moves)) (omega (arith, some, counted a.id, once a.id))))
       (each-map (λ (id : ℕ). 1 ≤ times id (ids_of unplaced)) (λ (a : Allocation). a.id) unplaced (present (ids_of unplaced))) in
-      each-filter_map (λ (a : Allocation). IsFound all a × (new_place moves a.id ≡ None))
+      each-filter_map (λ (a : Allocation). IsFound all a × (new_allocation moves a.id ≡ None))
       (IsLeftOut old (moved_cache old moves atlas)) (key_left old) unplaced
       (λ a told fact is.
       let named = mapped-some (λ (key : ℕ). record { key = key; rectangle = a.rectangle }) (key_at old a.id) told is in
@@ -160,7 +160,7 @@ module _ (old : CacheState) (moves : List Move) (unplaced : List Allocation) (at
         after = ap (option_map (λ (a : Allocation). a.rectangle)) now;
       } in
       subst (IsLeftOut old (moved_cache old moves atlas)) (sym named.2) left)
-      (Each-both (IsFound all) (λ (a : Allocation). new_place moves a.id ≡ None) unplaced found gone)
+      (Each-both (IsFound all) (λ (a : Allocation). new_allocation moves a.id ≡ None) unplaced found gone)
 
   -- so it is where the keys have followed
   module _ (told : List KeyMove) (left : List UnplacedKey) (new : CacheState) (follows : Follows old moves unplaced atlas told left new) where

@@ -11,7 +11,7 @@ use Rattle.etagere_base.specs.declared.ids.Allocation.{Allocation}
 use Rattle.shelf_model.specs.Callers.{AreTied, IsFound}
 use Rattle.moves.specs.Atlases.Arranging.{moved_from, moved_to}
 use Rattle.moves.specs.declared.atlases.rearrangement.Move.{Move}
-use Rattle.moves.specs.Caches.Arranging.{moved_entry, new_place}
+use Rattle.moves.specs.Caches.Arranging.{moved_entry, new_allocation}
 use Rattle.moves.proofs.MovedCaches.Found.{found-total, under, under-absent, under-each, weigh}
 
 abbrev pub Entries : Type 0
@@ -47,14 +47,14 @@ moved-ids : (moves : List Move) (id : ℕ) (es : Entries)
     ≡ total (λ (i : ℕ). weigh (λ (a : Allocation). hit a.id id) (under (moved_by_id moves) i)) (ids_of (values_of es))
 moved-ids moves id [] = refl
 moved-ids moves id (e ∷ es) =
-    by_place (under (moved_by_id moves) e.1.id) (total (λ (i : ℕ). weigh (λ (a : Allocation). hit a.id id) (under (moved_by_id moves) i)) (ids_of (values_of es)))
+    by_allocation (under (moved_by_id moves) e.1.id) (total (λ (i : ℕ). weigh (λ (a : Allocation). hit a.id id) (under (moved_by_id moves) i)) (ids_of (values_of es)))
     (moved-ids moves id es)
   where
-    by_place : (o : Option Allocation) (n : ℕ) → times id (ids_of (values_of (moved moves es))) ≡ n
+    by_allocation : (o : Option Allocation) (n : ℕ) → times id (ids_of (values_of (moved moves es))) ≡ n
         → times id (ids_of (values_of (cons_option (option_map (λ (after : Allocation). (e.0, after)) o) (moved moves es))))
         ≡ weigh (λ (a : Allocation). hit a.id id) o + n
-    by_place None n same = omega (arith, same)
-    by_place (Some a) n same = ap (λ (k : ℕ). hit a.id id + k) same
+    by_allocation None n same = omega (arith, same)
+    by_allocation (Some a) n same = ap (λ (k : ℕ). hit a.id id + k) same
 
 -- and among what moved
 moved_by_id-total : (moves : List Move) (id : ℕ) → total (λ (p : ℕ × Allocation). hit p.1.id id) (moved_by_id moves) ≡ times id (ids_of (moved_to moves))
@@ -71,12 +71,12 @@ moved-each : (P : Allocation → Type 0) (moves : List Move) (es : Entries) → 
     → AllByRecursion P (values_of (moved moves es))
 moved-each P moves [] each = tt
 moved-each P moves (e ∷ es) each =
-    by_place (under (moved_by_id moves) e.1.id) (under-each P e.1.id (moved_by_id moves) (each-moved_by_id P moves each)) (moved-each P moves es each)
+    by_allocation (under (moved_by_id moves) e.1.id) (under-each P e.1.id (moved_by_id moves) (each-moved_by_id P moves each)) (moved-each P moves es each)
   where
-    by_place : (o : Option Allocation) → IfSome o P → AllByRecursion P (values_of (moved moves es))
+    by_allocation : (o : Option Allocation) → IfSome o P → AllByRecursion P (values_of (moved moves es))
         → AllByRecursion P (values_of (cons_option (option_map (λ (after : Allocation). (e.0, after)) o) (moved moves es)))
-    by_place None some rest = rest
-    by_place (Some a) some rest = (some, rest)
+    by_allocation None some rest = rest
+    by_allocation (Some a) some rest = (some, rest)
 
 -- the entries that moved are all that is allocated, where what moved is, and each id that moved stands once among entries
 pub moved-tied : (moves : List Move) (es : Entries) (all : List Allocation) → AreTied (moved_to moves) all
@@ -98,21 +98,21 @@ moved-tied moves es all tied each once =
 -- no key stands more often than before, and there are no more
 pub moved-keys : (moves : List Move) (key : ℕ) (es : Entries) → times key (keys_of (moved moves es)) ≤ times key (keys_of es)
 moved-keys moves key [] = omega arith
-moved-keys moves key (e ∷ es) = by_place (under (moved_by_id moves) e.1.id) (moved-keys moves key es)
+moved-keys moves key (e ∷ es) = by_allocation (under (moved_by_id moves) e.1.id) (moved-keys moves key es)
   where
-    by_place : (o : Option Allocation) → times key (keys_of (moved moves es)) ≤ times key (keys_of es)
+    by_allocation : (o : Option Allocation) → times key (keys_of (moved moves es)) ≤ times key (keys_of es)
         → times key (keys_of (cons_option (option_map (λ (after : Allocation). (e.0, after)) o) (moved moves es))) ≤ times key (keys_of (e ∷ es))
-    by_place None rest = omega (arith, rest)
-    by_place (Some a) rest = omega (arith, rest)
+    by_allocation None rest = omega (arith, rest)
+    by_allocation (Some a) rest = omega (arith, rest)
 
 pub moved-length : (moves : List Move) (es : Entries) → length (moved moves es) ≤ length es
 moved-length moves [] = omega arith
-moved-length moves (e ∷ es) = by_place (under (moved_by_id moves) e.1.id) (moved-length moves es)
+moved-length moves (e ∷ es) = by_allocation (under (moved_by_id moves) e.1.id) (moved-length moves es)
   where
-    by_place : (o : Option Allocation) → length (moved moves es) ≤ length es
+    by_allocation : (o : Option Allocation) → length (moved moves es) ≤ length es
         → length (cons_option (option_map (λ (after : Allocation). (e.0, after)) o) (moved moves es)) ≤ length (e ∷ es)
-    by_place None rest = omega (arith, rest)
-    by_place (Some a) rest = omega (arith, rest)
+    by_allocation None rest = omega (arith, rest)
+    by_allocation (Some a) rest = omega (arith, rest)
 
 -- a key that is found stands there
 found-stands : (key : ℕ) (a : Allocation) (es : Entries) → lookup (nat_eq key) es ≡ Some a → 1 ≤ times key (keys_of es)
@@ -168,7 +168,7 @@ name-found all a key (e ∷ es) found each once is =
 
 -- an entry that moved is found where it is now
 pub moved-found : (moves : List Move) (key : ℕ) (before after : Allocation) (es : Entries) → lookup (nat_eq key) es ≡ Some before
-    → new_place moves before.id ≡ Some after → lookup (nat_eq key) (moved moves es) ≡ Some after
+    → new_allocation moves before.id ≡ Some after → lookup (nat_eq key) (moved moves es) ≡ Some after
 moved-found moves key before after [] found is = absurd (cc)
 moved-found moves key before after (e ∷ es) found is =
     by_test (nat_eq key e.0) refl found (λ h. moved-found moves key before after es h is)
@@ -184,13 +184,13 @@ moved-found moves key before after (e ∷ es) found is =
         → lookup (nat_eq key) (cons_option (moved_entry moves e) (moved moves es)) ≡ Some after
     by_test true same h rest =
         let one : e.1 ≡ before = cc in
-        let some : new_place moves e.1.id ≡ Some after = ap (λ (a : Allocation). new_place moves a.id) one ∙ is in
+        let some : new_allocation moves e.1.id ≡ Some after = ap (λ (a : Allocation). new_allocation moves a.id) one ∙ is in
         rw (some, same) refl
-    by_test false other h rest = skipped (new_place moves e.1.id) false other refl ∙ rest h
+    by_test false other h rest = skipped (new_allocation moves e.1.id) false other refl ∙ rest h
 
 -- one that was left is not found
 pub left-found : (moves : List Move) (key : ℕ) (before : Allocation) (es : Entries) → lookup (nat_eq key) es ≡ Some before
-    → ((key : ℕ) → times key (keys_of es) ≤ 1) → new_place moves before.id ≡ None → lookup (nat_eq key) (moved moves es) ≡ None
+    → ((key : ℕ) → times key (keys_of es) ≤ 1) → new_allocation moves before.id ≡ None → lookup (nat_eq key) (moved moves es) ≡ None
 left-found moves key before [] found once is = refl
 left-found moves key before (e ∷ es) found once is =
     by_test (nat_eq key e.0) refl found (λ h. left-found moves key before es h (λ key. omega (arith, once key)) is)
@@ -212,7 +212,7 @@ left-found moves key before (e ∷ es) found once is =
         → lookup (nat_eq key) (cons_option (moved_entry moves e) (moved moves es)) ≡ None
     by_test true same h rest =
         let one : e.1 ≡ before = cc in
-        let none : new_place moves e.1.id ≡ None = ap (λ (a : Allocation). new_place moves a.id) one ∙ is in
+        let none : new_allocation moves e.1.id ≡ None = ap (λ (a : Allocation). new_allocation moves a.id) one ∙ is in
         let gone = moved-keys moves key es in
         rw none (absent (moved moves es) (omega (arith, gone, alone key e.0 (times key (keys_of es)) same (once key))))
-    by_test false other h rest = skipped (new_place moves e.1.id) other ∙ rest h
+    by_test false other h rest = skipped (new_allocation moves e.1.id) other ∙ rest h

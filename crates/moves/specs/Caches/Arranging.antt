@@ -29,15 +29,15 @@ key_left old allocation =
     option_map (λ (key : ℕ). record { key = key; rectangle = allocation.rectangle })
     (key_at old allocation.id)
 
--- what is allocated now in place of what was allocated under an id, where that has moved
-abbrev pub new_place : List Move → ℕ → Option Allocation
-new_place moves id =
+-- what is allocated now for what was allocated under an id, where that has moved
+abbrev pub new_allocation : List Move → ℕ → Option Allocation
+new_allocation moves id =
     lookup (nat_eq id) (map (λ (move : Move). (move.before.id, move.after)) moves)
 
 -- an entry with what is allocated for it now
 abbrev pub moved_entry : List Move → ℕ × Allocation → Option (ℕ × Allocation)
 moved_entry moves entry =
-    option_map (λ (after : Allocation). (entry.0, after)) (new_place moves entry.1.id)
+    option_map (λ (after : Allocation). (entry.0, after)) (new_allocation moves entry.1.id)
 
 -- a cache in a new atlas, into which these of its rectangles have moved: their keys stay, in the
 -- same order of use; no frame has begun

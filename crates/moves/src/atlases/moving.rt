@@ -21,7 +21,7 @@ ghost use Rattle.moves.specs.Atlases.Private.Sides.{HasSides};
 
 use crate::atlases::kept_options::options_of;
 use crate::atlases::order::sort_tallest_first;
-use crate::atlases::rearrangement::{Rearranged, place_next};
+use crate::atlases::rearrangement::{Rearranged, allocate_next};
 use etagere_shelves::{Allocation, AtlasAllocator, Iter, OptionsFault, Size};
 use pictures::Pictured;
 use std::alloc::{AllocError, Global};
@@ -79,7 +79,7 @@ pub fn rearranged(
     let Ok(asked) = tallest_first(alloc, allocated, options.vertical_shelves) else {
         return Err(OptionsFault::Memory);
     };
-    match place_each(alloc, new, &asked) {
+    match allocate_each(alloc, new, &asked) {
         Ok(done) => Ok(done),
         Err(AllocError) => Err(OptionsFault::Memory),
     }
@@ -100,7 +100,7 @@ fn tallest_first(
 }
 
 /// Asks an atlas for places for rectangles of another one, one after another.
-fn place_each(
+fn allocate_each(
     alloc: Global,
     atlas: AtlasAllocator,
     asked: &[Allocation],
@@ -116,7 +116,7 @@ fn place_each(
         unplaced: Vec::new(alloc),
     };
     for before in asked {
-        place_next(&mut done, *before)?;
+        allocate_next(&mut done, *before)?;
     }
     Ok(done)
 }

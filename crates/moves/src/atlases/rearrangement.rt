@@ -32,7 +32,7 @@ pub struct Rearranged {
 }
 
 /// Asks the new atlas for a place as large as a rectangle of the old one, and keeps the answer.
-pub fn place_next(done: &mut Rearranged, before: Allocation) -> Result<(), AllocError>
+pub fn allocate_next(done: &mut Rearranged, before: Allocation) -> Result<(), AllocError>
     requires { HasSides before }
     ensures { OnOk result ((start : state.AtlasState) (asked : List ids.Allocation)
         → Arranges start asked done.old.moves.items done.old.unplaced.items done.old.atlas

@@ -13,7 +13,7 @@ ghost use Rattle.moves.specs.Pages.Order.{AreTallestFirst};
 ghost use Rattle.moves.specs.Pages.Tied.{AreTiedOn};
 
 use crate::pages::order::sort_tallest_first;
-use crate::pages::rearrangement::{RearrangedPages, place_next};
+use crate::pages::rearrangement::{RearrangedPages, allocate_next};
 use atlas_pages::{AtlasPages, Iter, PagedAllocation};
 use std::alloc::{AllocError, Global};
 
@@ -49,7 +49,7 @@ pub fn rearranged_pages(alloc: Global, pages: &AtlasPages) -> Result<RearrangedP
         unreachable!()
     };
     let asked = tallest_first(alloc, allocated, options.atlas.vertical_shelves)?;
-    place_each(alloc, new, &asked)
+    allocate_each(alloc, new, &asked)
 }
 
 /// A list of what is allocated on pages, the tallest first.
@@ -67,7 +67,7 @@ fn tallest_first(
 }
 
 /// Asks pages for places for rectangles of other ones, one after another.
-fn place_each(
+fn allocate_each(
     alloc: Global,
     pages: AtlasPages,
     asked: &[PagedAllocation],
@@ -83,7 +83,7 @@ fn place_each(
         unplaced: Vec::new(alloc),
     };
     for before in asked {
-        place_next(&mut done, *before)?;
+        allocate_next(&mut done, *before)?;
     }
     Ok(done)
 }

@@ -32,7 +32,7 @@ pub struct RearrangedPages {
 }
 
 /// Asks the new pages for a place as large as a rectangle of the old ones, and keeps the answer.
-pub fn place_next(done: &mut RearrangedPages, before: PagedAllocation) -> Result<(), AllocError>
+pub fn allocate_next(done: &mut RearrangedPages, before: PagedAllocation) -> Result<(), AllocError>
     requires { HasSides before.allocation }
     ensures { OnOk result ((start : state.PagesState) (asked : List model.PagedAllocation)
         → Arranges start asked done.old.moves.items done.old.unplaced.items done.old.pages

@@ -10,7 +10,7 @@ use Rattle.etagere_base.specs.declared.frames.Frame.{Frame}
 use Rattle.etagere_base.specs.declared.geometry.Size.{Size}
 use Rattle.etagere_base.specs.declared.ids.Allocation.{Allocation}
 use Rattle.etagere_base.specs.Frames.{longest_side, options_fault}
-use Rattle.etagere_base.proofs.EachLemmas.{Each-get, Each-middle, Each-remove_place, Each-weaken}
+use Rattle.etagere_base.proofs.EachLemmas.{Each-get, Each-middle, Each-remove_number, Each-weaken}
 use Rattle.paged_cache.specs.Private.Tying.{first-added, tied-front}
 use Rattle.shelf_model.specs.Atlas.{Adds}
 use Rattle.shelf_model.specs.Callers.{AreTied, IsFound}
@@ -207,7 +207,7 @@ one-less state front back paged keeps held =
     record {
       open_pages = Each-weaken (λ (p : PagedAllocation). p.page < length state.pages) (λ (p : PagedAllocation). p.page < length (at_page paged.page change state.pages)) (front ++ back)
           (λ p few. omega (arith, few, length-at_page change state.pages paged.page))
-          (Each-remove_place (λ (p : PagedAllocation). p.page < length state.pages) front paged back held.open_pages);
+          (Each-remove_number (λ (p : PagedAllocation). p.page < length state.pages) front paged back held.open_pages);
       tied = λ number page at.
           by_number (AreTied (kept_on number (front ++ back)) (allocations page)) paged.page number
           (λ same.
@@ -232,7 +232,7 @@ to-front state front back paged held =
     record {
       open_pages = (
         Each-middle (λ (p : PagedAllocation). p.page < length state.pages) front paged back held.open_pages,
-        Each-remove_place (λ (p : PagedAllocation). p.page < length state.pages) front paged back held.open_pages,
+        Each-remove_number (λ (p : PagedAllocation). p.page < length state.pages) front paged back held.open_pages,
       );
       tied = λ number page at.
           by_number (AreTied (kept_on number (paged ∷ front ++ back)) (allocations page)) paged.page number

@@ -4,7 +4,7 @@ use Rattle.std.specs.Prelude.{not, nat_lt, ◌==◌}
 use Rattle.etagere_base.proofs.EachLemmas.{Each-filter, Each-weaken}
 use Rattle.etagere_base.proofs.TimesLemmas.{times-append}
 use Rattle.std.specs.List.{AllByRecursion}
-use Rattle.etagere_base.specs.Lists.{remove_place, times}
+use Rattle.etagere_base.specs.Lists.{remove_number, times}
 use Rattle.etagere_links.proofs.ListEnds.{times-here, times-other}
 use Rattle.shelf_model.specs.Listing.{RiseFrom}
 use Rattle.shelf_records.proofs.Recorded.Members.{Each-member, Each-times}
@@ -23,13 +23,13 @@ bounded_as shelf widest = record { widest = widest; shelf = shelf }
 
 -- the numbers once a shelf was taken out
 pub numbers-taken_out : (shelf : ℕ) (by_height : List BoundedShelf)
-    → numbers_by_height (taken_out shelf by_height) ≡ remove_place shelf (numbers_by_height by_height)
+    → numbers_by_height (taken_out shelf by_height) ≡ remove_number shelf (numbers_by_height by_height)
 numbers-taken_out shelf [] = refl
 numbers-taken_out shelf (one ∷ others) = by_test (one.shelf == shelf) (numbers-taken_out shelf others)
   where
-    by_test : (b : Bool) → numbers_by_height (taken_out shelf others) ≡ remove_place shelf (numbers_by_height others)
+    by_test : (b : Bool) → numbers_by_height (taken_out shelf others) ≡ remove_number shelf (numbers_by_height others)
         → numbers_by_height (cond (not b) (one ∷ taken_out shelf others) (taken_out shelf others))
-        ≡ cond (not b) (one.shelf ∷ remove_place shelf (numbers_by_height others)) (remove_place shelf (numbers_by_height others))
+        ≡ cond (not b) (one.shelf ∷ remove_number shelf (numbers_by_height others)) (remove_number shelf (numbers_by_height others))
     by_test true rest = rest
     by_test false rest = ap (λ (ns : List ℕ). one.shelf ∷ ns) rest
 
@@ -156,7 +156,7 @@ rise-taken_out shelves shelf from (one ∷ others) rise = by_test (one.shelf == 
     by_test true rest = rise-lower from (order_of shelves one.shelf + 1) (map (order_of shelves) (numbers_by_height (taken_out shelf others))) (omega (arith, rise.0)) rest
     by_test false rest = (rise.0, rest)
 
--- all rise once one was put in that none of the others shares a place with
+-- all rise once one was put in that none of the others shares an order with
 rise-put_in : (shelves : List LinkedShelf) (one : BoundedShelf) (from : ℕ) (by_height : List BoundedShelf) → from ≤ order_of shelves one.shelf
     → ((k : ℕ) → 1 ≤ times k (numbers_by_height by_height) → order_of shelves k ≢ order_of shelves one.shelf)
     → RiseFrom from (map (order_of shelves) (numbers_by_height by_height)) → RiseFrom from (map (order_of shelves) (numbers_by_height (put_in shelves one by_height)))
@@ -199,7 +199,7 @@ pub in_order-once : (shelves : List LinkedShelf) (by_height : List BoundedShelf)
     → AreInOrder shelves by_height → times k (numbers_by_height by_height) ≤ 1
 in_order-once shelves by_height k order = rise-once (order_of shelves) k 0 (numbers_by_height by_height) order.rising
 
--- they stand in their order by other records that give each of them the same place in it
+-- they stand in their order by other records that give each of them the same order
 pub in_order-kept : (shelves new : List LinkedShelf) (by_height : List BoundedShelf)
     → length shelves ≤ length new
     → ((k : ℕ) → 1 ≤ times k (numbers_by_height by_height) → order_of new k ≡ order_of shelves k)
@@ -230,7 +230,7 @@ in_order-taken_out shelves shelf by_height order =
       rising = rise-taken_out shelves shelf 0 by_height order.rising;
     }
 
--- all stand in their order once one was put in that none of the others shares a place in it with
+-- all stand in their order once one was put in that none of the others shares an order with
 pub in_order-put_in : (shelves : List LinkedShelf) (one : BoundedShelf) (by_height : List BoundedShelf)
     → one.shelf < length shelves
     → ((k : ℕ) → 1 ≤ times k (numbers_by_height by_height) → order_of shelves k ≢ order_of shelves one.shelf)

@@ -81,10 +81,10 @@ set-insert zero xs other one within = refl
 set-insert (suc index) [] other one within = absurd (omega (arith, within))
 set-insert (suc index) (x ∷ xs) other one within = ap (λ (l : List BoundedShelf). x ∷ l) (set-insert index xs other one (omega (arith, within)))
 
--- one that is left over makes place
-pub made-place : (start index : ℕ) (xs : List BoundedShelf) (other one : BoundedShelf) → suc start + index ≤ length xs
+-- one that is left over makes a slot
+pub made-slot : (start index : ℕ) (xs : List BoundedShelf) (other one : BoundedShelf) → suc start + index ≤ length xs
     → drop start (set (insert (remove xs start) (start + index) other) (start + index) one) ≡ insert (drop (suc start) xs) index one
-made-place start index xs other one within =
+made-slot start index xs other one within =
     let shorter = length-remove xs start (omega (arith, within)) in
     let size : length (drop (suc start) xs) ≡ length xs - suc start = length-drop (suc start) xs in
     set-drop start index (insert (remove xs start) (start + index) other) one (omega (arith, within, length-insert (remove xs start) (start + index) other (omega (arith, within, shorter)), shorter))
@@ -92,11 +92,11 @@ made-place start index xs other one within =
     ∙ set-insert index (drop (suc start) xs) other one (omega (arith, within, size))
 
 -- the same, where some are left over
-pub taken-place : (start index : ℕ) (xs : List BoundedShelf) (other one : BoundedShelf) → 0 < start → start + index ≤ length xs
+pub taken-slot : (start index : ℕ) (xs : List BoundedShelf) (other one : BoundedShelf) → 0 < start → start + index ≤ length xs
     → drop (start - 1) (set (insert (remove xs (start - 1)) (start - 1 + index) other) (start - 1 + index) one) ≡ insert (drop start xs) index one
-taken-place start index xs other one some within =
+taken-slot start index xs other one some within =
     let next : suc (start - 1) ≡ start = omega (arith, some) in
-    made-place (start - 1) index xs other one (omega (arith, some, within))
+    made-slot (start - 1) index xs other one (omega (arith, some, within))
     ∙ ap (λ (n : ℕ). insert (drop n xs) index one) next
 
 -- a list from two positions on

@@ -18,8 +18,8 @@ module _ (by_height : Inside) (value : ListByHeight) (rules : HasFrontRoom by_he
       omega (arith, rules.within, size, length-drop by_height.start by_height.list.items)
 
   -- a position is one of the whole list
-  pub used-place : (index : ℕ) → index < length value.items → by_height.start + index < length by_height.list.items
-  used-place index within = omega (arith, within, used-count)
+  pub used-within : (index : ℕ) → index < length value.items → by_height.start + index < length by_height.list.items
+  used-within index within = omega (arith, within, used-count)
 
   -- and a number of the machine
   pub used-few : (index : ℕ) → index ≤ length value.items → by_height.start + index < 2 ^ 64

@@ -9,12 +9,12 @@ use Rattle.etagere_base.specs.MergingAt.{merged_at, merged_before}
 use Rattle.shelf_model.specs.Places.{free_places}
 use Rattle.shelf_model.specs.Returning.{is_free_at, is_free_before, place_at, freed, returned_free_list}
 use Rattle.shelf_model.specs.State.{Item, is_free, total_width}
-use Rattle.etagere_base.specs.Lists.{remove_place}
+use Rattle.etagere_base.specs.Lists.{remove_number}
 use Rattle.etagere_base.proofs.ListEdits.{take-merged_at}
 use Rattle.shelf_model.proofs.Places.FreePlaces.{once, starts, starts-free, starts-freed, starts-merged_at}
 use Rattle.shelf_model.proofs.Places.ItemLemmas.{take-freed}
 use Rattle.shelf_model.proofs.Returned.MergedNear.{merged_items-freed}
-use Rattle.etagere_base.proofs.TimesLemmas.{times-remove_place}
+use Rattle.etagere_base.proofs.TimesLemmas.{times-remove_number}
 
 -- freeing an item leaves the one before it free or allocated
 is_free_at-freed_before : (n : ℕ) (items : List Item) → is_free_at n (freed (suc n) items) ≡ is_free_at n items
@@ -92,14 +92,14 @@ module _ (here n : ℕ) (items : List Item) (wide : AllByRecursion (λ (item : I
     (counts : (place : ℕ) → times place free_list ≡ starts place here items) where
   -- the free list without the place of a free next item
   times-others : (place : ℕ) (b : Bool) → is_free_at (suc n) items ≡ b
-      → times place (cond b (remove_place (place_at here items (suc n)) free_list) free_list) + once b (place_at here items (suc n)) place ≡ starts place here items
+      → times place (cond b (remove_number (place_at here items (suc n)) free_list) free_list) + once b (place_at here items (suc n)) place ≡ starts place here items
   times-others place false free = let c = counts place in omega arith
   times-others place true free =
       let c = counts place in
       let next = place_at here items (suc n) in
       let one = starts-free here (suc n) items wide free in
       let counted = counts next in
-      let gone = times-remove_place place next free_list (omega arith) in
+      let gone = times-remove_number place next free_list (omega arith) in
       omega arith
 
   -- merging after an allocated item was freed adds its place, takes a free next item's away and, where the item before is free, its own
@@ -129,7 +129,7 @@ module _ (here n : ℕ) (items : List Item) (wide : AllByRecursion (λ (item : I
   pub times-returned_free_list : (item : Item) → NoNeighbours both_free items → slice_get items n ≡ Some item → is_free item ≡ false → (place : ℕ)
       → times place (returned_free_list here items n free_list) ≡ times place (free_places here (merged_items (freed n items)))
   times-returned_free_list item apart get allocations place =
-      let others = cond (is_free_at (suc n) items) (remove_place (place_at here items (suc n)) free_list) free_list in
+      let others = cond (is_free_at (suc n) items) (remove_number (place_at here items (suc n)) free_list) free_list in
       let without_next = times-others place (is_free_at (suc n) items) refl in
       let with_own = times-cond place (is_free_before n items) (place_at here items n) others in
       let merged = starts-merged item apart get allocations place in

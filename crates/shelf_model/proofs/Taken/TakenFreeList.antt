@@ -8,13 +8,13 @@ use Rattle.std.specs.List.{AllByRecursion}
 use Rattle.etagere_base.specs.Lists.{times}
 use Rattle.shelf_model.specs.Places.{free_places}
 use Rattle.shelf_model.specs.State.{Item, is_free, total_width}
-use Rattle.etagere_base.specs.Lists.{replace_place, remove_place}
+use Rattle.etagere_base.specs.Lists.{replace_number, remove_number}
 use Rattle.shelf_model.specs.Taking.{item_pieces, taken_free_list}
 use Rattle.shelf_model.specs.Valid.{IsItem}
 use Rattle.etagere_base.proofs.EachLemmas.{Each-front, Each-weaken}
 use Rattle.shelf_model.proofs.Places.FreePlaces.{starts-after, starts-append, starts-before, starts-cons}
 use Rattle.shelf_model.proofs.Taken.TakenPieces.{IsRoom, allocated_item, free_item, pieces-cases, room-fits}
-use Rattle.etagere_base.proofs.TimesLemmas.{hit, times-replace_place, times-remove_place}
+use Rattle.etagere_base.proofs.TimesLemmas.{hit, times-replace_number, times-remove_number}
 
 -- how often a place stands among those of free items, where one of them is in view
 places-old : (p here : ℕ) (front : List Item) (item : Item) (back : List Item) → item.id ≡ None
@@ -48,9 +48,9 @@ pub pieces-free_list : (frame : Frame) (here : ℕ) (front : List Item) (item : 
     → ((p : ℕ) → times p free_list ≡ times p (free_places here (front ++ item ∷ back)))
     → (p : ℕ) → times p (taken_free_list placement free_list) ≡ times p (free_places here (front ++ (item_pieces placement id item ++ back)))
 pieces-free_list frame here front item back placement id free_list room begins each counts p =
-    pieces-cases (λ b pieces. times p (cond b (replace_place placement.along (placement.along + placement.width) free_list) (remove_place placement.along free_list)) ≡ times p (free_places here (front ++ (pieces ++ back)))) frame placement id item room
-    (λ split. rw begins (omega (arith, old, places-split p here front item back placement.width id (omega arith), times-replace_place p place (place + placement.width) free_list once)))
-    (λ whole. rw begins (omega (arith, old, starts-append p here front (allocated_item item.width id ∷ back), times-remove_place p place free_list once)))
+    pieces-cases (λ b pieces. times p (cond b (replace_number placement.along (placement.along + placement.width) free_list) (remove_number placement.along free_list)) ≡ times p (free_places here (front ++ (pieces ++ back)))) frame placement id item room
+    (λ split. rw begins (omega (arith, old, places-split p here front item back placement.width id (omega arith), times-replace_number p place (place + placement.width) free_list once)))
+    (λ whole. rw begins (omega (arith, old, starts-append p here front (allocated_item item.width id ∷ back), times-remove_number p place free_list once)))
   where
     place : ℕ
     place = here + total_width front

@@ -6,7 +6,7 @@ use Rattle.std.proofs.lemmas.List.{length-append, length-map, length-set}
 use Rattle.std.specs.Prelude.{not, ◌==◌}
 use Rattle.etagere_base.proofs.EachLemmas.{Each-both, Each-weaken}
 use Rattle.etagere_base.proofs.TimesLemmas.{hit}
-use Rattle.etagere_base.specs.Lists.{remove_place, times}
+use Rattle.etagere_base.specs.Lists.{remove_number, times}
 use Rattle.etagere_base.specs.declared.frames.Frame.{Frame}
 use Rattle.etagere_links.specs.Edits.{field_at}
 use Rattle.shelf_records.proofs.AllLists.LinkedWalks.{walked-numbers}
@@ -29,22 +29,22 @@ use Rattle.shelf_store.proofs.ByHeight.SplitOrders.{StandsSame, order-stands, or
 use Rattle.shelf_store.specs.Private.Settling.{AreByHeightButNoted, AreSettled, BeginAsListed, BeginsAsListed, Follows, IsBoundIn, IsBounded, IsSettled}
 
 -- how often a number stands where another was left out
-times-left : (k n : ℕ) (ns : List ℕ) → k ≢ n → times k (remove_place n ns) ≡ times k ns
+times-left : (k n : ℕ) (ns : List ℕ) → k ≢ n → times k (remove_number n ns) ≡ times k ns
 times-left k n [] other = refl
 times-left k n (m ∷ ms) other = by_test (m == n) refl (times-left k n ms other)
   where
-    by_test : (b : Bool) → (m == n) ≡ b → times k (remove_place n ms) ≡ times k ms → times k (cond (not b) (m ∷ remove_place n ms) (remove_place n ms)) ≡ times k (m ∷ ms)
+    by_test : (b : Bool) → (m == n) ≡ b → times k (remove_number n ms) ≡ times k ms → times k (cond (not b) (m ∷ remove_number n ms) (remove_number n ms)) ≡ times k (m ∷ ms)
     by_test true e rest =
         let differ : m ≢ k = grind (arith, other) in
         let none : hit m k ≡ 0 = grind (arith, differ) in
         omega (arith, rest, none)
     by_test false e rest = omega (arith, rest)
 
-times-gone : (n : ℕ) (ns : List ℕ) → times n (remove_place n ns) ≡ 0
+times-gone : (n : ℕ) (ns : List ℕ) → times n (remove_number n ns) ≡ 0
 times-gone n [] = refl
 times-gone n (m ∷ ms) = by_test (m == n) refl (times-gone n ms)
   where
-    by_test : (b : Bool) → (m == n) ≡ b → times n (remove_place n ms) ≡ 0 → times n (cond (not b) (m ∷ remove_place n ms) (remove_place n ms)) ≡ 0
+    by_test : (b : Bool) → (m == n) ≡ b → times n (remove_number n ms) ≡ 0 → times n (cond (not b) (m ∷ remove_number n ms) (remove_number n ms)) ≡ 0
     by_test true e rest = rest
     by_test false e rest =
         let none : hit m n ≡ 0 = grind arith in

@@ -7,7 +7,7 @@ use Rattle.std.proofs.lemmas.List.{map-append}
 use Rattle.etagere_base.specs.declared.frames.Frame.{Frame}
 use Rattle.etagere_base.proofs.AlignedPlaces.{multiple}
 use Rattle.etagere_base.proofs.EachLemmas.{Each-middle}
-use Rattle.etagere_base.specs.Lists.{NoNeighbours, remove_place, times}
+use Rattle.etagere_base.specs.Lists.{NoNeighbours, remove_number, times}
 use Rattle.etagere_base.specs.MergingAt.{merged_at, merged_before}
 use Rattle.shelf_records.proofs.AllLists.LinkedItems.{entry_of}
 use Rattle.shelf_records.specs.declared.records.LinkedItem.{LinkedItem}
@@ -54,10 +54,10 @@ shelf-returned frame n shelf along height items places apart column tall merged 
 -- a free list without the place of a next item where that is free, and with the own one in front where the previous is not
 abbrev edited_list : Bool → ℕ → Bool → ℕ → List ℕ → List ℕ
 edited_list next_free next previous_free own places =
-    let others = if next_free then remove_place next places else places in if previous_free then others else own ∷ others
+    let others = if next_free then remove_number next places else places in if previous_free then others else own ∷ others
 
 -- the free list of records, edited in two steps
-list-edited : (next_free previous_free : Bool) (next own own' : ℕ) (places middle new : List ℕ) → middle ≡ (if next_free then remove_place next places else places) → own' ≡ own → new ≡ (if previous_free then middle else own' ∷ middle) → new ≡ edited_list next_free next previous_free own places
+list-edited : (next_free previous_free : Bool) (next own own' : ℕ) (places middle new : List ℕ) → middle ≡ (if next_free then remove_number next places else places) → own' ≡ own → new ≡ (if previous_free then middle else own' ∷ middle) → new ≡ edited_list next_free next previous_free own places
 list-edited next_free previous_free next own own' places middle new one same two = rw (two, one, same) refl
 
 -- the free list of a shelf around an item

@@ -1,7 +1,7 @@
 -- A list of items after one in its midst became free and merged with its free neighbours.
 use Rattle.std.proofs.Common.{◌≡◌, ◌≢◌, ◌≤◌, ℕ, ◌+◌, Bool, true, false, None, List, [], ◌∷◌, ◌++◌, length, refl, ap, arith}
 use Rattle.std.specs.Prelude.{map, ◌==◌}
-use Rattle.etagere_base.specs.Lists.{times, remove_place, replace_place}
+use Rattle.etagere_base.specs.Lists.{times, remove_number, replace_number}
 use Rattle.etagere_links.proofs.ListEnds.{times-here}
 use Rattle.etagere_base.specs.MergingAt.{merged_at}
 use Rattle.shelf_model.specs.Merging.{both_free, combined_items}
@@ -44,7 +44,7 @@ merged-previous-none [] back previous width e = simp e refl
 merged-previous-none (x ∷ front) back previous width e = ap (λ (is : List Item). x ∷ is) (merged-previous-none front back previous width e)
 
 -- a list of places in which a place does not stand
-remove-none : (place : ℕ → ℕ) (xs : List ℕ) (number : ℕ) → ((k : ℕ) → 1 ≤ times k xs → place k ≢ place number) → remove_place (place number) (map place xs) ≡ map place xs
+remove-none : (place : ℕ → ℕ) (xs : List ℕ) (number : ℕ) → ((k : ℕ) → 1 ≤ times k xs → place k ≢ place number) → remove_number (place number) (map place xs) ≡ map place xs
 remove-none place [] number apart = refl
 remove-none place (x ∷ xs) number apart =
     let here : place x ≢ place number = apart x (omega (arith, times-here x xs)) in
@@ -52,7 +52,7 @@ remove-none place (x ∷ xs) number apart =
     simp (test, remove-none place xs number (λ k stands. apart k (omega (arith, stands)))) refl
 
 -- the places of a list without one member, whose place is no other's
-pub remove-mapped : (place : ℕ → ℕ) (front back : List ℕ) (number : ℕ) → ((k : ℕ) → 1 ≤ times k (front ++ back) → place k ≢ place number) → remove_place (place number) (map place (front ++ number ∷ back)) ≡ map place (front ++ back)
+pub remove-mapped : (place : ℕ → ℕ) (front back : List ℕ) (number : ℕ) → ((k : ℕ) → 1 ≤ times k (front ++ back) → place k ≢ place number) → remove_number (place number) (map place (front ++ number ∷ back)) ≡ map place (front ++ back)
 remove-mapped place [] back number apart =
     let own : (place number == place number) ≡ true = grind arith in
     simp own (remove-none place back number apart)
@@ -62,7 +62,7 @@ remove-mapped place (x ∷ front) back number apart =
     simp (test, remove-mapped place front back number (λ k stands. apart k (omega (arith, stands)))) refl
 
 -- a list of places in which a place to be replaced does not stand
-replace-none : (place : ℕ → ℕ) (xs : List ℕ) (number new : ℕ) → ((k : ℕ) → 1 ≤ times k xs → place k ≢ place number) → replace_place (place number) new (map place xs) ≡ map place xs
+replace-none : (place : ℕ → ℕ) (xs : List ℕ) (number new : ℕ) → ((k : ℕ) → 1 ≤ times k xs → place k ≢ place number) → replace_number (place number) new (map place xs) ≡ map place xs
 replace-none place [] number new apart = refl
 replace-none place (x ∷ xs) number new apart =
     let here : place x ≢ place number = apart x (omega (arith, times-here x xs)) in
@@ -70,7 +70,7 @@ replace-none place (x ∷ xs) number new apart =
     simp (test, replace-none place xs number new (λ k stands. apart k (omega (arith, stands)))) refl
 
 -- the places of a list with one member's replaced, whose place is no other's
-pub replace-mapped : (place : ℕ → ℕ) (front back : List ℕ) (number new : ℕ) → ((k : ℕ) → 1 ≤ times k (front ++ back) → place k ≢ place number) → replace_place (place number) new (map place (front ++ number ∷ back)) ≡ map place front ++ new ∷ map place back
+pub replace-mapped : (place : ℕ → ℕ) (front back : List ℕ) (number new : ℕ) → ((k : ℕ) → 1 ≤ times k (front ++ back) → place k ≢ place number) → replace_number (place number) new (map place (front ++ number ∷ back)) ≡ map place front ++ new ∷ map place back
 replace-mapped place [] back number new apart =
     let own : (place number == place number) ≡ true = grind arith in
     simp own (ap (λ (ps : List ℕ). new ∷ ps) (replace-none place back number new apart))

@@ -4,7 +4,7 @@ use Rattle.std.proofs.Common.{◌≡◌, ◌≢◌, ℕ, ◌+◌, ◌≤◌, Boo
 use Rattle.std.specs.Prelude.{if◌then◌else◌}
 use Rattle.etagere_base.proofs.EachLemmas.{Each-middle}
 use Rattle.etagere_base.proofs.TimesLemmas.{times-append, times-here}
-use Rattle.etagere_base.specs.Lists.{times, remove_place}
+use Rattle.etagere_base.specs.Lists.{times, remove_number}
 use Rattle.etagere_base.specs.MergingAt.{merged_at}
 use Rattle.shelf_records.proofs.AllLists.LinkedItems.{entry_of}
 use Rattle.shelf_records.proofs.AllLists.LinkedEdits.{linked-apart, Around, with_entry}
@@ -47,7 +47,7 @@ pub record MergesNext (atlas : AtlasRecords) (step : Step) (around : Around) (sh
   pub places :
       map (item_place_of step.records.items) free_list
       ≡ (if is_first_free (map (item_at atlas.records.items) back)
-      then remove_place (along_of atlas.records.shelves shelf + (widths atlas.records.items front + width_of atlas.records.items number)) (map (item_place_of atlas.records.items) free)
+      then remove_number (along_of atlas.records.shelves shelf + (widths atlas.records.items front + width_of atlas.records.items number)) (map (item_place_of atlas.records.items) free)
       else map (item_place_of atlas.records.items) free)
   pub width : width_of step.records.items number ≡ width_of atlas.records.items number + named_width atlas.records.items (free_next atlas.records.items number)
   pub wide : width_of step.records.items number ≤ width_of atlas.records.items number + widths atlas.records.items back
@@ -142,7 +142,7 @@ next-taken {atlas} around shelf number next front back free_front free_back wide
           ∙ ap (λ (is : List Item). is ++ free_item (width_of items number + width_of items next) ∷ map (item_at items) back) (sym front_same)
           ∙ ap (λ (is : List Item). map (item_at new.items) front ++ free_item (width_of items number + width_of items next) ∷ is) (sym back_same)
           ∙ ap (λ w. map (item_at new.items) front ++ free_item w ∷ map (item_at new.items) back) (sym width);
-      places = rw free_next (kept ∙ sym (remove-mapped (item_place_of items) free_front free_back next others_apart) ∙ ap (λ p. remove_place p (map (item_place_of items) free)) begins);
+      places = rw free_next (kept ∙ sym (remove-mapped (item_place_of items) free_front free_back next others_apart) ∙ ap (λ p. remove_number p (map (item_place_of items) free)) begins);
       width = rw named width;
       wide = omega (arith, width);
       counted = omega arith;

@@ -2,7 +2,7 @@
 use Rattle.std.proofs.Common.{◌≡◌, ◌≢◌, ℕ, ◌+◌, ◌-◌, ◌<◌, ◌≤◌, Bool, true, false, None, Some, List, [], ◌∷◌, ◌++◌, length, map, refl, ap, ◌∙◌, sym}
 use Rattle.std.proofs.lemmas.List.{map-append}
 use Rattle.std.specs.Prelude.{◌/◌, if◌then◌else◌}
-use Rattle.etagere_base.specs.Lists.{times, remove_place, replace_place, replaced_at}
+use Rattle.etagere_base.specs.Lists.{times, remove_number, replace_number, replaced_at}
 use Rattle.shelf_records.proofs.AllLists.LinkedItems.{entry_of}
 use Rattle.shelf_records.specs.declared.records.LinkedItem.{LinkedItem}
 use Rattle.shelf_records.specs.RecordLists.{Records, Entry}
@@ -23,7 +23,7 @@ taken_from splits placement id shelf =
       items = replaced_at placement.item
           (λ (item : Item). record { width = placement.width; id = Some id }
           ∷ (if splits then record { width = item.width - placement.width; id = None } ∷ [] else [])) shelf.items;
-      free_list = if splits then replace_place placement.along (placement.along + placement.width) shelf.free_list else remove_place placement.along shelf.free_list;
+      free_list = if splits then replace_number placement.along (placement.along + placement.width) shelf.free_list else remove_number placement.along shelf.free_list;
     }
 
 -- a member of a list replaced by pieces
@@ -92,14 +92,14 @@ whole-spelled atlas records placement spot id is keeps along height item =
     ∙ ap (λ (i : Item). map (item_at old) spot.front ++ i ∷ map (item_at old) spot.back) item
     ∙ sym (replaced-mapped (item_at old) pieces spot.front spot.back spot.number)
     ∙ ap (λ n. replaced_at n pieces (map (item_at old) (spot.front ++ spot.number ∷ spot.back))) (sym is.at) in
-    let places : map (item_place_of new) (spot.free_front ++ spot.free_back) ≡ remove_place placement.along (map (item_place_of old) (spot.free_front ++ spot.number ∷ spot.free_back)) =
+    let places : map (item_place_of new) (spot.free_front ++ spot.free_back) ≡ remove_number placement.along (map (item_place_of old) (spot.free_front ++ spot.number ∷ spot.free_back)) =
     places-around old new spot.free_front [] spot.free_back keeps.free_before keeps.free_after
     ∙ sym (map-append (item_place_of old) spot.free_front spot.free_back)
     ∙ sym (remove-mapped (item_place_of old) spot.free_front spot.free_back spot.number is.apart)
-    ∙ ap (λ a. remove_place a (map (item_place_of old) (spot.free_front ++ spot.number ∷ spot.free_back))) (sym is.along) in
+    ∙ ap (λ a. remove_number a (map (item_place_of old) (spot.free_front ++ spot.number ∷ spot.free_back))) (sym is.along) in
     shelf-parts (along_of records.shelves spot.shelf / cw) (along_of atlas.records.shelves spot.shelf / cw) (height_of records.shelves spot.shelf) placement.height
     (map (item_at new) (spot.front ++ spot.number ∷ spot.back)) (replaced_at placement.item pieces (map (item_at old) (spot.front ++ spot.number ∷ spot.back)))
-    (map (item_place_of new) (spot.free_front ++ spot.free_back)) (remove_place placement.along (map (item_place_of old) (spot.free_front ++ spot.number ∷ spot.free_back)))
+    (map (item_place_of new) (spot.free_front ++ spot.free_back)) (remove_number placement.along (map (item_place_of old) (spot.free_front ++ spot.number ∷ spot.free_back)))
     (ap (λ a. a / cw) along) height items places
 
 -- the shelf after the front of an item was given
@@ -115,12 +115,12 @@ front-spelled atlas records placement spot id rest is keeps along height item re
     ∙ ap (λ (i : Item). map (item_at old) spot.front ++ record { width = placement.width; id = Some id } ∷ i ∷ map (item_at old) spot.back) rest_item
     ∙ sym (replaced-mapped (item_at old) pieces spot.front spot.back spot.number)
     ∙ ap (λ n. replaced_at n pieces (map (item_at old) (spot.front ++ spot.number ∷ spot.back))) (sym is.at) in
-    let places : map (item_place_of new) (spot.free_front ++ rest ∷ spot.free_back) ≡ replace_place placement.along (placement.along + placement.width) (map (item_place_of old) (spot.free_front ++ spot.number ∷ spot.free_back)) =
+    let places : map (item_place_of new) (spot.free_front ++ rest ∷ spot.free_back) ≡ replace_number placement.along (placement.along + placement.width) (map (item_place_of old) (spot.free_front ++ spot.number ∷ spot.free_back)) =
     places-around old new spot.free_front (rest ∷ []) spot.free_back keeps.free_before keeps.free_after
     ∙ ap (λ p. map (item_place_of old) spot.free_front ++ p ∷ map (item_place_of old) spot.free_back) rest_place
     ∙ sym (replace-mapped (item_place_of old) spot.free_front spot.free_back spot.number (placement.along + placement.width) is.apart)
-    ∙ ap (λ a. replace_place a (placement.along + placement.width) (map (item_place_of old) (spot.free_front ++ spot.number ∷ spot.free_back))) (sym is.along) in
+    ∙ ap (λ a. replace_number a (placement.along + placement.width) (map (item_place_of old) (spot.free_front ++ spot.number ∷ spot.free_back))) (sym is.along) in
     shelf-parts (along_of records.shelves spot.shelf / cw) (along_of atlas.records.shelves spot.shelf / cw) (height_of records.shelves spot.shelf) placement.height
     (map (item_at new) (spot.front ++ spot.number ∷ rest ∷ spot.back)) (replaced_at placement.item pieces (map (item_at old) (spot.front ++ spot.number ∷ spot.back)))
-    (map (item_place_of new) (spot.free_front ++ rest ∷ spot.free_back)) (replace_place placement.along (placement.along + placement.width) (map (item_place_of old) (spot.free_front ++ spot.number ∷ spot.free_back)))
+    (map (item_place_of new) (spot.free_front ++ rest ∷ spot.free_back)) (replace_number placement.along (placement.along + placement.width) (map (item_place_of old) (spot.free_front ++ spot.number ∷ spot.free_back)))
     (ap (λ a. a / cw) along) height items places

@@ -4,7 +4,7 @@ use Rattle.etagere_run.specs.Answers.Private.Tables.{entries_of}
 use Rattle.traffic.proofs.Going.{IsGoing}
 use Rattle.traffic.proofs.going_on.go_on.Given as goal
 
--- the commands so far were run, and each has a place in the ledger, in which there is room for those that are left
+-- the commands so far were run, and each has a slot in the ledger, in which there is room for those that are left
 abbrev pub invariant-loop-position : goal.invariant-loop-position
 invariant-loop-position g l =
     record {

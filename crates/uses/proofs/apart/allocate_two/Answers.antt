@@ -1,5 +1,5 @@
 use Rattle.std.proofs.Common.{subst, sym}
-use Rattle.etagere_base.proofs.EachLemmas.{Each-middle, Each-remove_place}
+use Rattle.etagere_base.proofs.EachLemmas.{Each-middle, Each-remove_number}
 use Rattle.etagere_base.specs.declared.ids.Allocation.{Allocation}
 use Rattle.std.specs.List.{AllByRecursion}
 use Rattle.etagere_base.specs.Rectangles.{IsInside}
@@ -17,7 +17,7 @@ returns-in-Ok-Some-clause-inside c =
     let second : Adds (allocations c.allocate.new.self) other (allocations c.allocate-2.new.self) =
     rw c.in-Ok-Some.field-0-is at c.in-Ok-Some.ensures.allocated in
     let all = subst (AllByRecursion P) second.after c.in-Ok-Some.ensures.promises.inside in
-    let older = subst (AllByRecursion P) (sym second.before) (Each-remove_place P second.front other second.back all) in (
+    let older = subst (AllByRecursion P) (sym second.before) (Each-remove_number P second.front other second.back all) in (
       Each-middle P first.front one first.back (subst (AllByRecursion P) first.after older),
       Each-middle P second.front other second.back all,
     )

@@ -15,8 +15,8 @@ use Rattle.moves.specs.Pages.Tied.{AreTiedOn}
 use Rattle.moves.specs.declared.pages.rearrangement.RearrangedPages.{RearrangedPages}
 use Rattle.moves.proofs.pages.moving.rearranged_pages.Goals as goal
 
-pub place_each-requires : goal.place_each-requires
-place_each-requires c =
+pub allocate_each-requires : goal.allocate_each-requires
+allocate_each-requires c =
     let old = c.args.pages.now in
     let keeps = c.iter-allocated.ensures.promises in
     let listed = subst (λ (l : List PagedAllocation). AreTiedOn l old) (sym c.iter-allocated.ensures.listed) (tied-listed old keeps) in
@@ -41,32 +41,32 @@ is-done c done arranged =
 
 pub returns-clause-rearranged : goal.returns-clause-rearranged
 returns-clause-rearranged c =
-    IfOk-weaker c.place_each.result (Arranged c)
+    IfOk-weaker c.allocate_each.result (Arranged c)
     (λ (done : RearrangedPages). IsRearranged c.args.pages.now done.moves.items done.unplaced.items done.pages)
-    (λ done arranged. (is-done c done arranged).rearranged) c.place_each.ensures
+    (λ done arranged. (is-done c done arranged).rearranged) c.allocate_each.ensures
 
 pub returns-clause-each : goal.returns-clause-each
 returns-clause-each c =
-    IfOk-weaker c.place_each.result (Arranged c)
+    IfOk-weaker c.allocate_each.result (Arranged c)
     (λ (done : RearrangedPages). AreTiedOn (moved_from done.moves.items ++ done.unplaced.items) c.args.pages.now)
-    (λ done arranged. (is-done c done arranged).each) c.place_each.ensures
+    (λ done arranged. (is-done c done arranged).each) c.allocate_each.ensures
 
 pub returns-clause-whole : goal.returns-clause-whole
 returns-clause-whole c =
-    IfOk-weaker c.place_each.result (Arranged c) (λ (done : RearrangedPages). AreTiedOn (moved_to done.moves.items) done.pages)
-    (λ done arranged. (is-done c done arranged).whole) c.place_each.ensures
+    IfOk-weaker c.allocate_each.result (Arranged c) (λ (done : RearrangedPages). AreTiedOn (moved_to done.moves.items) done.pages)
+    (λ done arranged. (is-done c done arranged).whole) c.allocate_each.ensures
 
 pub returns-clause-room : goal.returns-clause-room
 returns-clause-room c =
-    IfOk-weaker c.place_each.result (Arranged c) (λ (done : RearrangedPages). AllByRecursion HasRoom done.moves.items)
-    (λ done arranged. (is-done c done arranged).room) c.place_each.ensures
+    IfOk-weaker c.allocate_each.result (Arranged c) (λ (done : RearrangedPages). AllByRecursion HasRoom done.moves.items)
+    (λ done arranged. (is-done c done arranged).room) c.allocate_each.ensures
 
 pub returns-clause-options : goal.returns-clause-options
 returns-clause-options c =
-    IfOk-weaker c.place_each.result (Arranged c) (λ (done : RearrangedPages). done.pages.options ≡ c.args.pages.now.options)
-    (λ done arranged. (is-done c done arranged).options) c.place_each.ensures
+    IfOk-weaker c.allocate_each.result (Arranged c) (λ (done : RearrangedPages). done.pages.options ≡ c.args.pages.now.options)
+    (λ done arranged. (is-done c done arranged).options) c.allocate_each.ensures
 
 pub returns-clause-promises : goal.returns-clause-promises
 returns-clause-promises c =
-    IfOk-weaker c.place_each.result (Arranged c) (λ (done : RearrangedPages). KeepsPagesPromises done.pages)
-    (λ done arranged. (is-done c done arranged).kept) c.place_each.ensures
+    IfOk-weaker c.allocate_each.result (Arranged c) (λ (done : RearrangedPages). KeepsPagesPromises done.pages)
+    (λ done arranged. (is-done c done arranged).kept) c.allocate_each.ensures

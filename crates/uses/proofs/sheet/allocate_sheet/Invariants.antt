@@ -1,6 +1,6 @@
 use Rattle.std.proofs.Common.{◌≡◌, length}
 use Rattle.uses.specs.Sheet.{AreAllocations}
-use Rattle.uses.proofs.sheet.place_sheet.Given as goal
+use Rattle.uses.proofs.sheet.allocate_sheet.Given as goal
 
 abbrev pub invariant-loop-size : goal.invariant-loop-size
 invariant-loop-size l =

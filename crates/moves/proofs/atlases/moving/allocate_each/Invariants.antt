@@ -1,6 +1,6 @@
 use Rattle.std.proofs.Common.{take}
 use Rattle.moves.specs.Atlases.Arranging.{Arranges}
-use Rattle.moves.proofs.atlases.moving.place_each.Given as goal
+use Rattle.moves.proofs.atlases.moving.allocate_each.Given as goal
 
 abbrev pub invariant-loop-before : goal.invariant-loop-before
 invariant-loop-before l =

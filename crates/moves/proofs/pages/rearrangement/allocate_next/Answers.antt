@@ -5,7 +5,7 @@ use Rattle.atlas_pages.specs.Allocated.{Places}
 use Rattle.atlas_pages.specs.Choosing.{IsRefusedByAll}
 use Rattle.atlas_pages.specs.Pages.{PagesState, page_frame}
 use Rattle.moves.specs.Pages.Arranging.{Arranges, moved, refused}
-use Rattle.moves.proofs.pages.rearrangement.place_next.Goals as goal
+use Rattle.moves.proofs.pages.rearrangement.allocate_next.Goals as goal
 
 pub returns-in_ok-push-in-Some : goal.returns-in_ok-push-in-Some
 returns-in_ok-push-in-Some c = λ start asked so_far.

@@ -4,7 +4,7 @@ use Rattle.shelf_model.specs.Atlas.{Allocates}
 use Rattle.shelf_model.specs.Choice.{IsRefused}
 use Rattle.shelf_model.specs.State.{AtlasState}
 use Rattle.moves.specs.Atlases.Arranging.{Arranges, moved, refused}
-use Rattle.moves.proofs.atlases.rearrangement.place_next.Goals as goal
+use Rattle.moves.proofs.atlases.rearrangement.allocate_next.Goals as goal
 
 pub returns-in_ok-push-in-Some : goal.returns-in_ok-push-in-Some
 returns-in_ok-push-in-Some c = λ start asked so_far.

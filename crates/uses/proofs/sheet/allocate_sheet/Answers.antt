@@ -11,7 +11,7 @@ use Rattle.etagere_base.specs.declared.geometry.Size.{Size}
 use Rattle.etagere_base.specs.declared.ids.Allocation.{Allocation}
 use Rattle.shelf_model.specs.Places.{rectangle_of}
 use Rattle.shelf_model.specs.State.{AtlasState}
-use Rattle.uses.proofs.sheet.place_sheet.Goals as goal
+use Rattle.uses.proofs.sheet.allocate_sheet.Goals as goal
 
 pub loop-size-preserved : goal.loop-size-preserved
 loop-size-preserved c =
