@@ -6,8 +6,8 @@
 #![tactic(auto)]
 
 pub mod adding;
+pub mod bucketed_frames;
 pub mod faults;
-pub mod frames;
 pub mod model_laws;
 pub mod refusals;
 pub mod usage;

@@ -11,7 +11,7 @@ ghost use Rattle.bucketed_restoring.specs.RestoringSteps.{IsRead, links_of_all};
 
 use crate::judging::is_stacked;
 use crate::walking::judged_lists;
-use bucketed_model::frames::LONGEST_BUCKETED_SIDE;
+use bucketed_model::bucketed_frames::LONGEST_BUCKETED_SIDE;
 use bucketed_records::records::{KeptShelf, MOST_BUCKETS};
 use bucketed_records::saving::LinkedSnapshot;
 use etagere_base::{Frame, RestoreFault, is_frame, side};

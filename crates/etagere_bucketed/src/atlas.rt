@@ -32,8 +32,8 @@ ghost use Rattle.bucketed_records.specs.StandsFor.{StandsFor};
 
 use crate::restored::restore_bucketed;
 use bucketed_model::adding::Remaining;
+use bucketed_model::bucketed_frames::{LONGEST_BUCKETED_SIDE, bucketed_frame, grow_fault};
 use bucketed_model::faults::GrowFault;
-use bucketed_model::frames::{LONGEST_BUCKETED_SIDE, bucketed_frame, grow_fault};
 use bucketed_model::refusals::{BucketedRefusal, size_refusal};
 use bucketed_model::usage::BucketedUsage;
 use bucketed_records::records::MOST_BUCKETS;

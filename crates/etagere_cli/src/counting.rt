@@ -3,11 +3,11 @@
 
 mod heights;
 mod report;
-mod saving;
+mod snapshot;
 mod stats_json;
 mod stats_text;
 
 pub use report::{Report, report_of_saved, report_of_script};
-pub use saving::saved_of;
+pub use snapshot::saved_of;
 pub use stats_json::json_text;
 pub use stats_text::plain_text;

@@ -3,7 +3,7 @@ pub mod AskedReasons
 pub mod CountedStates
 pub mod FoundPlacements
 pub mod LowestCandidates
-pub mod PassedShelves
+pub mod OneMore
 pub mod PassedWalks
 pub mod SearchSteps
 pub mod SearchedShelves

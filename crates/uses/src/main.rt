@@ -4,7 +4,7 @@
 
 mod apart;
 mod cached;
-mod frames;
+mod glyph_frames;
 mod moved;
 mod pages;
 mod recording;
@@ -15,7 +15,7 @@ mod texture;
 use anyhow::{Context, Result, bail};
 use apart::allocate_two;
 use etagere::{AllocId, Allocation, AtlasAllocator, DEFAULT_OPTIONS, Rectangle, Size, size2};
-use frames::draw_frames;
+use glyph_frames::draw_frames;
 use glyph_shelf::GlyphCache;
 use pages::{PAGE, PagedAllocation, allocate_on_pages};
 use recording::Recorder;

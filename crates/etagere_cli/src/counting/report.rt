@@ -1,7 +1,7 @@
 //! What is told of an atlas of either kind, after a script or of a snapshot.
 
 use crate::counting::heights::{SameHeight, heights_of};
-use crate::counting::saving::saved_of;
+use crate::counting::snapshot::saved_of;
 use etagere::{
     AtlasAllocator, AtlasSnapshot, BucketedAtlasAllocator, BucketedSnapshot, BucketedUsage,
     RestoreFault, Size, Usage,

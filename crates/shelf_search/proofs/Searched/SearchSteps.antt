@@ -19,7 +19,7 @@ use Rattle.shelf_search.specs.Private.Searching.{best_candidate, better, chosen_
 use Rattle.shelf_model.specs.Choice.{shelf_height}
 use Rattle.shelf_search.specs.declared.choosing.Candidate.{Candidate}
 use Rattle.shelf_search.specs.declared.choosing.Searched.TheVariants.{Found, Widest}
-use Rattle.shelf_search.proofs.Searched.PassedShelves.{lowest-settled}
+use Rattle.shelf_search.proofs.Searched.OneMore.{lowest-settled}
 use Rattle.shelf_heights.proofs.ByHeight.FreeBounds.{next-read, width-read}
 use Rattle.shelf_records.proofs.AllLists.Following.{IsLeft, IsStep, count_from, none-left, step-left, step-nearer}
 use Rattle.shelf_records.proofs.AllLists.LinkedParts.{free-left, free-once, free-within, shelf-within}

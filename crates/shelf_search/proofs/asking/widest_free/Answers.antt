@@ -5,7 +5,7 @@ use Rattle.shelf_records.specs.Records.{shelf_chain}
 use Rattle.shelf_model.specs.Widest.{greatest}
 use Rattle.shelf_search.specs.Private.Asking.{widest_at}
 use Rattle.shelf_records.proofs.AllLists.LinkedParts.{shelves-left}
-use Rattle.shelf_search.proofs.Searched.PassedShelves.{greatest-more}
+use Rattle.shelf_search.proofs.Searched.OneMore.{greatest-more}
 use Rattle.shelf_search.proofs.Searched.PassedWalks.{walk-goes, walk-meets, walk-spent, walk-starts, walk-stops}
 use Rattle.shelf_search.proofs.asking.widest_free.Goals as goal
 

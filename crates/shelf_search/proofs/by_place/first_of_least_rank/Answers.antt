@@ -5,7 +5,7 @@ use Rattle.shelf_records.specs.RecordLists.{shelf_walk}
 use Rattle.shelf_records.specs.Records.{shelf_chain}
 use Rattle.shelf_search.specs.Private.Searching.{better, lowest, offered}
 use Rattle.shelf_records.proofs.AllLists.LinkedParts.{shelves-left}
-use Rattle.shelf_search.proofs.Searched.PassedShelves.{lowest-more}
+use Rattle.shelf_search.proofs.Searched.OneMore.{lowest-more}
 use Rattle.shelf_search.proofs.Searched.SearchSteps.{least-of-all}
 use Rattle.shelf_search.proofs.Searched.PassedWalks.{walk-goes, walk-meets, walk-spent, walk-starts, walk-stops}
 use Rattle.shelf_search.proofs.by_place.first_of_least_rank.Goals.{in-Some-lower_at+else-candidate-height, in_default-lower_at}

@@ -6,7 +6,7 @@ use Rattle.shelf_records.specs.AtlasRecords.{width_of}
 use Rattle.shelf_search.specs.Private.Asking.{free_items_at}
 use Rattle.shelf_search.specs.declared.free_items.FreeItems.{FreeItems}
 use Rattle.shelf_records.proofs.AllLists.LinkedParts.{free-left}
-use Rattle.shelf_search.proofs.Searched.PassedShelves.{free-more}
+use Rattle.shelf_search.proofs.Searched.OneMore.{free-more}
 use Rattle.shelf_search.proofs.Searched.PassedWalks.{walk-goes, walk-meets, walk-spent, walk-starts, walk-stops}
 use Rattle.shelf_search.proofs.free_items.free_items_of.Goals as goal
 

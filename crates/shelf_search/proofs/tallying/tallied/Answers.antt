@@ -7,7 +7,7 @@ use Rattle.shelf_records.specs.AtlasRecords.{is_empty_at}
 use Rattle.shelf_search.specs.Private.Asking.{free_of, tally_of, tally_with}
 use Rattle.shelf_search.specs.declared.tallying.Tally.{Tally}
 use Rattle.shelf_records.proofs.AllLists.LinkedParts.{shelves-left}
-use Rattle.shelf_search.proofs.Searched.PassedShelves.{count-most, tally-more, total-within}
+use Rattle.shelf_search.proofs.Searched.OneMore.{count-most, tally-more, total-within}
 use Rattle.shelf_search.proofs.Searched.PassedWalks.{walk-goes, walk-meets, walk-spent, walk-starts, walk-stops}
 use Rattle.shelf_search.proofs.tallying.tallied.Goals as goal
 

@@ -1,6 +1,6 @@
 use Rattle.std.proofs.Common.{◌≡◌, ◌+◌, ◌*◌, ◌≤◌, length}
 use Rattle.glyph_shelf.specs.Promises.{KeepsCachePromises}
-use Rattle.uses.proofs.frames.draw_frames.Given as goal
+use Rattle.uses.proofs.glyph_frames.draw_frames.Given as goal
 
 abbrev pub invariant-loop-frame : goal.invariant-loop-frame
 invariant-loop-frame l =

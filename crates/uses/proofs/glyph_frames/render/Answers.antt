@@ -8,7 +8,7 @@ use Rattle.shelf_model.specs.Places.{allocations}
 use Rattle.glyph_shelf.proofs.Callers.{length-after_dropping, looked-unknown, unknown-rectangle}
 use Rattle.glyph_shelf.specs.Cache.{CacheState, kept_allocations, rectangle_at}
 use Rattle.glyph_shelf.specs.Placing.{IsNew}
-use Rattle.uses.proofs.frames.render.Goals as goal
+use Rattle.uses.proofs.glyph_frames.render.Goals as goal
 
 -- as many are there as the atlas has allocated, and that stays
 pub returns-in-Some-clause-there : goal.returns-in-Some-clause-there

@@ -3,7 +3,7 @@ use Rattle.etagere_base.specs.declared.frames.Frame.{Frame}
 use Rattle.etagere_base.specs.Sides.{side}
 use Rattle.bucketed_model.specs.Frames.{IsBucketedFrame, bucketed_frame}
 use Rattle.bucketed_model.proofs.Shelving.NewFrames.{accepted-bucketed}
-use Rattle.bucketed_model.proofs.frames.bucketed_frame.Goals as goal
+use Rattle.bucketed_model.proofs.bucketed_frames.bucketed_frame.Goals as goal
 
 pub returns-clause-frame : goal.returns-clause-frame
 returns-clause-frame c =
