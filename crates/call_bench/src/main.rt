@@ -5,10 +5,10 @@
 //! `bench/calls` counts its instructions: two rounds less one are the calls alone.
 #![tactic(auto)]
 
-mod called;
+mod commanded;
 
 use anyhow::{Context, Result};
-use called::Called;
+use commanded::Commanded;
 use etagere::{AtlasAllocator, BucketedAtlasAllocator};
 use run_scripts::commands::{AtlasCommand, BucketedCommand};
 use run_scripts::reading::read_all;
@@ -60,7 +60,7 @@ fn of_buckets(
     call_and_end(alloc, &mut atlas, commands, round)
 }
 
-fn call_and_end<A: Called>(
+fn call_and_end<A: Commanded>(
     alloc: Global,
     atlas: &mut A,
     commands: &[A::Command],
@@ -72,7 +72,7 @@ fn call_and_end<A: Called>(
 }
 
 /// Makes the calls of the commands, and counts the rectangles that were given.
-fn call_all<A: Called>(alloc: Global, atlas: &mut A, commands: &[A::Command]) -> Result<u64> {
+fn call_all<A: Commanded>(alloc: Global, atlas: &mut A, commands: &[A::Command]) -> Result<u64> {
     let mut ids = Vec::with_capacity(alloc, commands.len())?;
     let mut given = 0_u64;
     for command in commands {

@@ -5,8 +5,8 @@ use run_scripts::commands::{AtlasCommand, BucketedCommand};
 use std::alloc::{AllocError, Global};
 use std::io::{self, Write};
 
-/// An atlas that is called by commands.
-pub trait Called {
+/// An atlas that is commanded: each command makes a call of it.
+pub trait Commanded {
     type Command: Copy;
 
     /// Makes the call of a command, and gives the id of what it was given. `ids` has those of the commands before.
@@ -21,7 +21,7 @@ pub trait Called {
     fn end(&self, alloc: Global, round: &str) -> anyhow::Result<()>;
 }
 
-impl Called for AtlasAllocator {
+impl Commanded for AtlasAllocator {
     type Command = AtlasCommand;
 
     fn call(
@@ -64,7 +64,7 @@ impl Called for AtlasAllocator {
     }
 }
 
-impl Called for BucketedAtlasAllocator {
+impl Commanded for BucketedAtlasAllocator {
     type Command = BucketedCommand;
 
     fn call(
