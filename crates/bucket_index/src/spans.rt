@@ -479,9 +479,9 @@ impl Spans {
     }
 
     /// Forgets the spans of the blocks of the record of a number, which may have become another record.
-    pub fn forget(&mut self, buckets: &[LinkedBucket], number: usize)
-        requires { spec.AreOtherSpans number self.old buckets.now }
-        ensures { spec.AreSpans self.new buckets.now }
+    pub fn forget(&mut self, number: usize)
+        ensures { (buckets : List LinkedBucket) → spec.AreOtherSpans number self.old buckets
+            → spec.AreSpans self.new buckets }
     {
         if !self.are_learned {
             return;

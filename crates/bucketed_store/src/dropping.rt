@@ -84,7 +84,7 @@ fn make_row_unused(
     };
     let end = row_end(buckets, number);
     link_to(buckets, end.last, *unused);
-    spans.forget(buckets, end.last);
+    spans.forget(end.last);
     *unused = first;
     end.count
 }

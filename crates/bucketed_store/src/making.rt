@@ -82,7 +82,7 @@ fn make_bucket(
         let old = buckets[number];
         *unused = old.next;
         buckets[number] = new_record(new, first, old.generation.wrapping_add(1));
-        spans.forget(buckets, number);
+        spans.forget(number);
         return Link::to(number);
     }
     let number = buckets.len();

@@ -2,10 +2,9 @@ use Rattle.std.proofs.Common.{◌≡◌, ℕ, ◌+◌, ◌%◌, ◌<◌, ◌≤�
 use Rattle.std.proofs.lemmas.Option.{slice_get-get_or, slice_get_past}
 use Rattle.std.specs.Option.{option_map_or}
 use Rattle.std.specs.Prelude.{slice_get}
-use Rattle.etagere_links.specs.Edits.{changed_by}
 use Rattle.etagere_links.proofs.EditLemmas.{set-changed}
 use Rattle.bucketed_records.specs.declared.records.LinkedBucket.{LinkedBucket}
-use Rattle.bucket_index.specs.Private.Spans.{AreOtherSpans, AreSpans}
+use Rattle.bucket_index.specs.Private.Spans.{AreSpans}
 use Rattle.etagere_links.specs.Links.{bits_of}
 use Rattle.bucket_index.proofs.LinkedRecords.{named}
 use Rattle.bucket_index.proofs.KnownSpans.{spans-added, spans-changed}
@@ -82,17 +81,13 @@ returns-clause-unused c = ap (λ (m : Made). m.unused) (sym (fresh c))
 pub returns-clause-first : goal.returns-clause-first
 returns-clause-first c = c.to-2.ensures ∙ ap (λ (n : ℕ). Some n) (omega (arith, c.len-number.ensures)) ∙ ap (λ (m : Made). m.first) (sym (fresh c))
 
-pub forget-requires : goal.forget-requires
-forget-requires c =
+pub returns-then-number-len-clause-spans : goal.returns-then-number-len-clause-spans
+returns-then-number-len-clause-spans c =
     let items = c.args.buckets.now.items in
     let number = c.from-number.result in
     let r = c.new_record.result in
-    let written : c.deref.result.now ≡ changed_by (Some number) (λ (_ : LinkedBucket). r) items =
-    c.deref.ensures.value ∙ set-changed (λ (_ : LinkedBucket). r) items number r (omega (arith, c.if-number-len.true, c.len.ensures)) in
-    subst (AreOtherSpans number c.args.spans.now) (sym written) (spans-changed number (λ (_ : LinkedBucket). r) c.args.spans.now items c.requires.spans)
-
-pub returns-then-number-len-clause-spans : goal.returns-then-number-len-clause-spans
-returns-then-number-len-clause-spans c = subst (AreSpans c.forget.new.self) c.deref.ensures.value c.forget.ensures
+    rw (set-changed (λ (_ : LinkedBucket). r) items number r (omega (arith, c.if-number-len.true, c.len.ensures)))
+    (c.forget.ensures _ (spans-changed number (λ (_ : LinkedBucket). r) c.args.spans.now items c.requires.spans))
 
 pub returns-clause-spans : goal.returns-clause-spans
 returns-clause-spans c =

@@ -4,11 +4,10 @@ use Rattle.bucket_index.proofs.KnownSpans.{forgotten}
 use Rattle.bucket_index.proofs.spans.Spans.forget.Goals as goal
 
 pub returns : goal.returns
-returns c learned =
+returns c buckets other learned =
     let number = c.args.number in
     let self = c.args.self.now in
-    let buckets = c.args.buckets.now in
-    let others = c.requires learned in
+    let others = other learned in
     record {
       known = record {
         small = forgotten number (block_of 1) c.block_of.result c.no_span.result self.small c.set_span.new.spans buckets c.set_span.ensures c.block_of.ensures.value c.no_span.ensures others.small;
