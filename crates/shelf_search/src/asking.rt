@@ -5,6 +5,7 @@
 ghost use Rattle.std.specs.Prelude.{◌≡◌, ◌≤◌, ◌<◌, length};
 ghost use Rattle.etagere_base.specs.Frames.{IsFrame, longest_side};
 ghost use Rattle.etagere_base.specs.Lists.{times};
+ghost use Rattle.etagere_base.specs.declared.frames.Frame.{Frame};
 ghost use Rattle.etagere_links.specs.Links.{no_link};
 ghost use Rattle.shelf_records.specs.RecordLists.{IsLinked, shelf_walk, walked_lists};
 ghost use Rattle.shelf_model.specs.Choice as choice;
@@ -38,7 +39,7 @@ pub fn refusal(frame: &Frame, records: &Records, items_in_use: u32, size: Size) 
     if u32::from(widest) < sides.along {
         return Some(no_room(widest));
     }
-    if lacks_records(frame, records, items_in_use, height, sides) {
+    if lacks_records(records, items_in_use, height, sides) {
         return Some(Refusal::NoRecords);
     }
     None
@@ -99,19 +100,14 @@ fn widest_at(records: &Records, height: u32, shelf: usize) -> u16
 
 /// Whether the splits of the chosen place would make more items than an atlas has. Which place it is matters only where
 /// two splits might.
-fn lacks_records(
-    frame: &Frame,
-    records: &Records,
-    items_in_use: u32,
-    height: u32,
-    sides: Sides,
-) -> bool
-    requires kept { AreKept frame.now records.now }
-    requires counted { items_in_use
-        ≡ state.items_in_use (state_of frame.now records.now).shelves }
-    requires height { height ≡ choice.shelf_height frame.now sides.across }
+fn lacks_records(records: &Records, items_in_use: u32, height: u32, sides: Sides) -> bool
+    requires linked { IsLinked records.now (walked_lists records.now) }
+    requires few { items_in_use ≤ MOST_ITEMS }
     requires short { (sides.along ≤ longest_side) × (height ≤ longest_side) }
-    ensures { result ≡ spec.lacks_records (state_of frame.now records.now) sides }
+    ensures { (frame : Frame) → AreKept frame records.now
+        → items_in_use ≡ state.items_in_use (state_of frame records.now).shelves
+        → height ≡ choice.shelf_height frame sides.across
+        → result ≡ spec.lacks_records (state_of frame records.now) sides }
 {
     if items_in_use + MOST_SPLITS <= MOST_ITEMS {
         return false;

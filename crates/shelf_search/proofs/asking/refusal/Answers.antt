@@ -26,7 +26,7 @@ returns-then-lacks_records c =
     let fits = sym c.size_refusal.ensures ∙ c.in_default.is in
     records-lacking (state_of frame records) c.args.size fits sides c.rounded-sides.ensures c.widest_free-widest.result
     (widest-told frame records c.args.size sides c.shelf_height-height.result c.widest_free-widest.result c.requires.kept c.rounded-sides.ensures c.shelf_height-height.ensures.value c.widest_free-widest.ensures)
-    (omega (arith, c.if-from-sides.false, c.from.ensures)) (sym c.lacks_records.ensures ∙ c.if-lacks_records.true)
+    (omega (arith, c.if-from-sides.false, c.from.ensures)) (sym (c.lacks_records.ensures frame c.requires.kept c.requires.counted c.shelf_height-height.ensures.value) ∙ c.if-lacks_records.true)
 
 pub returns : goal.returns
 returns c =
@@ -36,7 +36,7 @@ returns c =
     let fits = sym c.size_refusal.ensures ∙ c.in_default.is in
     nothing-lacking (state_of frame records) c.args.size fits sides c.rounded-sides.ensures c.widest_free-widest.result
     (widest-told frame records c.args.size sides c.shelf_height-height.result c.widest_free-widest.result c.requires.kept c.rounded-sides.ensures c.shelf_height-height.ensures.value c.widest_free-widest.ensures)
-    (omega (arith, c.if-from-sides.false, c.from.ensures)) (sym c.lacks_records.ensures ∙ c.if-lacks_records.false)
+    (omega (arith, c.if-from-sides.false, c.from.ensures)) (sym (c.lacks_records.ensures frame c.requires.kept c.requires.counted c.shelf_height-height.ensures.value) ∙ c.if-lacks_records.false)
 
 pub rounded-sides-requires-clause-alignment_width : goal.rounded-sides-requires-clause-alignment_width
 rounded-sides-requires-clause-alignment_width c = (witnesses c.requires.kept).valid.frame.alignment_width
@@ -63,3 +63,9 @@ size_refusal-requires-clause-alignment_width c = (witnesses c.requires.kept).val
 
 pub size_refusal-requires-clause-alignment_height : goal.size_refusal-requires-clause-alignment_height
 size_refusal-requires-clause-alignment_height c = (witnesses c.requires.kept).valid.frame.alignment_height
+
+pub lacks_records-requires-clause-linked : goal.lacks_records-requires-clause-linked
+lacks_records-requires-clause-linked c = (witnesses c.requires.kept).linked
+
+pub lacks_records-requires-clause-few : goal.lacks_records-requires-clause-few
+lacks_records-requires-clause-few c = omega (arith, c.requires.counted, (witnesses c.requires.kept).valid.peak_items)
