@@ -149,7 +149,7 @@ impl AtlasAllocator {
         let Ok(by_height) = fresh_by_height(alloc, &frame) else {
             return Err(OptionsFault::Memory);
         };
-        let Ok(pending) = settled_notes(alloc, &frame, &records, &by_height) else {
+        let Ok(pending) = settled_notes(alloc, &records, &by_height) else {
             return Err(OptionsFault::Memory);
         };
         Ok(AtlasAllocator {

@@ -132,7 +132,7 @@ pub fn restore_atlas(
     else {
         return Err(RestoreFault::Memory);
     };
-    let Ok(pending) = settled_notes(alloc, &atlas.frame, &atlas.records, &by_height) else {
+    let Ok(pending) = settled_notes(alloc, &atlas.records, &by_height) else {
         return Err(RestoreFault::Memory);
     };
     let items_in_use = walked.items.met.len() as u32;

@@ -11,11 +11,12 @@ ghost use Rattle.shelf_records.specs.Records.{shelf_chain};
 ghost use Rattle.shelf_heights.specs.Private.ByHeight as heights;
 ghost use Rattle.shelf_heights.specs.Private.ByHeight.{AreByHeight, AreInOrder, chain_order, numbers_by_height};
 ghost use Rattle.etagere_base.specs.Lists.{times};
+ghost use Rattle.etagere_base.specs.declared.frames.Frame.{Frame};
 ghost use Rattle.etagere_links.specs.Links.{no_link};
 ghost use Rattle.shelf_notes.specs.Private.Pending.{is_in_use, is_listed, is_noted};
 ghost use Rattle.shelf_records.specs.Private.Kept.{AreKept, bare};
 ghost use Rattle.shelf_store.specs.Private.Settling as spec;
-ghost use Rattle.shelf_store.specs.Private.Settling.{AreByHeightButNoted, AreSettled, BeginAsListed, BeginsAsListed, Follows, IsBoundIn, IsBounded, IsListOf, IsSettled, bounded_anew};
+ghost use Rattle.shelf_store.specs.Private.Settling.{AreByHeightButNoted, AreSettled, BeginAsListed, BeginsAsListed, Follows, IsBoundIn, IsBounded, IsListButNoted, IsListOf, IsSettled, bounded_anew};
 
 use crate::starting::{FIRST_ROOM, newly_bounded, sort_shelves};
 use etagere_base::Frame;
@@ -95,12 +96,10 @@ fn reserve_room(
 /// The notes of a list that follows these records.
 pub fn settled_notes(
     alloc: Global,
-    frame: &Frame,
     records: &Records,
     by_height: &ShelvesByHeight,
 ) -> Result<PendingShelves, AllocError>
-    requires kept { AreKept frame.now records.now }
-    requires by_height { AreByHeight frame.now records.now by_height.now.items }
+    requires list { IsListOf records.now by_height.now.items }
     ensures settled { IfOk result (λ pending. AreSettled records.now pending.notes) }
     ensures room { IfOk result (λ pending. length records.now.shelves ≤ pending.room) }
 {
@@ -254,7 +253,7 @@ fn settle_noted(
         sort_shelves(frame, records, by_height);
         settle_notes(records, by_height, pending);
     } else {
-        take_out_moved(frame, records, by_height, pending);
+        take_out_moved(records, by_height, pending);
         settle_each(frame, records, by_height, pending);
     }
 }
@@ -266,38 +265,34 @@ fn are_many(changed: usize, listed: usize) -> bool {
 }
 
 /// Takes those out of the list that have changed and are out of use, or begin elsewhere by now.
-fn take_out_moved(
-    frame: &Frame,
-    records: &Records,
-    by_height: &mut ShelvesByHeight,
-    pending: &mut PendingShelves,
-)
-    requires kept { AreKept frame.now records.now }
-    requires by_height { AreByHeightButNoted frame.now records.now pending.old.notes by_height.old.items }
-    ensures by_height { AreByHeightButNoted frame.now records.now pending.new.notes by_height.new.items }
+fn take_out_moved(records: &Records, by_height: &mut ShelvesByHeight, pending: &mut PendingShelves)
+    requires list { IsListButNoted records.now pending.old.notes by_height.old.items }
+    ensures by_height { (frame : Frame) → AreKept frame records.now
+        → AreByHeightButNoted frame records.now pending.old.notes by_height.old.items
+        → AreByHeightButNoted frame records.now pending.new.notes by_height.new.items }
     ensures as_listed { BeginAsListed records.now.shelves pending.new.notes }
     ensures capacity { by_height.old.capacity ≤ by_height.new.capacity }
     ensures room { pending.new.room ≡ pending.old.room }
 {
     for index in 0..pending.len() {
         let shelf = pending.noted_at(index);
-        take_out_if_moved(frame, records, by_height, pending, shelf);
+        take_out_if_moved(records, by_height, pending, shelf);
     }
 }
 
 /// Takes a shelf out of the list, if it has it and the shelf is out of use, or begins elsewhere by now.
 fn take_out_if_moved(
-    frame: &Frame,
     records: &Records,
     by_height: &mut ShelvesByHeight,
     pending: &mut PendingShelves,
     shelf: usize,
 )
-    requires kept { AreKept frame.now records.now }
-    requires by_height { AreByHeightButNoted frame.now records.now pending.old.notes by_height.old.items }
+    requires list { IsListButNoted records.now pending.old.notes by_height.old.items }
     requires known { shelf < length pending.old.notes.standing }
     requires noted { is_noted pending.old.notes shelf ≡ true }
-    ensures by_height { AreByHeightButNoted frame.now records.now pending.new.notes by_height.new.items }
+    ensures by_height { (frame : Frame) → AreKept frame records.now
+        → AreByHeightButNoted frame records.now pending.old.notes by_height.old.items
+        → AreByHeightButNoted frame records.now pending.new.notes by_height.new.items }
     ensures as_listed { BeginsAsListed records.now.shelves pending.new.notes shelf }
     ensures others { (k : ℕ) → BeginsAsListed records.now.shelves pending.old.notes k
         → BeginsAsListed records.now.shelves pending.new.notes k }

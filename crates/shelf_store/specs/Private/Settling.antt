@@ -73,6 +73,12 @@ abbrev pub AreByHeightButNoted : Frame → Records → Notes → List BoundedShe
 AreByHeightButNoted frame records notes by_height =
     HoldsButNoted (bare frame records) (walked_lists records).entries notes by_height
 
+-- a list has the shelves in use of kept records by height, but for those that have changed, whatever their frame
+pub record IsListButNoted (records : Records) (notes : Notes) (list : List BoundedShelf) : Type 0 where
+  pub frame : Frame
+  pub kept : AreKept frame records
+  pub by_height : AreByHeightButNoted frame records notes list
+
 -- none has changed since the list followed the records: the shelves in use are listed, where their records put them
 pub record AreSettled (records : Records) (notes : Notes) : Type 0 where
   pub unchanged : (k : ℕ) → is_noted notes k ≡ false

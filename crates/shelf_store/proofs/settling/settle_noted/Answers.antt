@@ -15,3 +15,6 @@ sort_shelves-requires-clause-room c =
 
 pub settle_notes-requires-clause-list : goal.settle_notes-requires-clause-list
 settle_notes-requires-clause-list c = record { frame = c.args.frame.now; kept = c.requires.kept; by_height = c.sort_shelves.ensures.by_height }
+
+pub take_out_moved-requires : goal.take_out_moved-requires
+take_out_moved-requires c = record { list = record { frame = c.args.frame.now; kept = c.requires.kept; by_height = c.requires.by_height } }

@@ -10,15 +10,15 @@ listed so e = grind arith
 
 pub begins_as_listed-requires-clause-there : goal.begins_as_listed-requires-clause-there
 begins_as_listed-requires-clause-there c =
-    in_use-there c.args.frame.now c.args.records.now c.args.pending.now.notes c.args.by_height.now.items c.requires.kept c.requires.by_height c.args.shelf
+    in_use-there c.requires.list.frame c.args.records.now c.args.pending.now.notes c.args.by_height.now.items c.requires.list.kept c.requires.list.by_height c.args.shelf
     (sym (ap (λ (s : Standing). s.in_use) c.standing-standing.ensures) ∙ c.if-standing.true)
 
 pub begins_as_listed-requires-clause-kept : goal.begins_as_listed-requires-clause-kept
 begins_as_listed-requires-clause-kept c =
-    listed-within c.args.frame.now c.args.records.now c.args.pending.now.notes c.args.by_height.now.items c.requires.kept c.requires.by_height c.args.shelf
+    listed-within c.requires.list.frame c.args.records.now c.args.pending.now.notes c.args.by_height.now.items c.requires.list.kept c.requires.list.by_height c.args.shelf
     (sym (ap (λ (s : Standing). s.listed) c.standing-standing.ensures) ∙ listed c.standing-standing.result.listed c.if-not-standing.false)
 
 pub returns-clause-by_height : goal.returns-clause-by_height
-returns-clause-by_height c =
+returns-clause-by_height c frame kept holds =
     rw (c.unlist.ensures.notes, c.take_out.ensures.by_height)
-    (gone-holds c.args.frame.now c.args.records.now c.args.pending.now.notes c.args.by_height.now.items c.requires.kept c.requires.by_height c.args.shelf c.requires.known c.requires.noted)
+    (gone-holds frame c.args.records.now c.args.pending.now.notes c.args.by_height.now.items kept holds c.args.shelf c.requires.known c.requires.noted)

@@ -5,6 +5,11 @@ use Rattle.shelf_notes.specs.Private.Pending.{Notes, once_where}
 use Rattle.shelf_store.proofs.ByHeight.SettledShelves.{BeginAsListedAmong, all-as_listed, one-more-as_listed}
 use Rattle.shelf_store.proofs.settling.take_out_moved.Goals as goal
 
+pub take_out_if_moved-requires-clause-list : goal.take_out_if_moved-requires-clause-list
+take_out_if_moved-requires-clause-list c =
+    let list = c.requires.list in
+    record { frame = list.frame; kept = list.kept; by_height = c.loop-index.invariant.holds list.frame list.kept list.by_height }
+
 pub loop-index-preserved : goal.loop-index-preserved
 loop-index-preserved c =
     let old : Notes = c.loop-index.pending.notes in
@@ -12,7 +17,7 @@ loop-index-preserved c =
     let below : c.loop-index.index < length old.noted =
     omega (arith, c.loop-index-test.true, c.len-index-end.ensures.len, ap (λ (ns : List ℕ). length ns) c.loop-index.invariant.noted) in
     record {
-      holds = c.take_out_if_moved.ensures.by_height;
+      holds = λ frame kept holds. c.take_out_if_moved.ensures.by_height frame kept (c.loop-index.invariant.holds frame kept holds);
       as_listed = subst (λ (ns : List ℕ). BeginAsListedAmong c.args.records.now.shelves new (take (c.loop-index.index + 1) ns)) (sym c.take_out_if_moved.ensures.noted)
           (one-more-as_listed c.args.records.now.shelves old new c.loop-index.index c.noted_at-shelf.result below c.noted_at-shelf.ensures.value c.take_out_if_moved.ensures.others c.take_out_if_moved.ensures.as_listed c.loop-index.invariant.as_listed);
       noted = c.take_out_if_moved.ensures.noted ∙ c.loop-index.invariant.noted;
@@ -23,8 +28,9 @@ loop-index-preserved c =
 
 pub returns-clause-as_listed : goal.returns-clause-as_listed
 returns-clause-as_listed c =
+    let list = c.requires.list in
     let notes : Notes = c.loop-index.pending.notes in
     let all = take_all c.loop-index.index notes.noted (omega (arith, c.loop-index-test.false, c.len-index-end.ensures.len, ap (λ (ns : List ℕ). length ns) c.loop-index.invariant.noted)) in
-    all-as_listed c.args.frame.now c.args.records.now notes c.loop-index.by_height.items c.requires.kept c.loop-index.invariant.holds
+    all-as_listed list.frame c.args.records.now notes c.loop-index.by_height.items list.kept (c.loop-index.invariant.holds list.frame list.kept list.by_height)
     (λ k. ap (times k) c.loop-index.invariant.noted ∙ c.len-index-end.ensures.tied k ∙ sym (ap once_where (c.loop-index.invariant.same k)))
     (subst (BeginAsListedAmong c.args.records.now.shelves notes) all c.loop-index.invariant.as_listed)

@@ -35,10 +35,16 @@ are : (c : goal.In-Ok-settled_notes) → AreByHeight c.atlas_frame-frame.result 
 are c =
     subst (λ (records : Records). AreByHeight c.atlas_frame-frame.result records c.in-Ok-fresh_by_height.by_height.items) (sym c.in-Ok.ensures) c.in-Ok-fresh_by_height.ensures.by_height
 
-pub settled_notes-requires-clause-kept : goal.settled_notes-requires-clause-kept
-settled_notes-requires-clause-kept c =
-    subst (AreKept c.atlas_frame-frame.result) (sym c.in-Ok.ensures)
-    (fresh-kept c.atlas_frame-frame.result c.atlas_frame-frame.ensures.frame (subst HasAllColumns (sym c.atlas_frame-frame.ensures.value) refl)).1
+pub settled_notes-requires : goal.settled_notes-requires
+settled_notes-requires c =
+    let frame = c.atlas_frame-frame.result in
+    record {
+      list = record {
+        frame = frame;
+        kept = subst (AreKept frame) (sym c.in-Ok.ensures) (fresh-kept frame c.atlas_frame-frame.ensures.frame (subst HasAllColumns (sym c.atlas_frame-frame.ensures.value) refl)).1;
+        by_height = subst (λ (records : Records). AreByHeight frame records c.in-Ok-fresh_by_height.by_height.items) (sym c.in-Ok.ensures) c.in-Ok-fresh_by_height.ensures.by_height;
+      };
+    }
 
 pub invariant_of-result : goal.invariant_of-result
 invariant_of-result c =
