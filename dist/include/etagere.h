@@ -358,7 +358,7 @@ EtagereStatus etagere_atlas_largest_free(EtagereAtlas *atlas, EtagereSize *size)
 
 /* Makes the atlas larger. What is allocated keeps its place, its id and its index.
  * Answers ETAGERE_OK; ETAGERE_NULL_HANDLE; ETAGERE_GROW_.., the first fault, ETAGERE_GROW_MEMORY only where there is
- * no other, the growth needs records and there was no memory. Goes through all shelves, for wider columns through
+ * no other, the grow needs records and there was no memory. Goes through all shelves, for wider columns through
  * all items too, and sorts the shelves. */
 EtagereStatus etagere_atlas_grow(EtagereAtlas *atlas, EtagereSize size);
 
@@ -559,8 +559,9 @@ EtagereStatus etagere_bucketed_restore(EtagereBucketed *atlas, const uint8_t *te
 
 /* Fills a null handle with an empty cache of at most `capacity` keys, over an atlas of this size.
  * Answers ETAGERE_OK; ETAGERE_HANDLE_IN_USE; ETAGERE_LENGTH where the capacity is 0; ETAGERE_OPTIONS_.., the first
- * fault, ETAGERE_OPTIONS_MEMORY only where there is no other and no memory. Takes no memory for keys that aren't
- * there yet, and goes through the columns. */
+ * fault, ETAGERE_OPTIONS_MEMORY only where there is no other and no memory. Takes memory for the atlas and for a
+ * table of so many keys, or, where they may be more than 16384, for one that grows as they come, and goes through the
+ * columns and the table. */
 EtagereStatus etagere_cache_new(EtagereCache *cache, EtagereSize size, const EtagereOptions *options, size_t capacity);
 
 /* Frees a cache with all that it holds, and makes the handle null.
@@ -613,7 +614,7 @@ EtagereStatus etagere_cache_entries(EtagereCache *cache, EtagereEntry *entries, 
 
 /* Makes the atlas larger. Each key keeps its place, and the order of use stays.
  * Answers ETAGERE_OK; ETAGERE_NULL_HANDLE; ETAGERE_GROW_.., the first fault, ETAGERE_GROW_MEMORY only where there is
- * no other, the growth needs records and there was no memory. Costs what etagere_atlas_grow does. */
+ * no other, the grow needs records and there was no memory. Costs what etagere_atlas_grow does. */
 EtagereStatus etagere_cache_grow(EtagereCache *cache, EtagereSize size);
 
 /* Sets how many keys there may be. Where more are there, those used least recently are evicted, no more than needed.
