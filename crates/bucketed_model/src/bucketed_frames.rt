@@ -20,15 +20,10 @@ pub fn bucketed_frame(size: Size, options: &AllocatorOptions) -> Frame
     ensures value { result ≡ spec.bucketed_frame size options.now }
     ensures frame { IsBucketedFrame result }
 {
-    let column_width = column_width(size, options);
     Frame {
-        width: side(size.width),
-        height: side(size.height),
-        alignment_width: side(options.alignment.width),
-        alignment_height: side(options.alignment.height),
-        vertical: options.vertical_shelves,
-        column_width,
+        column_width: column_width(size, options),
         columns: side(options.num_columns),
+        ..Frame::without_columns(size, options.alignment, options.vertical_shelves)
     }
 }
 

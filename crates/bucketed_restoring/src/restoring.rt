@@ -14,7 +14,7 @@ use crate::walking::judged_lists;
 use bucketed_model::bucketed_frames::LONGEST_BUCKETED_SIDE;
 use bucketed_records::records::{KeptShelf, MOST_BUCKETS};
 use bucketed_records::saving::LinkedSnapshot;
-use etagere_base::{Frame, RestoreFault, is_frame, side};
+use etagere_base::{Frame, RestoreFault, is_frame, side, size2};
 use std::alloc::Global;
 
 /// What an atlas has beside the records of its snapshot.
@@ -32,14 +32,12 @@ fn snapshot_frame(snapshot: &LinkedSnapshot) -> Frame
     ensures column_width { result.column_width < 2 ^ 16 }
     ensures columns { result.columns < 2 ^ 16 }
 {
+    let size = size2(snapshot.width, snapshot.height);
+    let alignment = size2(snapshot.alignment_width, snapshot.alignment_height);
     Frame {
-        width: side(snapshot.width),
-        height: side(snapshot.height),
-        alignment_width: side(snapshot.alignment_width),
-        alignment_height: side(snapshot.alignment_height),
-        vertical: snapshot.vertical_shelves,
         column_width: u32::from(snapshot.column_width),
         columns: u32::from(snapshot.num_columns),
+        ..Frame::without_columns(size, alignment, snapshot.vertical_shelves)
     }
 }
 

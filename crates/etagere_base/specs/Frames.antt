@@ -38,6 +38,19 @@ is_too_long size =
 abbrev pub is_too_large : Size → Bool
 is_too_large size = nat_lt largest_area (side size.width * side size.height)
 
+-- the frame of a size, an alignment and a direction of shelves, before it is given columns
+abbrev pub without_columns : Size → Size → Bool → Frame
+without_columns size alignment vertical =
+    record {
+      width = side size.width;
+      height = side size.height;
+      alignment_width = side alignment.width;
+      alignment_height = side alignment.height;
+      vertical = vertical;
+      column_width = 0;
+      columns = 0;
+    }
+
 -- the sides of an atlas along and across its shelves
 abbrev pub sides_of : Size → AllocatorOptions → Sides
 sides_of size options =

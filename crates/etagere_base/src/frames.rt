@@ -41,6 +41,22 @@ pub struct Frame {
 }
 
 impl Frame {
+    /// The frame of a size, an alignment and a direction of shelves, before it is given columns.
+    pub fn without_columns(size: Size, alignment: Size, vertical: bool) -> Frame
+        ensures value { result ≡ spec.without_columns size alignment vertical }
+        ensures alignments { (result.alignment_width < 2 ^ 31) × (result.alignment_height < 2 ^ 31) }
+    {
+        Frame {
+            width: side(size.width),
+            height: side(size.height),
+            alignment_width: side(alignment.width),
+            alignment_height: side(alignment.height),
+            vertical,
+            column_width: 0,
+            columns: 0,
+        }
+    }
+
     /// The side of the atlas along its shelves, in pixels.
     pub fn along_side(&self) -> u32
         ensures { result ≡ spec.along_side self.now }
@@ -107,15 +123,12 @@ pub fn atlas_frame(size: Size, options: &AllocatorOptions) -> Frame
     ensures value { result ≡ spec.atlas_frame size options.now }
     ensures frame { IsFrame longest_side result }
 {
+    let frame = Frame::without_columns(size, options.alignment, options.vertical_shelves);
     let column_width = column_width(size, options);
     Frame {
-        width: side(size.width),
-        height: side(size.height),
-        alignment_width: side(options.alignment.width),
-        alignment_height: side(options.alignment.height),
-        vertical: options.vertical_shelves,
         column_width,
-        columns: sides_of(size, options).along / column_width,
+        columns: frame.along_side() / column_width,
+        ..frame
     }
 }
 
@@ -164,30 +177,9 @@ pub fn column_width(size: Size, options: &AllocatorOptions) -> u32
     requires columns { 0 < side options.now.num_columns }
     ensures { result ≡ column_width_of size options.now }
 {
-    let alignment = alignments_of(options).along;
-    sides_of(size, options).along / side(options.num_columns) / alignment * alignment
-}
-
-/// The sides of an atlas of a size, along and across its shelves.
-fn sides_of(size: Size, options: &AllocatorOptions) -> Sides
-    ensures { result ≡ spec.sides_of size options.now }
-{
-    let sides = Sides {
-        along: side(size.width),
-        across: side(size.height),
-    };
-    swapped_axes(options.vertical_shelves, sides)
-}
-
-/// The alignments along and across the shelves.
-fn alignments_of(options: &AllocatorOptions) -> Sides
-    ensures { result ≡ spec.alignments_of options.now }
-{
-    let alignments = Sides {
-        along: side(options.alignment.width),
-        across: side(options.alignment.height),
-    };
-    swapped_axes(options.vertical_shelves, alignments)
+    let frame = Frame::without_columns(size, options.alignment, options.vertical_shelves);
+    let alignment = frame.alignment_along();
+    frame.along_side() / side(options.num_columns) / alignment * alignment
 }
 
 /// Whether both sides of a size are at least 1, and no longer than `longest`.

@@ -11,7 +11,7 @@ ghost use Rattle.shelf_records.specs.Snapshots.{IsBroken, snapshot_records};
 ghost use Rattle.shelf_records.specs.StandsFor.{HasCounts};
 
 use crate::loaded_atlas::LoadedAtlas;
-use etagere_base::{Frame, LONGEST_SIDE, RestoreFault, Sides, is_frame, side, swapped_axes};
+use etagere_base::{Frame, LONGEST_SIDE, RestoreFault, is_frame, size2};
 use etagere_links::Link;
 use shelf_records::Records;
 use shelf_records::saving::{linked_items, linked_shelves};
@@ -84,23 +84,13 @@ fn frame_of(snapshot: &AtlasSnapshot, column_width: u32) -> Frame
     requires wide { 1 ≤ column_width }
     ensures { result ≡ spec.snapshot_frame snapshot.now }
 {
-    let width = side(snapshot.width);
-    let height = side(snapshot.height);
-    let sides = swapped_axes(
-        snapshot.vertical_shelves,
-        Sides {
-            along: width,
-            across: height,
-        },
-    );
+    let size = size2(snapshot.width, snapshot.height);
+    let alignment = size2(snapshot.alignment_width, snapshot.alignment_height);
+    let frame = Frame::without_columns(size, alignment, snapshot.vertical_shelves);
     Frame {
-        width,
-        height,
-        alignment_width: side(snapshot.alignment_width),
-        alignment_height: side(snapshot.alignment_height),
-        vertical: snapshot.vertical_shelves,
         column_width,
-        columns: sides.along / column_width,
+        columns: frame.along_side() / column_width,
+        ..frame
     }
 }
 

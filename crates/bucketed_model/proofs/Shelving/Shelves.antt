@@ -1,5 +1,5 @@
 -- Shelves end to end: their heights, the columns that they goes, and the numbers of their buckets.
-use Rattle.std.proofs.Common.{◌≡◌, ℕ, suc, ◌+◌, ◌≤◌, ◌≢◌, Bool, true, false, cond, List, [], ◌∷◌, ◌++◌, length, map, refl, ap, arith, ◌∙◌, ⊎_elim, ◌==◌, length-append, ◌-◌}
+use Rattle.std.proofs.Common.{◌≡◌, ℕ, suc, ◌+◌, ◌≤◌, ◌≢◌, Bool, true, false, cond, List, [], ◌∷◌, ◌++◌, length, map, refl, ap, arith, ◌∙◌, ⊎_elim, ◌==◌, length-append}
 use Rattle.std.proofs.lemmas.Bool.{eqb-true}
 use Rattle.std.specs.List.{AllByRecursion}
 use Rattle.etagere_base.proofs.EachLemmas.{Each-append, Each-front}

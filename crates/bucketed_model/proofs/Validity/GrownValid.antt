@@ -1,5 +1,5 @@
 -- A grow leads from a valid state to a valid one.
-use Rattle.std.proofs.Common.{◌≡◌, ℕ, ◌+◌, ◌-◌, ◌*◌, ◌/◌, ◌≤◌, Bool, true, false, cond, None, List, [], ◌∷◌, ◌++◌, length, take, drop, min, refl, arith, sym, ◌∙◌, subst, ◌==◌, zero-add}
+use Rattle.std.proofs.Common.{◌≡◌, ℕ, ◌+◌, ◌-◌, ◌*◌, ◌/◌, ◌≤◌, Bool, true, false, None, List, [], ◌∷◌, ◌++◌, length, take, drop, min, refl, arith, sym, ◌∙◌, subst, ◌==◌, zero-add}
 use Rattle.std.proofs.Math.Nat.{div-mul-le_self, mul-le-mul_right, zero-mul}
 use Rattle.std.proofs.lemmas.Bool.{eqb-true}
 use Rattle.std.proofs.lemmas.List.{length-take}

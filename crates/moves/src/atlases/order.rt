@@ -8,7 +8,7 @@ ghost use Rattle.etagere_base.specs.Sides.{side};
 ghost use Rattle.moves.specs.Atlases.Order as spec;
 ghost use Rattle.moves.specs.Atlases.Order.{AreTallestFirst};
 
-use etagere_base::{Allocation, Rectangle};
+use etagere_base::{Allocation, Rectangle, Sides, swapped_axes};
 use std::cmp::Reverse;
 
 /// How far it is from one place to another, which is not before it; else 0.
@@ -24,11 +24,11 @@ pub fn height_across(vertical: bool, rectangle: Rectangle) -> u32
     ensures { result ≡ spec.height_across vertical rectangle }
 {
     let Rectangle { min, max } = rectangle;
-    if vertical {
-        length(min.x, max.x)
-    } else {
-        length(min.y, max.y)
-    }
+    let sides = Sides {
+        along: length(min.x, max.x),
+        across: length(min.y, max.y),
+    };
+    swapped_axes(vertical, sides).across
 }
 
 /// Sorts allocations: the tallest first, and of equally tall ones that of the least id.

@@ -7,16 +7,12 @@ use Rattle.etagere_base.proofs.frames.atlas_frame.Goals as goal
 
 pub returns-clause-frame : goal.returns-clause-frame
 returns-clause-frame c =
-    let short_width : side c.args.options.now.alignment.width < 2 ^ 31 = search (rules, c.side-3.ensures.bounded) in
-    let short_height : side c.args.options.now.alignment.height < 2 ^ 31 = search (rules, c.side-4.ensures.bounded) in
-    let made : Frame = record {
-      width = c.side.result;
-      height = c.side-2.result;
-      alignment_width = c.side-3.result;
-      alignment_height = c.side-4.result;
-      vertical = c.args.options.now.vertical_shelves;
+    let plain : Frame = c.without_columns-frame.result in
+    let short_width : side c.args.options.now.alignment.width < 2 ^ 31 = search (rules, c.without_columns-frame.ensures.alignments.0) in
+    let short_height : side c.args.options.now.alignment.height < 2 ^ 31 = search (rules, c.without_columns-frame.ensures.alignments.1) in
+    let made : Frame = record plain {
       column_width = c.column_width-column_width.result;
-      columns = c.sides_of.result.along / c.column_width-column_width.result;
+      columns = c.along_side.result / c.column_width-column_width.result;
     } in
     let value : made ≡ atlas_frame c.args.size c.args.options.now = search rules in
     subst (IsFrame 65535) (sym value) (accepted-frame 65535 c.args.size c.args.options.now c.requires short_width short_height)
