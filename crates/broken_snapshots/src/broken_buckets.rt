@@ -1,71 +1,19 @@
 //! At which record the snapshot of a bucketed atlas breaks a rule, and how. As `broken_records`.
 
-ghost use Rattle.std.specs.Prelude.{◌≤◌};
-
-use crate::axes::{lengths, step};
-use crate::broken_records::{Breach, breach_at};
-use crate::record_walks::{End, Record};
+use crate::broken_records::{Breach, Column, breach_at};
+use crate::record_walks::{End, Walk, walk_along};
+use crate::snapshots::{Chain, Record, Snapshot};
 use etagere_base::RestoreFault;
 use snapshot_records::buckets::BucketedSnapshot;
 use std::alloc::{AllocError, Global};
 
-/// What a walk along a list of buckets meets, what leads to the first, and how it ends.
-#[derive(Drop)]
-struct Buckets {
-    head: Record,
-    met: Vec<usize>,
-    end: End,
-}
-
-impl Buckets {
-    /// The record whose link the walk followed last.
-    fn last(&self) -> Record {
-        match self.met.last() {
-            Some(number) => Record::Bucket(*number),
-            None => self.head,
-        }
-    }
-}
-
-/// Walks from the bucket of this number to the end, to a link past the records, or to a record that it has met.
-fn walk(
-    alloc: Global,
-    snapshot: &BucketedSnapshot,
-    head: Record,
-    first: u16,
-) -> Result<Buckets, AllocError> {
-    let mut seen = vec![in alloc; false; 65535]?;
-    let mut met = Vec::new(alloc);
-    let mut link = first;
-    let mut end = End::AtNone;
-    for _ in 0..65536u32 {
-        let number = usize::from(link);
-        if link == 65535 {
-            break;
-        }
-        let (Some(bucket), Some(mark)) = (snapshot.buckets.get(number), seen.get_mut(number)) else {
-            end = End::PastTheRecords;
-            break;
-        };
-        if *mark {
-            end = End::AtMet(number);
-            break;
-        }
-        *mark = true;
-        met.push(number)?;
-        link = bucket.next;
-    }
-    Ok(Buckets { head, met, end })
-}
-
 /// The lists of the shelves, and of the unused buckets behind them.
-fn lists_of(alloc: Global, snapshot: &BucketedSnapshot) -> Result<Vec<Buckets>, AllocError> {
+fn lists_of(alloc: Global, snapshot: &BucketedSnapshot) -> Result<Vec<Walk>, AllocError> {
     let mut lists = Vec::new(alloc);
-    for (number, shelf) in snapshot.shelves.iter().enumerate() {
-        lists.push(walk(alloc, snapshot, Record::Shelf(number), shelf.first_bucket)?)?;
+    for number in 0..snapshot.shelves.len() {
+        lists.push(walk_along(alloc, snapshot, Chain::Buckets(number))?)?;
     }
-    let head = Record::Field("first_unallocated_bucket");
-    lists.push(walk(alloc, snapshot, head, snapshot.first_unallocated_bucket)?)?;
+    lists.push(walk_along(alloc, snapshot, Chain::UnusedBuckets)?)?;
     Ok(lists)
 }
 
@@ -87,12 +35,12 @@ pub fn breach_of_buckets(
     }
 }
 
-fn breach_of_links(snapshot: &BucketedSnapshot, lists: &[Buckets]) -> Option<Breach> {
+fn breach_of_links(snapshot: &BucketedSnapshot, lists: &[Walk]) -> Option<Breach> {
     for list in lists {
         if list.end == End::PastTheRecords {
             return breach_at(list.last(), "its link leads past the records");
         }
-        let Record::Shelf(owner) = list.head else {
+        let Chain::Buckets(owner) = list.chain else {
             continue;
         };
         for number in &list.met {
@@ -107,20 +55,10 @@ fn breach_of_links(snapshot: &BucketedSnapshot, lists: &[Buckets]) -> Option<Bre
     None
 }
 
-/// How far the shelves of a column reach.
-#[derive(Clone, Copy)]
-struct Column {
-    number: u32,
-    height: u32,
-}
-
 fn breach_of_shelves(snapshot: &BucketedSnapshot) -> Option<Breach> {
-    let sides = lengths(snapshot.vertical_shelves, snapshot.width, snapshot.height);
+    let across = snapshot.frame().across_side();
     let width = u32::from(snapshot.column_width).max(1);
-    let mut column = Column {
-        number: 0,
-        height: 0,
-    };
+    let mut column = Column::default();
     for (number, shelf) in snapshot.shelves.iter().enumerate() {
         let here = Record::Shelf(number);
         let its_column = u32::from(shelf.x) / width;
@@ -138,11 +76,11 @@ fn breach_of_shelves(snapshot: &BucketedSnapshot) -> Option<Breach> {
             return breach_at(here, "it doesn't begin where the one before it ends");
         }
         column.height = column.height.saturating_add(u32::from(shelf.height));
-        if column.height > sides.across {
+        if column.height > across {
             return breach_at(here, "it ends past its column");
         }
     }
-    breach_of_totals(snapshot, column, sides.across)
+    breach_of_totals(snapshot, column, across)
 }
 
 /// What is wrong with what a snapshot says of its last column.
@@ -162,7 +100,7 @@ fn breach_of_totals(snapshot: &BucketedSnapshot, column: Column, across: u32) ->
     None
 }
 
-fn breach_of_lists(snapshot: &BucketedSnapshot, lists: &[Buckets]) -> Option<Breach> {
+fn breach_of_lists(snapshot: &BucketedSnapshot, lists: &[Walk]) -> Option<Breach> {
     for (number, list) in lists.iter().enumerate() {
         if number == snapshot.shelves.len() {
             return None;
@@ -177,20 +115,9 @@ fn breach_of_lists(snapshot: &BucketedSnapshot, lists: &[Buckets]) -> Option<Bre
     None
 }
 
-/// The alignment along the shelves, at least 1.
-fn step_of(snapshot: &BucketedSnapshot) -> u32
-    ensures { 1 ≤ result }
-{
-    step(
-        snapshot.vertical_shelves,
-        snapshot.alignment_width,
-        snapshot.alignment_height,
-    )
-}
-
 fn breach_of_width(snapshot: &BucketedSnapshot, number: usize) -> Option<Breach> {
     let width = u32::from(snapshot.shelves.get(number)?.bucket_width);
-    if width % step_of(snapshot) != 0 || (width == 0 && snapshot.num_columns == 1) {
+    if width % snapshot.step() != 0 || (width == 0 && snapshot.num_columns == 1) {
         return breach_at(
             Record::Shelf(number),
             "its bucket_width is 0, or not aligned",
@@ -200,7 +127,7 @@ fn breach_of_width(snapshot: &BucketedSnapshot, number: usize) -> Option<Breach>
 }
 
 /// A bucket that doesn't lie beside those that are searched before it, down to where the shelf begins.
-fn breach_of_places(snapshot: &BucketedSnapshot, number: usize, list: &Buckets) -> Option<Breach> {
+fn breach_of_places(snapshot: &BucketedSnapshot, number: usize, list: &Walk) -> Option<Breach> {
     let shelf = snapshot.shelves.get(number)?;
     let mut end = u32::from(shelf.x).saturating_add(u32::from(snapshot.column_width));
     let mut last = None;
@@ -212,7 +139,7 @@ fn breach_of_places(snapshot: &BucketedSnapshot, number: usize, list: &Buckets) 
                 "it ends past the column, or where another begins",
             );
         }
-        if place % step_of(snapshot) != 0 {
+        if place % snapshot.step() != 0 {
             return breach_at(Record::Bucket(*bucket), "its x isn't aligned");
         }
         end = place;
@@ -224,7 +151,7 @@ fn breach_of_places(snapshot: &BucketedSnapshot, number: usize, list: &Buckets) 
     None
 }
 
-fn breach_of_counts(snapshot: &BucketedSnapshot, number: usize, list: &Buckets) -> Option<Breach> {
+fn breach_of_counts(snapshot: &BucketedSnapshot, number: usize, list: &Walk) -> Option<Breach> {
     let shelf = snapshot.shelves.get(number)?;
     for bucket in &list.met {
         let here = Record::Bucket(*bucket);
@@ -243,7 +170,7 @@ fn breach_of_counts(snapshot: &BucketedSnapshot, number: usize, list: &Buckets) 
         if record.refcount == 0 && (given != 0 || filled != 0) {
             return breach_at(here, "nothing of it is live, but it counts what it gave");
         }
-        if filled % step_of(snapshot) != 0 || given.saturating_mul(step_of(snapshot)) > filled {
+        if filled % snapshot.step() != 0 || given.saturating_mul(snapshot.step()) > filled {
             return breach_at(
                 here,
                 "what it has used isn't aligned, or too little for what it gave",
@@ -267,7 +194,7 @@ fn breach_of_last(snapshot: &BucketedSnapshot) -> Option<Breach> {
 fn breach_of_sharing(
     alloc: Global,
     snapshot: &BucketedSnapshot,
-    lists: &[Buckets],
+    lists: &[Walk],
 ) -> Result<Option<Breach>, AllocError> {
     let mut listed = vec![in alloc; false; snapshot.buckets.len()]?;
     for list in lists {
@@ -287,7 +214,7 @@ fn breach_of_sharing(
     Ok(lost.and_then(|number| breach_at(Record::Bucket(number), "no list has it")))
 }
 
-fn breach_of_unused(snapshot: &BucketedSnapshot, lists: &[Buckets]) -> Option<Breach> {
+fn breach_of_unused(snapshot: &BucketedSnapshot, lists: &[Walk]) -> Option<Breach> {
     for number in &lists.last()?.met {
         if snapshot.buckets.get(*number)?.refcount != 0 {
             return breach_at(

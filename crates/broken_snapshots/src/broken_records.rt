@@ -1,8 +1,8 @@
 //! At which record the snapshot of a shelf atlas breaks a rule, and how.
 
-use crate::axes::{lengths, step};
-use crate::record_walks::{Chain, End, Record, Walk, walk_along};
-use etagere_base::{RestoreFault, Sides};
+use crate::record_walks::{End, Walk, walk_along};
+use crate::snapshots::{Chain, Record, Snapshot};
+use etagere_base::RestoreFault;
 use snapshot_records::shelves::AtlasSnapshot;
 use std::alloc::{AllocError, Global};
 
@@ -108,29 +108,25 @@ fn breach_of_owner(snapshot: &AtlasSnapshot, items: &Walk) -> Option<Breach> {
     None
 }
 
-/// How far the shelves of a column reach, and the last of them.
-#[derive(Clone, Copy)]
-struct Column {
-    number: u32,
-    height: u32,
-    last: Record,
+/// How far the shelves of a column reach.
+#[derive(Clone, Copy, Default)]
+pub struct Column {
+    pub number: u32,
+    pub height: u32,
 }
 
 fn breach_of_shelves(snapshot: &AtlasSnapshot, used: &Used) -> Option<Breach> {
-    let sides = sides_of(snapshot);
-    let columns = sides.along / u32::from(snapshot.shelf_width).max(1);
-    let mut column = Column {
-        number: 0,
-        height: 0,
-        last: Record::Field("first_shelf"),
-    };
+    let frame = snapshot.frame();
+    let across = frame.across_side();
+    let columns = frame.along_side() / u32::from(snapshot.shelf_width).max(1);
+    let mut column = Column::default();
+    let mut last = Record::Field("first_shelf");
     for number in &used.shelves.met {
-        let here = Record::Shelf(*number);
         let shelf = snapshot.shelves.get(*number)?;
         let its_column = u32::from(shelf.x) / u32::from(snapshot.shelf_width).max(1);
         if its_column > column.number {
-            if column.height != sides.across || its_column != column.number.saturating_add(1) {
-                return breach_at(column.last, "behind it a column isn't filled");
+            if column.height != across || its_column != column.number.saturating_add(1) {
+                return breach_at(last, "behind it a column isn't filled");
             }
             column.number = its_column;
             column.height = 0;
@@ -140,10 +136,10 @@ fn breach_of_shelves(snapshot: &AtlasSnapshot, used: &Used) -> Option<Breach> {
             return found;
         }
         column.height = column.height.saturating_add(u32::from(shelf.height));
-        column.last = here;
+        last = Record::Shelf(*number);
     }
-    if column.height != sides.across || column.number.saturating_add(1) != columns {
-        return breach_at(column.last, "behind it a column isn't filled");
+    if column.height != across || column.number.saturating_add(1) != columns {
+        return breach_at(last, "behind it a column isn't filled");
     }
     None
 }
@@ -154,7 +150,7 @@ fn breach_of_shelf(snapshot: &AtlasSnapshot, number: usize, column: Column) -> O
     let here = Record::Shelf(number);
     let width = u32::from(snapshot.shelf_width).max(1);
     if u32::from(shelf.x) % width != 0
-        || u32::from(shelf.x) / width >= sides_of(snapshot).along / width
+        || u32::from(shelf.x) / width >= snapshot.frame().along_side() / width
     {
         return breach_at(here, "no column begins at its x");
     }
@@ -170,11 +166,6 @@ fn breach_of_shelf(snapshot: &AtlasSnapshot, number: usize, column: Column) -> O
     None
 }
 
-/// The sides of an atlas along its shelves and across.
-fn sides_of(snapshot: &AtlasSnapshot) -> Sides {
-    lengths(snapshot.vertical_shelves, snapshot.width, snapshot.height)
-}
-
 fn breach_of_items(snapshot: &AtlasSnapshot, used: &Used) -> Option<Breach> {
     for (shelf, items) in used.shelves.met.iter().zip(used.items.as_slice()) {
         let found = breach_within_shelf(snapshot, *shelf, items);
@@ -187,11 +178,7 @@ fn breach_of_items(snapshot: &AtlasSnapshot, used: &Used) -> Option<Breach> {
 
 fn breach_within_shelf(snapshot: &AtlasSnapshot, number: usize, items: &Walk) -> Option<Breach> {
     let shelf = snapshot.shelves.get(number)?;
-    let step = step(
-        snapshot.vertical_shelves,
-        snapshot.alignment_width,
-        snapshot.alignment_height,
-    );
+    let step = snapshot.step();
     let mut end = u32::from(shelf.x);
     for item in &items.met {
         let record = snapshot.items.get(*item)?;

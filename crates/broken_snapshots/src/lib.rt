@@ -4,13 +4,13 @@
 //! `broken_records` has the public call for shelf atlases, `broken_buckets` that for bucketed ones.
 #![tactic(auto)]
 
-mod axes;
 mod broken_buckets;
 mod broken_records;
 mod record_walks;
 mod rules;
+mod snapshots;
 
 pub use broken_buckets::breach_of_buckets;
 pub use broken_records::{Breach, breach_of};
-pub use record_walks::Record;
 pub use rules::{bucket_rule, shelf_rule};
+pub use snapshots::Record;

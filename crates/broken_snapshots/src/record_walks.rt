@@ -1,31 +1,11 @@
-//! The lists of a saved shelf atlas, walked record by record.
+//! The lists of a snapshot, walked record by record.
 
+use crate::snapshots::{Chain, Record, Snapshot};
 use snapshot_records::shelves::AtlasSnapshot;
 use std::alloc::{AllocError, Global};
 
 /// The link to no record.
 const NONE: u16 = 65535;
-
-/// A record of a snapshot; or the field of the snapshot that leads to the first of a list.
-#[derive(Clone, Copy)]
-pub enum Record {
-    Field(&'static str),
-    Shelf(usize),
-    Item(usize),
-    Bucket(usize),
-}
-
-/// A list of records.
-#[derive(Clone, Copy)]
-pub enum Chain {
-    Shelves,
-    UnusedShelves,
-    UnusedItems,
-    /// The items of the shelf of this number.
-    Items(usize),
-    /// The free list of the shelf of this number.
-    FreeList(usize),
-}
 
 /// How a walk ends.
 #[derive(Clone, Copy, PartialEq)]
@@ -44,62 +24,6 @@ pub struct Walk {
     pub end: End,
 }
 
-impl Chain {
-    /// The link to the first record.
-    fn first(self, snapshot: &AtlasSnapshot) -> u16 {
-        match self {
-            Chain::Shelves => snapshot.first_shelf,
-            Chain::UnusedShelves => snapshot.free_shelves,
-            Chain::UnusedItems => snapshot.free_items,
-            Chain::Items(shelf) => match snapshot.shelves.get(shelf) {
-                Some(shelf) => shelf.first_item,
-                None => NONE,
-            },
-            Chain::FreeList(shelf) => match snapshot.shelves.get(shelf) {
-                Some(shelf) => shelf.first_unallocated,
-                None => NONE,
-            },
-        }
-    }
-
-    /// The link behind a record; none where there is no such record.
-    fn next(self, snapshot: &AtlasSnapshot, number: usize) -> Option<u16> {
-        match self {
-            Chain::Shelves | Chain::UnusedShelves => Some(snapshot.shelves.get(number)?.next),
-            Chain::UnusedItems | Chain::Items(_) => Some(snapshot.items.get(number)?.next),
-            Chain::FreeList(_) => Some(snapshot.items.get(number)?.next_unallocated),
-        }
-    }
-
-    /// The link back from a record; none where the list has no such links.
-    fn back(self, snapshot: &AtlasSnapshot, number: usize) -> Option<u16> {
-        match self {
-            Chain::Shelves => Some(snapshot.shelves.get(number)?.prev),
-            Chain::Items(_) => Some(snapshot.items.get(number)?.prev),
-            Chain::FreeList(_) => Some(snapshot.items.get(number)?.prev_unallocated),
-            Chain::UnusedShelves | Chain::UnusedItems => None,
-        }
-    }
-
-    /// The record of this number.
-    pub fn record(self, number: usize) -> Record {
-        match self {
-            Chain::Shelves | Chain::UnusedShelves => Record::Shelf(number),
-            _ => Record::Item(number),
-        }
-    }
-
-    /// What leads to the first record.
-    fn head(self) -> Record {
-        match self {
-            Chain::Shelves => Record::Field("first_shelf"),
-            Chain::UnusedShelves => Record::Field("free_shelves"),
-            Chain::UnusedItems => Record::Field("free_items"),
-            Chain::Items(shelf) | Chain::FreeList(shelf) => Record::Shelf(shelf),
-        }
-    }
-}
-
 impl Walk {
     /// The record whose link the walk followed last.
     pub fn last(&self) -> Record {
@@ -113,7 +37,7 @@ impl Walk {
     pub fn first_astray(&self, snapshot: &AtlasSnapshot) -> Option<Record> {
         let mut before = usize::from(NONE);
         for number in &self.met {
-            if let Some(back) = self.chain.back(snapshot, *number) {
+            if let Some(back) = back(snapshot, self.chain, *number) {
                 if usize::from(back) != before {
                     return Some(self.chain.record(*number));
                 }
@@ -124,22 +48,32 @@ impl Walk {
     }
 }
 
+/// The link back from a record; none where the list has no such links.
+fn back(snapshot: &AtlasSnapshot, chain: Chain, number: usize) -> Option<u16> {
+    match chain {
+        Chain::Shelves => Some(snapshot.shelves.get(number)?.prev),
+        Chain::Items(_) => Some(snapshot.items.get(number)?.prev),
+        Chain::FreeList(_) => Some(snapshot.items.get(number)?.prev_unallocated),
+        _ => None,
+    }
+}
+
 /// Walks a list to its end, to a link past the records, or to a record that it has met.
-pub fn walk_along(
+pub fn walk_along<S: Snapshot>(
     alloc: Global,
-    snapshot: &AtlasSnapshot,
+    snapshot: &S,
     chain: Chain,
 ) -> Result<Walk, AllocError> {
     let mut seen = vec![in alloc; false; 65535]?;
     let mut met = Vec::new(alloc);
-    let mut link = chain.first(snapshot);
+    let mut link = snapshot.first(chain).unwrap_or(NONE);
     let mut end = End::AtNone;
     for _ in 0..65536u32 {
         let number = usize::from(link);
         if link == NONE {
             break;
         }
-        let (Some(next), Some(mark)) = (chain.next(snapshot, number), seen.get_mut(number)) else {
+        let (Some(next), Some(mark)) = (snapshot.next(chain, number), seen.get_mut(number)) else {
             end = End::PastTheRecords;
             break;
         };
