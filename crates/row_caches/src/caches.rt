@@ -4,12 +4,11 @@ use crate::moved_caches;
 use etagere::{AllocatorOptions, DEFAULT_OPTIONS, OptionsFault, Rectangle, Size, size2};
 use glyph_shelf::laws::saved_and_restored;
 use glyph_shelf::{CacheRestoreFault, CacheSnapshot, GlyphCache, GlyphFault, Placed};
-use row_calls::atlases::of_options;
 use row_calls::lines::{
     key_and_size_of, key_of, numbers, parted, say, say_bracketed, say_evicted, say_fault, say_if,
     say_number, say_rectangle,
 };
-use row_calls::slots::{Called, NotMade};
+use row_calls::slots::{Called, NotMade, of_options};
 use saved_collections::caches::{read_saved_cache, write_saved_cache};
 use std::alloc::Global;
 use std::io;

@@ -10,12 +10,11 @@ use etagere::{
 use glyph_map::runs::{MapCall, MapReply, answer_on_map, retain_on_map};
 use glyph_map::{GlyphMap, MapFault, MapRestoreFault, NotRestored, Placed, Refused};
 use glyph_shelf::CacheSnapshot;
-use row_calls::atlases::of_options;
 use row_calls::lines::{
     capacity_of, numbers, parted, say, say_bracketed, say_fault, say_if, say_number, say_rectangle,
     size_of,
 };
-use row_calls::slots::{Called, NotMade};
+use row_calls::slots::{Called, NotMade, of_options};
 use std::alloc::{AllocError, Global};
 use std::io;
 use std::num::NonZeroUsize;

@@ -8,12 +8,11 @@ use glyph_shelf::GlyphFault;
 use padding::Padding;
 use padding::caches::PaddedCache;
 use padding::caches::runs::{PaddedCall, PaddedReply, answer_on_padded_cache};
-use row_calls::atlases::of_options;
 use row_calls::lines::{
     capacity_of, key_and_size_of, key_of, numbers, say, say_evicted, say_fault, say_number,
     say_rectangle, size_of,
 };
-use row_calls::slots::{Called, NotMade};
+use row_calls::slots::{Called, NotMade, of_options};
 use std::alloc::Global;
 use std::io;
 use std::num::NonZeroUsize;

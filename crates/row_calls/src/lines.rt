@@ -1,6 +1,6 @@
 //! Words of lines as values, and answers as lines.
 
-use etagere::{AllocId, Allocation, AllocatorOptions, Rectangle, Size, point2, size2};
+use etagere_base::{AllocId, Allocation, AllocatorOptions, Rectangle, Size, point2, size2};
 use std::alloc::AllocError;
 use std::io;
 use std::num::NonZeroUsize;
@@ -80,14 +80,6 @@ pub fn say_fault(rt: &impl Print, number: u32) -> io::Result<()> {
 
 pub fn say_if(rt: &impl Print, holds: bool, yes: &str, no: &str) -> io::Result<()> {
     say(rt, if holds { yes } else { no })
-}
-
-/// Writes a text as a line.
-pub fn say_text(rt: &impl Print, text: &Option<String>) -> io::Result<()> {
-    match text {
-        Some(text) => say(rt, text.as_str()),
-        None => say(rt, "no memory"),
-    }
 }
 
 /// Writes numbers within a line, each behind the words before it.

@@ -1,6 +1,7 @@
 //! The two slots for what is called, and the calls that fill them.
 
-use crate::lines::{parted, say, say_fault, say_number, say_text};
+use crate::lines::{parted, say, say_fault, say_number};
+use etagere_base::OptionsFault;
 use std::alloc::Global;
 use std::io;
 
@@ -15,6 +16,14 @@ pub enum NotMade {
     Told(String),
     /// No words say it, or no text can be read.
     Unread,
+}
+
+/// Why nothing is made with options that have this fault.
+pub fn of_options(fault: OptionsFault) -> NotMade {
+    match fault {
+        OptionsFault::Memory => NotMade::NoMemory,
+        fault => NotMade::Fault(fault.number()),
+    }
 }
 
 /// Something that is made, and then called. It promises nothing, so that what calls it is proved once and fast.
@@ -120,6 +129,14 @@ fn say_steps(rt: &impl Print, steps: Result<u64, NotMade>) -> io::Result<()> {
     match steps {
         Ok(steps) => say_number(rt, steps),
         Err(why) => say_not_made(rt, why),
+    }
+}
+
+/// Writes what was saved.
+fn say_text(rt: &impl Print, text: &Option<String>) -> io::Result<()> {
+    match text {
+        Some(text) => say(rt, text.as_str()),
+        None => say(rt, "no memory"),
     }
 }
 

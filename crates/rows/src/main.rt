@@ -19,7 +19,8 @@ use crate::padded_pages::CalledPaddedPages;
 use crate::paged_caches::CalledPagedCache;
 use crate::pages::CalledPages;
 use anyhow::{Context, Result, bail};
-use etagere::{AtlasAllocator, BucketedAtlasAllocator};
+use row_atlases::buckets::CalledBucketedAtlas;
+use row_atlases::shelves::CalledAtlas;
 use row_caches::caches::CalledCache;
 use row_caches::maps::CalledMap;
 use row_caches::padded_caches::CalledPaddedCache;
@@ -34,8 +35,8 @@ fn main(rt: HostRuntime) -> Result<()> {
 
 fn answer_kind(rt: &HostRuntime, kind: &str) -> Result<()> {
     match kind {
-        "atlas" => answer_all::<AtlasAllocator, _>(rt),
-        "bucketed" => answer_all::<BucketedAtlasAllocator, _>(rt),
+        "atlas" => answer_all::<CalledAtlas, _>(rt),
+        "bucketed" => answer_all::<CalledBucketedAtlas, _>(rt),
         "cache" => answer_all::<CalledCache, _>(rt),
         "pages" => answer_all::<CalledPages, _>(rt),
         "padded" => answer_all::<CalledPaddedPages, _>(rt),

@@ -2,31 +2,34 @@
 
 use crate::atlases;
 use crate::kinds::Atlas;
-use crate::lines::{say, say_each, say_size, size_of};
-use crate::slots::{Called, NotMade};
 use etagere::{
     BucketedAtlasAllocator, BucketedRefusal, BucketedSnapshot, BucketedUsage, RestoreFault, Size,
     laws,
 };
+use row_calls::lines::{say, say_each, say_size, size_of};
+use row_calls::slots::{Called, NotMade};
 use std::alloc::Global;
 use std::io;
 
-impl Called for BucketedAtlasAllocator {
-    fn made(alloc: Global, words: &str) -> Result<BucketedAtlasAllocator, NotMade> {
-        atlases::made(alloc, words)
+/// A bucketed atlas that is called by lines.
+#[derive(Drop)]
+pub struct CalledBucketedAtlas(BucketedAtlasAllocator);
+
+impl Called for CalledBucketedAtlas {
+    fn made(alloc: Global, words: &str) -> Result<CalledBucketedAtlas, NotMade> {
+        Ok(CalledBucketedAtlas(atlases::made(alloc, words)?))
     }
 
-    fn copied(&self, _alloc: Global) -> Result<BucketedAtlasAllocator, NotMade> {
-        atlases::copied(self)
+    fn copied(&self, _alloc: Global) -> Result<CalledBucketedAtlas, NotMade> {
+        Ok(CalledBucketedAtlas(atlases::copied(&self.0)?))
     }
 
     fn saved(&self, alloc: Global) -> Option<String> {
-        let saved = Atlas::saved(self).ok()?;
-        written(alloc, &saved)
+        written(alloc, &self.0.saved().ok()?)
     }
 
-    fn restored(alloc: Global, text: &str) -> Result<BucketedAtlasAllocator, NotMade> {
-        atlases::restored(alloc, read(alloc, text))
+    fn restored(alloc: Global, text: &str) -> Result<CalledBucketedAtlas, NotMade> {
+        Ok(CalledBucketedAtlas(atlases::restored(alloc, read(alloc, text))?))
     }
 
     fn steps(alloc: Global, text: &str) -> Result<u64, NotMade> {
@@ -39,11 +42,11 @@ impl Called for BucketedAtlasAllocator {
         call: &str,
         words: &str,
     ) -> io::Result<()> {
+        let atlas = &mut self.0;
         match call {
-            "refusal" => say_refusal(rt, refusal_of(self, size_of(words))),
-            "usage" => say_usage(rt, &usage_of(self)),
-            "largest" => say_size(rt, largest_of(self)),
-            _ => atlases::answer(self, rt, call, words),
+            "refusal" => say_refusal(rt, refusal_of(atlas, size_of(words))),
+            "usage" => say_usage(rt, &usage_of(atlas)),
+            _ => atlases::answer(atlas, rt, call, words),
         }
     }
 }
@@ -73,10 +76,6 @@ fn refusal_of(atlas: &BucketedAtlasAllocator, size: Size) -> Option<BucketedRefu
 
 fn usage_of(atlas: &BucketedAtlasAllocator) -> BucketedUsage {
     atlas.usage()
-}
-
-fn largest_of(atlas: &BucketedAtlasAllocator) -> Size {
-    atlas.largest_free()
 }
 
 /// Writes why a size has no place, by its number.

@@ -1,9 +1,11 @@
-//! The calls that atlases of both kinds have.
+//! The calls that atlases of both kinds have, by their lines.
 
 use crate::kinds::{Atlas, NotGrown};
-use crate::lines::{asked, id_of, rectangle_of, say, say_fault, say_if, say_placed, size_of};
-use crate::slots::NotMade;
-use etagere::{OptionsFault, RestoreFault, Size};
+use etagere::{RestoreFault, Size};
+use row_calls::lines::{
+    asked, id_of, rectangle_of, say, say_fault, say_if, say_placed, say_size, size_of,
+};
+use row_calls::slots::{NotMade, of_options};
 use std::alloc::Global;
 use std::io;
 
@@ -17,14 +19,7 @@ pub fn made<A: Atlas>(alloc: Global, words: &str) -> Result<A, NotMade> {
     made.map_err(of_options)
 }
 
-pub fn of_options(fault: OptionsFault) -> NotMade {
-    match fault {
-        OptionsFault::Memory => NotMade::NoMemory,
-        fault => NotMade::Fault(fault.number()),
-    }
-}
-
-pub fn of_rule(fault: RestoreFault) -> NotMade {
+fn of_rule(fault: RestoreFault) -> NotMade {
     match fault {
         RestoreFault::Memory => NotMade::NoMemory,
         fault => NotMade::Fault(fault.number()),
@@ -53,6 +48,7 @@ pub fn answer<A: Atlas>(atlas: &mut A, rt: &impl Print, call: &str, words: &str)
         "picture" => draw(atlas, rt),
         "part" => draw_part(atlas, rt, words),
         "counts" => say_counts(rt, atlas),
+        "largest_free" => say_size(rt, atlas.largest()),
         _ => say(rt, "no such call"),
     }
 }

@@ -2,35 +2,38 @@
 
 use crate::atlases;
 use crate::kinds::Atlas;
-use crate::lines::{
-    id_of, say, say_each, say_fault, say_given, say_number, say_rectangle, say_size, size_of,
-};
-use crate::slots::{Called, NotMade};
 use etagere::laws::Walk;
 use etagere::{
     AllocId, AtlasAllocator, AtlasSnapshot, OptionsFault, Rectangle, Refusal, RestoreFault, Size,
     Usage, laws,
 };
 use moves::atlases::{Move, Rearranged, rearranged};
+use row_calls::lines::{
+    id_of, say, say_each, say_fault, say_given, say_number, say_rectangle, say_size, size_of,
+};
+use row_calls::slots::{Called, NotMade};
 use std::alloc::{AllocError, Global};
 use std::io;
 
-impl Called for AtlasAllocator {
-    fn made(alloc: Global, words: &str) -> Result<AtlasAllocator, NotMade> {
-        atlases::made(alloc, words)
+/// A shelf atlas that is called by lines.
+#[derive(Drop)]
+pub struct CalledAtlas(AtlasAllocator);
+
+impl Called for CalledAtlas {
+    fn made(alloc: Global, words: &str) -> Result<CalledAtlas, NotMade> {
+        Ok(CalledAtlas(atlases::made(alloc, words)?))
     }
 
-    fn copied(&self, _alloc: Global) -> Result<AtlasAllocator, NotMade> {
-        atlases::copied(self)
+    fn copied(&self, _alloc: Global) -> Result<CalledAtlas, NotMade> {
+        Ok(CalledAtlas(atlases::copied(&self.0)?))
     }
 
     fn saved(&self, alloc: Global) -> Option<String> {
-        let saved = Atlas::saved(self).ok()?;
-        written(alloc, &saved)
+        written(alloc, &self.0.saved().ok()?)
     }
 
-    fn restored(alloc: Global, text: &str) -> Result<AtlasAllocator, NotMade> {
-        atlases::restored(alloc, read(alloc, text))
+    fn restored(alloc: Global, text: &str) -> Result<CalledAtlas, NotMade> {
+        Ok(CalledAtlas(atlases::restored(alloc, read(alloc, text))?))
     }
 
     fn steps(alloc: Global, text: &str) -> Result<u64, NotMade> {
@@ -43,17 +46,17 @@ impl Called for AtlasAllocator {
         call: &str,
         words: &str,
     ) -> io::Result<()> {
+        let atlas = &mut self.0;
         match call {
-            "get" => say_rectangle(rt, rectangle_of(self, id_of(words))),
-            "index" => say_index(rt, index_of(self, id_of(words))),
-            "iter" => list(rt, self),
-            "refusal" => say_refusal(rt, refusal_of(self, size_of(words))),
-            "usage" => say_usage(rt, &usage_of(self)),
-            "largest_free" => say_size(rt, largest_of(self)),
+            "get" => say_rectangle(rt, rectangle_of(atlas, id_of(words))),
+            "index" => say_index(rt, index_of(atlas, id_of(words))),
+            "iter" => list(rt, atlas),
+            "refusal" => say_refusal(rt, refusal_of(atlas, size_of(words))),
+            "usage" => say_usage(rt, &usage_of(atlas)),
             "walk" => say_walk(rt, &walked(rt.alloc(), words)),
-            "moved" => say_moved(rt, &moved(rt.alloc(), self, size_of(words)), true),
-            "moves" => say_moved(rt, &moved(rt.alloc(), self, size_of(words)), false),
-            _ => atlases::answer(self, rt, call, words),
+            "moved" => say_moved(rt, &moved(rt.alloc(), atlas, size_of(words)), true),
+            "moves" => say_moved(rt, &moved(rt.alloc(), atlas, size_of(words)), false),
+            _ => atlases::answer(atlas, rt, call, words),
         }
     }
 }
@@ -91,10 +94,6 @@ fn refusal_of(atlas: &AtlasAllocator, size: Size) -> Option<Refusal> {
 
 fn usage_of(atlas: &AtlasAllocator) -> Usage {
     atlas.usage()
-}
-
-fn largest_of(atlas: &AtlasAllocator) -> Size {
-    atlas.largest_free()
 }
 
 fn say_index(rt: &impl Print, index: Option<u32>) -> io::Result<()> {

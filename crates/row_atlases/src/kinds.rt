@@ -1,5 +1,5 @@
-//! Atlases of either kind by calls that promise nothing: what goes through them is proved safe in a fraction of the
-//! time, since what an atlas promises isn't gone through at each call.
+//! The trait of atlases of both kinds, whose calls promise nothing: what goes through them is proved safe in a fraction of
+//! the time, since what an atlas promises isn't gone through at each call.
 
 use etagere::{
     AllocId, Allocation, AllocatorOptions, AtlasAllocator, AtlasGrowFault, AtlasSnapshot,
@@ -45,6 +45,8 @@ pub trait Atlas: Sized {
 
     /// The size, whether nothing is allocated, what is allocated and what is free.
     fn counts(&self) -> (Size, bool, i32, i32);
+
+    fn largest(&self) -> Size;
 
     fn draw<W: Write>(&self, writer: &mut W) -> io::Result<()>;
 
@@ -100,6 +102,10 @@ impl Atlas for AtlasAllocator {
     fn counts(&self) -> (Size, bool, i32, i32) {
         let (allocated, free) = (self.allocated_space(), self.free_space());
         (self.size(), self.is_empty(), allocated, free)
+    }
+
+    fn largest(&self) -> Size {
+        self.largest_free()
     }
 
     fn draw<W: Write>(&self, writer: &mut W) -> io::Result<()> {
@@ -160,6 +166,10 @@ impl Atlas for BucketedAtlasAllocator {
     fn counts(&self) -> (Size, bool, i32, i32) {
         let (allocated, free) = (self.allocated_space(), self.free_space());
         (self.size(), self.is_empty(), allocated, free)
+    }
+
+    fn largest(&self) -> Size {
+        self.largest_free()
     }
 
     fn draw<W: Write>(&self, writer: &mut W) -> io::Result<()> {
