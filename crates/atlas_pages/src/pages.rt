@@ -42,7 +42,7 @@ use std::marker::Model;
 ///
 /// ```text
 /// let mut pages = AtlasPages::new(alloc, &options)?;
-/// let place = pages.allocate(size2(9, 14))?;        // Some: page 0, and a rectangle with an id
+/// let paged = pages.allocate(size2(9, 14))?;        // Some: page 0, and a rectangle with an id
 /// ```
 #[derive(Drop)]
 pub struct AtlasPages {

@@ -216,8 +216,8 @@ all-known count blocks shelves all known =
     (λ number kept any at. record { was = kept; such = omega (arith, all, slice_get_within shelves number kept at); there = at; known = λ block is. is }) known
 
 -- where all are known the others than one are
-pub known-but : (k : ℕ) (blocks : Blocks) (shelves : List KeptShelf) → AreKnown blocks shelves → AreOthersKnown k blocks shelves
-known-but k blocks shelves known = record {
+pub known-except : (k : ℕ) (blocks : Blocks) (shelves : List KeptShelf) → AreKnown blocks shelves → AreOthersKnown k blocks shelves
+known-except k blocks shelves known = record {
   counted = λ counts.
       carry-counted (λ n. Unit {0}) (λ n. n ≡ k → ⊥) blocks shelves shelves (λ number kept other at. record { was = kept; such = tt; there = at; known = λ block is. is }) (known.counted counts);
   steps = known.steps;
@@ -367,10 +367,6 @@ known-at k before blocks shelves at known counts = own (known.counted counts)
       };
       beside = λ some. counted.others some k before tt at;
     }
-
--- shelves that aren't counted are known where their heights are in steps
-pub known-uncounted : (blocks : Blocks) (shelves : List KeptShelf) → blocks.are_counted ≡ false → (blocks.in_steps ≡ true → AreInSteps shelves) → AreKnown blocks shelves
-known-uncounted blocks shelves uncounted steps = record { counted = λ counts. absurd (cc); steps = steps }
 
 -- shelves of two small blocks are known to what was counted of these
 pub known-counted : (first second : Block) (blocks : Blocks) (shelves : List KeptShelf) → length shelves ≤ 16

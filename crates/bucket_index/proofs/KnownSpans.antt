@@ -14,7 +14,7 @@ use Rattle.bucket_index.specs.declared.spans.Span.{Span}
 use Rattle.bucket_index.specs.declared.searching.Wanted.{Wanted}
 use Rattle.bucket_index.specs.declared.searching.Wanted.TheVariants.{Roomy, Exact, Wide}
 use Rattle.bucket_index.specs.Private.Searching.{first_from, is_wanted, needed_room, widest_from}
-use Rattle.bucket_index.specs.Private.Spans.{AreBounds, AreOthers, AreOtherSpans, AreOtherSpansOf, AreSpans, AreSpansBut, AreSpansButOf, AreSpansOf, IsBoundOf, IsKnownSpan, IsKnownSpanBut, IsPassed, IsPassedSpan, IsSpan, IsSpanBut, IsWithin, IsWithinBut, Lead, block_of, bounded, no_span, room_at, span_of, whole_of, widened}
+use Rattle.bucket_index.specs.Private.Spans.{AreBounds, AreOthers, AreOtherSpans, AreOtherSpansOf, AreSpans, AreSpansExcept, AreSpansExceptOf, AreSpansOf, IsBoundOf, IsKnownSpan, IsKnownSpanExcept, IsPassed, IsPassedSpan, IsSpan, IsSpanExcept, IsWithin, IsWithinExcept, Lead, block_of, bounded, no_span, room_at, span_of, whole_of, widened}
 use Rattle.etagere_links.specs.Links.{link_of, no_link}
 use Rattle.bucket_index.specs.declared.spans.Spans.{Spans}
 use Rattle.bucket_index.proofs.KnownBlocks.{read-changed}
@@ -91,17 +91,17 @@ span-longer numbered block n link room first steps bs b at same ends lead =
     (subst (λ (l : Option ℕ). Lead (suc steps) (IsWithin numbered block wide bs) bs (Some first) l) (next-at bs n b at) next)
 
 -- a span of which a record may have this room
-pub span-widened : (one : ℕ) (numbered : ℕ → ℕ) (block room : ℕ) (span : Span) (bs : List LinkedBucket) → room_at bs one ≤ room → IsKnownSpanBut one numbered block span bs → IsKnownSpan numbered block (widened room span) bs
+pub span-widened : (one : ℕ) (numbered : ℕ → ℕ) (block room : ℕ) (span : Span) (bs : List LinkedBucket) → room_at bs one ≤ room → IsKnownSpanExcept one numbered block span bs → IsKnownSpan numbered block (widened room span) bs
 span-widened one numbered block room span bs narrow is known = record {
   some = (is known).some;
-  lead = lead-still span.steps (IsWithinBut one numbered block span.widest_room bs) (IsWithin numbered block (max span.widest_room room) bs) bs bs (Some span.first) (link_of span.behind) (omega arith) (λ k low in_. refl)
+  lead = lead-still span.steps (IsWithinExcept one numbered block span.widest_room bs) (IsWithin numbered block (max span.widest_room room) bs) bs bs (Some span.first) (link_of span.behind) (omega arith) (λ k low in_. refl)
       (λ k low in_. (in_.0, either k one (λ same. omega (arith, narrow, ap (room_at bs) same)) (λ other. omega (arith, in_.1 other)))) (is known).lead;
 }
 
 -- where a span begins
-pub but-first : (one : ℕ) (numbered : ℕ → ℕ) (block : ℕ) (span : Span) (bs : List LinkedBucket) → IsSpanBut one numbered block span bs → (span.first < length bs) × (numbered span.first ≡ block)
+pub but-first : (one : ℕ) (numbered : ℕ → ℕ) (block : ℕ) (span : Span) (bs : List LinkedBucket) → IsSpanExcept one numbered block span bs → (span.first < length bs) × (numbered span.first ≡ block)
 but-first one numbered block span bs is =
-    let begins = lead-first span.steps (IsWithinBut one numbered block span.widest_room bs) bs span.first (link_of span.behind) is.some is.lead in
+    let begins = lead-first span.steps (IsWithinExcept one numbered block span.widest_room bs) bs span.first (link_of span.behind) is.some is.lead in
     (begins.0, begins.1.0)
 
 -- a span that is known in a block that is numbered the same
@@ -147,16 +147,16 @@ pub span-of : (numbered : ℕ → ℕ) (spans : List Span) (block : ℕ) (span :
 span-of numbered spans block span bs is are known = known-read spans block span is known (λ at. are block span at known)
 
 -- the same where nothing is said of the room of one record
-pub span-of-but : (one : ℕ) (numbered : ℕ → ℕ) (spans : List Span) (block : ℕ) (span : Span) (bs : List LinkedBucket) → span_of spans block ≡ span → AreSpansButOf one numbered spans bs → IsKnownSpanBut one numbered block span bs
-span-of-but one numbered spans block span bs is are known = known-read spans block span is known (λ at. are block span at known)
+pub span-of-except : (one : ℕ) (numbered : ℕ → ℕ) (spans : List Span) (block : ℕ) (span : Span) (bs : List LinkedBucket) → span_of spans block ≡ span → AreSpansExceptOf one numbered spans bs → IsKnownSpanExcept one numbered block span bs
+span-of-except one numbered spans block span bs is are known = known-read spans block span is known (λ at. are block span at known)
 
 -- the spans of other blocks, where nothing is said of the room of one record
-pub but-others : (one : ℕ) (numbered : ℕ → ℕ) (spans : List Span) (bs : List LinkedBucket) → AreSpansButOf one numbered spans bs → AreOtherSpansOf one numbered spans bs
+pub but-others : (one : ℕ) (numbered : ℕ → ℕ) (spans : List Span) (bs : List LinkedBucket) → AreSpansExceptOf one numbered spans bs → AreOtherSpansOf one numbered spans bs
 but-others one numbered spans bs but block span apart at known =
     let is = but block span at known in
     record {
       some = is.some;
-      lead = lead-still span.steps (IsWithinBut one numbered block span.widest_room bs) (IsWithin numbered block span.widest_room bs) bs bs (Some span.first) (link_of span.behind) (omega arith) (λ k low in_. refl)
+      lead = lead-still span.steps (IsWithinExcept one numbered block span.widest_room bs) (IsWithin numbered block span.widest_room bs) bs bs (Some span.first) (link_of span.behind) (omega arith) (λ k low in_. refl)
           (λ k low in_. (in_.0, in_.1 (λ same. apart (sym in_.0 ∙ ap numbered same)))) is.lead;
     }
 
@@ -193,7 +193,7 @@ spans-set one numbered fresh spans bs is others block span at =
     (λ apart stood. others block span apart stood)
 
 -- all are known where the one of a record's block may have the record's room
-pub spans-raised : (one : ℕ) (numbered : ℕ → ℕ) (room : ℕ) (spans : List Span) (bs : List LinkedBucket) → room_at bs one ≤ room → AreSpansButOf one numbered spans bs
+pub spans-raised : (one : ℕ) (numbered : ℕ → ℕ) (room : ℕ) (spans : List Span) (bs : List LinkedBucket) → room_at bs one ≤ room → AreSpansExceptOf one numbered spans bs
     → AreSpansOf numbered (changed_by (Some (numbered one)) (widened room) spans) bs
 spans-raised one numbered room spans bs narrow but block span at =
     read-changed (widened room) spans (numbered one) block span at
@@ -218,13 +218,13 @@ forgotten one numbered block none spans news bs set_ same is others =
 
 -- all are known where the span of a record's block may have the record's room
 pub raised-known : (one : ℕ) (numbered : ℕ → ℕ) (block room : ℕ) (spans news : List Span) (bs : List LinkedBucket) → news ≡ changed_by (Some block) (widened room) spans → block ≡ numbered one → room_at bs one ≤ room
-    → AreSpansButOf one numbered spans bs → AreSpansOf numbered news bs
+    → AreSpansExceptOf one numbered spans bs → AreSpansOf numbered news bs
 raised-known one numbered block room spans news bs set_ same narrow but =
     subst (λ (xs : List Span). AreSpansOf numbered xs bs) (sym (set_ ∙ ap (λ (k : ℕ). changed_by (Some k) (widened room) spans) same)) (spans-raised one numbered room spans bs narrow but)
 
 -- all are known where the span of a record's block has at most what others have or the record
 pub bounded-known : (one : ℕ) (numbered : ℕ → ℕ) (block bound room wide : ℕ) (spans news : List Span) (bs : List LinkedBucket) → news ≡ changed_by (Some block) (bounded wide) spans → block ≡ numbered one → wide ≡ max bound room
-    → room_at bs one ≤ room → AreSpansButOf one numbered spans bs → IsBoundOf numbered bound one spans bs → AreSpansOf numbered news bs
+    → room_at bs one ≤ room → AreSpansExceptOf one numbered spans bs → IsBoundOf numbered bound one spans bs → AreSpansOf numbered news bs
 bounded-known one numbered block bound room wide spans news bs set_ same is narrow but others =
     subst (λ (xs : List Span). AreSpansOf numbered xs bs)
     (sym (set_ ∙ ap (λ (k : ℕ). changed_by (Some k) (bounded wide) spans) same ∙ ap (λ (w : ℕ). changed_by (Some (numbered one)) (bounded w) spans) is)) all
@@ -244,11 +244,11 @@ bound-kept one numbered block bound wide spans news bs set_ same others =
     all : IsBoundOf numbered bound one (changed_by (Some (numbered one)) (bounded wide) spans) bs
     all span at =
         read-changed (bounded wide) spans (numbered one) (numbered one) span at
-        (λ z stood here set__. subst (λ (s : Span). IsKnownSpanBut one numbered (numbered one) (bounded bound s) bs) (sym set__) (others z stood)) (λ apart stood. absurd (apart refl))
+        (λ z stood here set__. subst (λ (s : Span). IsKnownSpanExcept one numbered (numbered one) (bounded bound s) bs) (sym set__) (others z stood)) (λ apart stood. absurd (apart refl))
 
 -- what others have is what was known before a record was widened
 pub bound-widened : (one : ℕ) (numbered : ℕ → ℕ) (block room bound : ℕ) (before : Span) (spans news : List Span) (bs : List LinkedBucket) → news ≡ changed_by (Some block) (widened room) spans → block ≡ numbered one → before ≡ span_of spans block
-    → bound ≡ before.widest_room → AreSpansButOf one numbered spans bs → IsBoundOf numbered bound one news bs
+    → bound ≡ before.widest_room → AreSpansExceptOf one numbered spans bs → IsBoundOf numbered bound one news bs
 bound-widened one numbered block room bound before spans news bs set_ same read is but =
     subst (λ (xs : List Span). IsBoundOf numbered bound one xs bs) (sym (set_ ∙ ap (λ (k : ℕ). changed_by (Some k) (widened room) spans) same)) all
   where
@@ -258,8 +258,8 @@ bound-widened one numbered block room bound before spans news bs set_ same read 
         (λ z stood here set__.
         let found : before ≡ z = read ∙ ap (span_of spans) same ∙ ap (λ (o : Option Span). option_map_or (λ (s : Span). s) o no_span) stood in
         let wide : bound ≡ z.widest_room = is ∙ ap (λ (s : Span). s.widest_room) found in
-        subst (λ (s : Span). IsKnownSpanBut one numbered (numbered one) (bounded bound s) bs) (sym set__)
-        (subst (λ (w : ℕ). IsKnownSpanBut one numbered (numbered one) (bounded w z) bs) (sym wide) (but (numbered one) z stood)))
+        subst (λ (s : Span). IsKnownSpanExcept one numbered (numbered one) (bounded bound s) bs) (sym set__)
+        (subst (λ (w : ℕ). IsKnownSpanExcept one numbered (numbered one) (bounded w z) bs) (sym wide) (but (numbered one) z stood)))
         (λ apart stood. absurd (apart refl))
 
 -- where blocks are numbered the same, the same is known
@@ -272,12 +272,12 @@ same-numbered numbered as_ spans bs same are block span at known =
           (λ k low in_. (sym (same k) ∙ in_.0, in_.1)) is.lead;
     }
 
-same-numbered-but : (one : ℕ) (numbered as_ : ℕ → ℕ) (spans : List Span) (bs : List LinkedBucket) → ((n : ℕ) → numbered n ≡ as_ n) → AreSpansButOf one numbered spans bs → AreSpansButOf one as_ spans bs
-same-numbered-but one numbered as_ spans bs same are block span at known =
+same-numbered-except : (one : ℕ) (numbered as_ : ℕ → ℕ) (spans : List Span) (bs : List LinkedBucket) → ((n : ℕ) → numbered n ≡ as_ n) → AreSpansExceptOf one numbered spans bs → AreSpansExceptOf one as_ spans bs
+same-numbered-except one numbered as_ spans bs same are block span at known =
     let is = are block span at known in
     record {
       some = is.some;
-      lead = lead-still span.steps (IsWithinBut one numbered block span.widest_room bs) (IsWithinBut one as_ block span.widest_room bs) bs bs (Some span.first) (link_of span.behind) (omega arith) (λ k low in_. refl)
+      lead = lead-still span.steps (IsWithinExcept one numbered block span.widest_room bs) (IsWithinExcept one as_ block span.widest_room bs) bs bs (Some span.first) (link_of span.behind) (omega arith) (λ k low in_. refl)
           (λ k low in_. (sym (same k) ∙ in_.0, in_.1)) is.lead;
     }
 
@@ -288,8 +288,8 @@ middle-wholes spans bs are = same-numbered (whole_of 1) (block_of 8) spans bs (�
 pub wholes-middle : (spans : List Span) (bs : List LinkedBucket) → AreSpansOf (block_of 8) spans bs → AreSpansOf (whole_of 1) spans bs
 wholes-middle spans bs are = same-numbered (block_of 8) (whole_of 1) spans bs (λ n. omega arith) are
 
-pub wholes-middle-but : (one : ℕ) (spans : List Span) (bs : List LinkedBucket) → AreSpansButOf one (block_of 8) spans bs → AreSpansButOf one (whole_of 1) spans bs
-wholes-middle-but one spans bs are = same-numbered-but one (block_of 8) (whole_of 1) spans bs (λ n. omega arith) are
+pub wholes-middle-except : (one : ℕ) (spans : List Span) (bs : List LinkedBucket) → AreSpansExceptOf one (block_of 8) spans bs → AreSpansExceptOf one (whole_of 1) spans bs
+wholes-middle-except one spans bs are = same-numbered-except one (block_of 8) (whole_of 1) spans bs (λ n. omega arith) are
 
 pub large-wholes : (spans : List Span) (bs : List LinkedBucket) → AreSpansOf (whole_of 8) spans bs → AreSpansOf (block_of 64) spans bs
 large-wholes spans bs are = same-numbered (whole_of 8) (block_of 64) spans bs (λ n. omega arith) are
@@ -297,18 +297,18 @@ large-wholes spans bs are = same-numbered (whole_of 8) (block_of 64) spans bs (�
 pub wholes-large : (spans : List Span) (bs : List LinkedBucket) → AreSpansOf (block_of 64) spans bs → AreSpansOf (whole_of 8) spans bs
 wholes-large spans bs are = same-numbered (block_of 64) (whole_of 8) spans bs (λ n. omega arith) are
 
-pub wholes-large-but : (one : ℕ) (spans : List Span) (bs : List LinkedBucket) → AreSpansButOf one (block_of 64) spans bs → AreSpansButOf one (whole_of 8) spans bs
-wholes-large-but one spans bs are = same-numbered-but one (block_of 64) (whole_of 8) spans bs (λ n. omega arith) are
+pub wholes-large-except : (one : ℕ) (spans : List Span) (bs : List LinkedBucket) → AreSpansExceptOf one (block_of 64) spans bs → AreSpansExceptOf one (whole_of 8) spans bs
+wholes-large-except one spans bs are = same-numbered-except one (block_of 64) (whole_of 8) spans bs (λ n. omega arith) are
 
 -- where the record of a number was changed, and links to the same
 of-changed-room : (one : ℕ) (change : LinkedBucket → LinkedBucket) (numbered : ℕ → ℕ) (spans : List Span) (xs : List LinkedBucket) → ((b : LinkedBucket) → (change b).next ≡ b.next) → AreSpansOf numbered spans xs
-    → AreSpansButOf one numbered spans (changed_by (Some one) change xs)
+    → AreSpansExceptOf one numbered spans (changed_by (Some one) change xs)
 of-changed-room one change numbered spans xs links are block span at known =
     let is = are block span at known in
     let ys = changed_by (Some one) change xs in
     record {
       some = is.some;
-      lead = lead-still span.steps (IsWithin numbered block span.widest_room xs) (IsWithinBut one numbered block span.widest_room ys) xs ys (Some span.first) (link_of span.behind) (omega (arith, length-changed_by change xs (Some one)))
+      lead = lead-still span.steps (IsWithin numbered block span.widest_room xs) (IsWithinExcept one numbered block span.widest_room ys) xs ys (Some span.first) (link_of span.behind) (omega (arith, length-changed_by change xs (Some one)))
           (λ k low in_. link_at-same (λ (b : LinkedBucket). b.next) xs ys k (map-changed_by (λ (b : LinkedBucket). b.next) change xs (Some one) links))
           (λ k low in_. (in_.0, λ other. omega (arith, in_.1, ap (λ (r : Option LinkedBucket). option_map_or record_room r 0) (get-changed_by-other change xs (Some one) k (λ (h : Some one ≡ Some k). other (inner k h)))))) is.lead;
     }
@@ -323,7 +323,7 @@ bound-changed-room one change numbered room spans xs links are span at known =
     let ys = changed_by (Some one) change xs in
     record {
       some = is.some;
-      lead = lead-still span.steps (IsWithinBut one numbered (numbered one) room xs) (IsWithinBut one numbered (numbered one) room ys) xs ys (Some span.first) (link_of span.behind) (omega (arith, length-changed_by change xs (Some one)))
+      lead = lead-still span.steps (IsWithinExcept one numbered (numbered one) room xs) (IsWithinExcept one numbered (numbered one) room ys) xs ys (Some span.first) (link_of span.behind) (omega (arith, length-changed_by change xs (Some one)))
           (λ k low in_. link_at-same (λ (b : LinkedBucket). b.next) xs ys k (map-changed_by (λ (b : LinkedBucket). b.next) change xs (Some one) links))
           (λ k low in_. (in_.0, λ other. omega (arith, in_.1 other, ap (λ (r : Option LinkedBucket). option_map_or record_room r 0) (get-changed_by-other change xs (Some one) k (λ (h : Some one ≡ Some k). other (inner k h)))))) is.lead;
     }
@@ -346,7 +346,7 @@ others-changed-room one change spans xs links others same known =
     )
 
 pub spans-changed-room : (one : ℕ) (change : LinkedBucket → LinkedBucket) (spans : Spans) (xs : List LinkedBucket) → ((b : LinkedBucket) → (change b).next ≡ b.next) → AreSpans spans xs
-    → AreSpansBut one spans (changed_by (Some one) change xs)
+    → AreSpansExcept one spans (changed_by (Some one) change xs)
 spans-changed-room one change spans xs links are learned =
     let known = (are learned).known in
     record {
@@ -411,7 +411,7 @@ bound-added numbered room one spans xs ys are span at known =
     let is = are span at known in
     record {
       some = is.some;
-      lead = lead-still span.steps (IsWithinBut one numbered (numbered one) room xs) (IsWithinBut one numbered (numbered one) room (xs ++ ys)) xs (xs ++ ys) (Some span.first) (link_of span.behind) (longer-added xs ys)
+      lead = lead-still span.steps (IsWithinExcept one numbered (numbered one) room xs) (IsWithinExcept one numbered (numbered one) room (xs ++ ys)) xs (xs ++ ys) (Some span.first) (link_of span.behind) (longer-added xs ys)
           (λ k low in_. ap (option_and_then (λ (b : LinkedBucket). b.next)) (before-added xs ys k low))
           (λ k low in_. (in_.0, λ other. omega (arith, in_.1 other, ap (λ (r : Option LinkedBucket). option_map_or record_room r 0) (before-added xs ys k low)))) is.lead;
     }

@@ -3,12 +3,12 @@ use Rattle.std.proofs.Common.{◌≡◌, ℕ, zero, suc, ◌<◌, ◌≤◌, map
 use Rattle.std.proofs.lemmas.Bool.Decides.{nat_tests}
 use Rattle.std.specs.Prelude.{nat_le, nat_lt, not, slice_get, ◌&&◌, ◌-◌, ◌+◌}
 use Rattle.etagere_base.specs.declared.sides.Sides.{Sides}
-use Rattle.etagere_base.specs.Least.{Found as Least, better, first_least}
+use Rattle.etagere_base.specs.Least.{Found, better, first_least}
 use Rattle.bucketed_model.specs.Picking.{or_else}
 use Rattle.bucketed_records.specs.declared.records.LinkedBucket.{LinkedBucket}
 use Rattle.bucketed_records.specs.declared.records.KeptShelf.{KeptShelf}
 use Rattle.bucket_index.specs.declared.searching.Wanted.TheVariants.{Exact}
-use Rattle.bucket_index.specs.declared.searching.Found.{Found}
+use Rattle.bucket_index.specs.declared.searching.FoundBucket.{FoundBucket}
 use Rattle.bucket_index.specs.Private.Blocks.{AreNarrow}
 use Rattle.bucket_index.proofs.Searched.{best-keeps, better-same, search-skip}
 use Rattle.bucket_index.specs.Private.Searching.{exact_from, exact_in, found_in, kept_waste}
@@ -41,11 +41,11 @@ pub exact-past : (sides : Sides) (buckets : List LinkedBucket) (m n : ℕ) (xs :
 exact-past sides buckets m n [] kept at narrow = absurd (cc)
 exact-past sides buckets m zero (x ∷ xs) kept at narrow =
     let same : x ≡ kept = cc in
-    ap (λ (o : Option Found). or_else o (exact_from sides buckets (suc m) xs)) (ap (exact_in sides buckets m) same ∙ exact-none sides buckets m kept narrow)
+    ap (λ (o : Option FoundBucket). or_else o (exact_from sides buckets (suc m) xs)) (ap (exact_in sides buckets m) same ∙ exact-none sides buckets m kept narrow)
 exact-past sides buckets m (suc n) (x ∷ xs) kept at narrow = exact-past sides buckets m n xs kept at narrow
 
 -- the best so far is the best past shelves that have too little room
-pub least-past : (adds : Bool) (sides : Sides) (shelves : List KeptShelf) (best : Option Least) (from behind : ℕ) → best ≡ first_least (map (kept_waste adds sides) (take from shelves)) → from ≤ behind
+pub least-past : (adds : Bool) (sides : Sides) (shelves : List KeptShelf) (best : Option Found) (from behind : ℕ) → best ≡ first_least (map (kept_waste adds sides) (take from shelves)) → from ≤ behind
     → AreNarrow sides.along from behind shelves → best ≡ first_least (map (kept_waste adds sides) (take behind shelves))
 least-past adds sides shelves best from behind is on narrow =
     let end : from + (behind - from) ≡ behind = omega (arith, on) in

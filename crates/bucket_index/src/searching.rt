@@ -14,9 +14,7 @@ ghost use Rattle.bucket_index.specs.Private.Spans.{AreSpans};
 
 use crate::blocks::{Blocks, SHELVES_OF_BLOCK};
 use crate::spans::Spans;
-use bucketed_records::records::{
-    KeptShelf, LinkedBucket, MOST_BUCKETS, MOST_GIVEN, record_room, wider,
-};
+use bucketed_records::records::{KeptShelf, LinkedBucket, MOST_BUCKETS, MOST_GIVEN, record_room};
 use etagere_base::Sides;
 use etagere_links::Link;
 use std::marker::Model;
@@ -34,19 +32,19 @@ pub enum Wanted {
 
 /// A bucket that was found: its number, and that of its shelf.
 #[derive(Clone, Copy)]
-pub struct Found {
+pub struct FoundBucket {
     pub shelf: usize,
     pub bucket: usize,
 }
 
 /// A shelf that was found: its number, and the height that it wastes.
 #[derive(Clone, Copy)]
-pub struct Least {
+pub struct FoundShelf {
     pub number: usize,
     pub rank: u32,
 }
 
-impl Model for Least {
+impl Model for FoundShelf {
     ghost use Rattle.etagere_base.specs.Least.{Found};
 
     ghost Value = { Found };
@@ -216,7 +214,7 @@ fn widest_by_links(buckets: &[LinkedBucket], first: Link, most: u16) -> u16
             break;
         }
         let bucket = &buckets[number];
-        widest = wider(record_room(bucket), widest);
+        widest = record_room(bucket).max(widest);
         if widest == most {
             break;
         }
@@ -250,7 +248,7 @@ fn widest_by_spans(buckets: &[LinkedBucket], spans: &Spans, first: Link, most: u
             break;
         }
         let bucket = &buckets[number];
-        widest = wider(widest, record_room(bucket));
+        widest = widest.max(record_room(bucket));
         at = bucket.next;
         left = ahead.left - 1;
     }
@@ -298,7 +296,7 @@ fn waste_below(limit: u32, sides: &Sides, kept: &KeptShelf) -> Option<u32>
 }
 
 /// A shelf has to waste less height than this to be chosen, where this was found before it.
-fn limit_beside(adds: bool, sides: &Sides, best: &Option<Least>) -> u32
+fn limit_beside(adds: bool, sides: &Sides, best: &Option<FoundShelf>) -> u32
     ensures { result ≡ spec.limit_beside adds sides.now best.now }
 {
     let limit = if adds {
@@ -314,7 +312,12 @@ fn limit_beside(adds: bool, sides: &Sides, best: &Option<Least>) -> u32
 
 /// The shelf that wastes the least height, the first of such. The first shelf ends the search that wastes so little that
 /// none can waste less.
-fn least_waste(adds: bool, sides: &Sides, shelves: &[KeptShelf], blocks: &Blocks) -> Option<Least>
+fn least_waste(
+    adds: bool,
+    sides: &Sides,
+    shelves: &[KeptShelf],
+    blocks: &Blocks,
+) -> Option<FoundShelf>
     requires known { AreKnown blocks.now shelves.now }
     ensures least { result ≡ first_least (map (spec.kept_waste adds sides.now) shelves.now) }
     ensures within { IfSome result (λ least. least.number < length shelves.now) }
@@ -331,7 +334,7 @@ fn least_by_blocks(
     sides: &Sides,
     shelves: &[KeptShelf],
     blocks: &Blocks,
-) -> Option<Least>
+) -> Option<FoundShelf>
     requires counted { blocks.now.are_counted ≡ true }
     requires known { AreKnown blocks.now shelves.now }
     ensures least { result ≡ first_least (map (spec.kept_waste adds sides.now) shelves.now) }
@@ -365,8 +368,8 @@ fn least_in(
     step: u32,
     from: usize,
     end: usize,
-    best: Option<Least>,
-) -> Option<Least>
+    best: Option<FoundShelf>,
+) -> Option<FoundShelf>
     requires step { IsStep step shelves.now }
     requires from { from ≤ length shelves.now }
     requires end { from ≤ end }
@@ -381,7 +384,7 @@ fn least_in(
         let Some(rank) = waste_below(limit, sides, &shelves[number]) else {
             continue;
         };
-        best = Some(Least { number, rank });
+        best = Some(FoundShelf { number, rank });
         limit = rank;
         if rank < step {
             break;
@@ -391,7 +394,7 @@ fn least_in(
 }
 
 /// Whether a shelf was found that wastes less than two differ in height, so that none wastes less.
-fn is_least(step: u32, best: &Option<Least>) -> bool
+fn is_least(step: u32, best: &Option<FoundShelf>) -> bool
     ensures { result ≡ spec.is_least step best.now }
 {
     match best {
@@ -408,7 +411,7 @@ fn exact_from(
     blocks: &Blocks,
     spans: &Spans,
     from: usize,
-) -> Option<Found>
+) -> Option<FoundBucket>
     requires from { from ≤ length shelves.now }
     requires known { AreKnown blocks.now shelves.now }
     requires spans { AreSpans spans.now buckets.now }
@@ -428,7 +431,7 @@ fn exact_by_blocks(
     blocks: &Blocks,
     spans: &Spans,
     from: usize,
-) -> Option<Found>
+) -> Option<FoundBucket>
     requires counted { blocks.now.are_counted ≡ true }
     requires from { from ≤ length shelves.now }
     requires known { AreKnown blocks.now shelves.now }
@@ -463,7 +466,7 @@ fn exact_between(
     spans: &Spans,
     from: usize,
     end: usize,
-) -> Option<Found>
+) -> Option<FoundBucket>
     requires from { from ≤ length shelves.now }
     requires end { from ≤ end }
     requires spans { AreSpans spans.now buckets.now }
@@ -485,7 +488,7 @@ fn exact_in(
     buckets: &[LinkedBucket],
     spans: &Spans,
     number: usize,
-) -> Option<Found>
+) -> Option<FoundBucket>
     requires { AreSpans spans.now buckets.now }
     ensures { result ≡ spec.exact_in sides.now buckets.now number kept.now }
 {
@@ -498,7 +501,7 @@ fn exact_in(
         spans,
         kept.shelf.first_bucket,
     )?;
-    Some(Found {
+    Some(FoundBucket {
         shelf: number,
         bucket,
     })
@@ -512,16 +515,16 @@ fn exact_or_found(
     buckets: &[LinkedBucket],
     blocks: &Blocks,
     spans: &Spans,
-    least: Least,
+    least: FoundShelf,
     bucket: usize,
-) -> Found
+) -> FoundBucket
     requires known { AreKnown blocks.now shelves.now }
     requires spans { AreSpans spans.now buckets.now }
     requires shelf { least.number < length shelves.now }
     requires bucket { bucket < length buckets.now }
     ensures { result ≡ spec.exact_or_found sides.now shelves.now buckets.now least bucket }
 {
-    let found = Found {
+    let found = FoundBucket {
         shelf: least.number,
         bucket,
     };
@@ -539,7 +542,7 @@ pub fn pick(
     buckets: &[LinkedBucket],
     blocks: &Blocks,
     spans: &Spans,
-) -> Option<Found>
+) -> Option<FoundBucket>
     requires known { AreKnown blocks.now shelves.now }
     requires spans { AreSpans spans.now buckets.now }
     ensures { result ≡ spec.picked adds sides.now shelves.now buckets.now }

@@ -11,7 +11,7 @@ ghost use Rattle.etagere_links.specs.Links.{no_link};
 ghost use Rattle.bucketed_records.specs.declared.records.LinkedBucket.{LinkedBucket};
 ghost use Rattle.bucket_index.specs.Private.Spans as spec;
 
-use bucketed_records::records::{LinkedBucket, MOST_BUCKETS, record_room, wider};
+use bucketed_records::records::{LinkedBucket, MOST_BUCKETS, record_room};
 use etagere_links::Link;
 
 /// How many records stand in a small block, by their numbers.
@@ -167,7 +167,7 @@ fn span_from(buckets: &[LinkedBucket], first: usize) -> Span
         let bucket = &buckets[number];
         steps += 1;
         behind = bucket.next;
-        widest = wider(widest, record_room(bucket));
+        widest = widest.max(record_room(bucket));
     }
     Span {
         first: first as u16,
@@ -222,7 +222,7 @@ fn gathered(parts: &[Span], scale: usize, first: usize) -> Span
         }
         steps += next.steps;
         behind = next.behind;
-        widest = wider(widest, next.widest_room);
+        widest = widest.max(next.widest_room);
     }
     Span {
         first: begin.first,
@@ -261,7 +261,7 @@ fn widened(span: Span, room: u16) -> Span
     ensures { result ≡ spec.widened room span }
 {
     Span {
-        widest_room: wider(span.widest_room, room),
+        widest_room: span.widest_room.max(room),
         ..span
     }
 }
@@ -269,7 +269,7 @@ fn widened(span: Span, room: u16) -> Span
 /// A span of a small block gone over again, from its first record on.
 fn recounted(buckets: &[LinkedBucket], span: Span) -> Span
     ensures { (one block : spec.ℕ)
-        → spec.IsKnownSpanBut one (spec.block_of 1) block span buckets.now
+        → spec.IsKnownSpanExcept one (spec.block_of 1) block span buckets.now
         → spec.IsKnownSpan (spec.block_of 1) block result buckets.now }
 {
     let first = usize::from(span.first);
@@ -284,7 +284,7 @@ fn followed(buckets: &[LinkedBucket], span: Span, change: &Change) -> Span
     requires number { change.now.number < length buckets.now }
     requires room { spec.room_at buckets.now change.now.number ≤ change.now.room }
     ensures { (block : spec.ℕ)
-        → spec.IsKnownSpanBut change.now.number (spec.block_of 1) block span buckets.now
+        → spec.IsKnownSpanExcept change.now.number (spec.block_of 1) block span buckets.now
         → spec.IsKnownSpan (spec.block_of 1) block result buckets.now }
 {
     let narrows = change.room < change.before && span.widest_room <= change.before;
@@ -301,7 +301,7 @@ fn gathered_again(parts: &[Span], scale: usize, span: Span) -> Span
     requires { 0 < scale }
     ensures { (one block : spec.ℕ) (buckets : List LinkedBucket)
         → spec.AreSpansOf (spec.block_of scale) parts.now buckets
-        → spec.IsKnownSpanBut one (spec.whole_of scale) block span buckets
+        → spec.IsKnownSpanExcept one (spec.whole_of scale) block span buckets
         → spec.IsKnownSpan (spec.whole_of scale) block result buckets }
 {
     if span.first == u16::MAX {
@@ -316,7 +316,7 @@ fn gathered_again(parts: &[Span], scale: usize, span: Span) -> Span
 fn gather_again(parts: &[Span], scale: usize, wholes: &mut [Span], number: usize) -> u16
     requires { 0 < scale }
     ensures { (buckets : List LinkedBucket) → spec.AreSpansOf (spec.block_of scale) parts.now buckets
-        → spec.AreSpansButOf number (spec.whole_of scale) wholes.old buckets
+        → spec.AreSpansExceptOf number (spec.whole_of scale) wholes.old buckets
         → spec.AreSpansOf (spec.whole_of scale) wholes.new buckets }
 {
     let whole = block_of(scale, number) / PARTS_OF_BLOCK;
@@ -333,7 +333,7 @@ fn raise_span(spans: &mut [Span], block: usize, room: u16)
 {
     if block < spans.len() {
         let span = &mut spans[block];
-        span.widest_room = wider(span.widest_room, room);
+        span.widest_room = span.widest_room.max(room);
     }
 }
 
@@ -497,7 +497,7 @@ impl Spans {
     #[inline(always)]
     pub fn track(&mut self, buckets: &[LinkedBucket], number: usize, before: u16)
         requires within { number < length buckets.now }
-        requires others { spec.AreSpansBut number self.old buckets.now }
+        requires others { spec.AreSpansExcept number self.old buckets.now }
         ensures { spec.AreSpans self.new buckets.now }
     {
         if self.are_learned {
@@ -520,7 +520,7 @@ impl Spans {
     fn track_change(&mut self, buckets: &[LinkedBucket], change: &Change)
         requires number { change.now.number < length buckets.now }
         requires room { spec.room_at buckets.now change.now.number ≤ change.now.room }
-        requires others { spec.AreLearnedBut change.now.number self.old buckets.now }
+        requires others { spec.AreLearnedExcept change.now.number self.old buckets.now }
         ensures { spec.AreLearned self.new buckets.now }
     {
         if change.before <= change.room {
@@ -541,7 +541,7 @@ impl Spans {
     fn widen(&mut self, change: &Change)
         ensures { (buckets : List LinkedBucket)
             → spec.room_at buckets change.now.number ≤ change.now.room
-            → spec.AreKnownSpansBut change.now.number self.old buckets
+            → spec.AreKnownSpansExcept change.now.number self.old buckets
             → spec.AreLearned self.new buckets }
     {
         let small = block_of(SMALL, change.number);
@@ -565,13 +565,13 @@ impl Spans {
         requires some { change.now.number < no_link }
         ensures { (buckets : List LinkedBucket)
             → spec.room_at buckets change.now.number ≤ change.now.room
-            → spec.AreKnownSpansBut change.now.number self.old buckets
+            → spec.AreKnownSpansExcept change.now.number self.old buckets
             → spec.AreOthers self.old buckets → spec.AreLearned self.new buckets }
     {
         let room = change.room;
-        let small = wider(self.others.small, room);
-        let middle = wider(self.others.middle, room);
-        let large = wider(self.others.large, room);
+        let small = self.others.small.max(room);
+        let middle = self.others.middle.max(room);
+        let large = self.others.large.max(room);
         bound_span(&mut self.small, block_of(SMALL, change.number), small);
         bound_span(&mut self.middle, block_of(MIDDLE, change.number), middle);
         bound_span(&mut self.large, block_of(LARGE, change.number), large);
@@ -582,7 +582,7 @@ impl Spans {
     fn narrow(&mut self, buckets: &[LinkedBucket], change: &Change)
         requires number { change.now.number < length buckets.now }
         requires room { spec.room_at buckets.now change.now.number ≤ change.now.room }
-        requires others { spec.AreKnownSpansBut change.now.number self.old buckets.now }
+        requires others { spec.AreKnownSpansExcept change.now.number self.old buckets.now }
         ensures { spec.AreLearned self.new buckets.now }
     {
         let number = change.number;

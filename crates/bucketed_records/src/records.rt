@@ -2,7 +2,7 @@
 //!
 //! Definitions: `BucketRecords`, what they spell, and `Private/Store`, what is kept.
 
-ghost use Rattle.std.specs.Prelude.{◌≡◌, max};
+ghost use Rattle.std.specs.Prelude.{◌≡◌};
 ghost use Rattle.bucketed_records.specs.Private.Store as spec;
 
 use etagere_links::Link;
@@ -45,13 +45,6 @@ pub struct LinkedBucket {
     pub shelf: u16,
     /// How often it was emptied or put to use again, modulo 256.
     pub generation: u8,
-}
-
-/// The greater of two widths.
-pub fn wider(one: u16, other: u16) -> u16
-    ensures { result ≡ max one other }
-{
-    one.max(other)
 }
 
 /// The width that a bucket can give to one item: what it has left, and 0 where it has given the most.

@@ -13,7 +13,7 @@ ghost use Rattle.bucketed_store.specs.Private.StoreEdits as edits;
 use crate::merging::{Group, mergeable_shelves};
 use crate::store::Store;
 use bucket_index::blocks::Blocks;
-use bucket_index::searching::{Found, pick};
+use bucket_index::searching::{FoundBucket, pick};
 use bucket_index::spans::Spans;
 use bucketed_model::adding::{NewShelves, Remaining, can_add, new_shelves};
 use bucketed_records::records::{KeptShelf, LinkedBucket};
@@ -23,7 +23,7 @@ use etagere_base::{Frame, Sides};
 #[derive(Clone, Copy)]
 pub enum Placement {
     /// Into a bucket that is there.
-    InBucket(Found),
+    InBucket(FoundBucket),
     /// Into the first bucket of a shelf that is added.
     InAdded(NewShelves),
     /// Into the first bucket of shelves that are merged.

@@ -14,7 +14,7 @@ use bucket_index::searching::{Wanted, first_wanted};
 use bucket_index::spans::Spans;
 use bucketed_model::adding::Remaining;
 use bucketed_model::refusals::{BucketedRefusal, has_space};
-use bucketed_records::records::{KeptShelf, LinkedBucket, wider};
+use bucketed_records::records::{KeptShelf, LinkedBucket};
 use etagere_base::{Frame, Sides};
 
 /// The widest room in the shelves that are at least so tall.
@@ -24,7 +24,7 @@ pub(crate) fn widest_in(shelves: &[KeptShelf], height: u32) -> u16
     let mut widest = 0;
     for kept in shelves {
         if height <= u32::from(kept.shelf.height) {
-            widest = wider(widest, kept.widest_room);
+            widest = widest.max(kept.widest_room);
         }
     }
     widest

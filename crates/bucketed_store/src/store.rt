@@ -29,7 +29,7 @@ use crate::placing::Placement;
 use crate::returning::{is_known, return_item, returned_area, shelf_number};
 use bucket_index::blocks::Blocks;
 use bucket_index::filling::Filled;
-use bucket_index::searching::{Found, has_room, widest_room};
+use bucket_index::searching::{FoundBucket, has_room, widest_room};
 use bucket_index::spans::Spans;
 use bucketed_model::adding::{NewShelf, NewShelves, width_of_share};
 use bucketed_records::records::{
@@ -199,7 +199,7 @@ impl Store {
         frame: &Frame,
         placement: &Placement,
         in_use: u32,
-    ) -> Result<Found, AllocError>
+    ) -> Result<FoundBucket, AllocError>
         requires frame { IsBucketedFrame frame.now }
         requires placement { spec.CanPrepare frame.now
             (placing.placement_seen placement.now) in_use self.old }
@@ -245,7 +245,7 @@ impl Store {
     }
 
     /// What a bucket that was found gives next, if it is this wide.
-    pub fn allocation(&self, frame: &Frame, found: &Found, width: u32) -> Allocation
+    pub fn allocation(&self, frame: &Frame, found: &FoundBucket, width: u32) -> Allocation
         requires { spec.CanGive frame.now width found.now self.now }
         ensures { (kept : spec.KeptShelf) (bucket : spec.LinkedBucket)
             → slice_get self.now.shelves found.now.shelf ≡ Some kept
@@ -262,7 +262,7 @@ impl Store {
     }
 
     /// Takes an item of this width from a bucket that was found, and answers the area that it gets.
-    pub fn take(&mut self, found: &Found, width: u32) -> u32
+    pub fn take(&mut self, found: &FoundBucket, width: u32) -> u32
         requires shelf { found.now.shelf < length self.old.shelves }
         requires fits { spec.CanTake found.now.bucket width self.old.buckets }
         requires few { spec.live_items_of self.old.shelves found.now.shelf + 1 < 2 ^ 32 }
@@ -293,7 +293,7 @@ impl Store {
 
     /// Counts one more live item in the shelf of a bucket that was found and had this room before, and keeps
     /// what the buckets of the shelf can give now.
-    fn give_from(&mut self, found: &Found, room: u16)
+    fn give_from(&mut self, found: &FoundBucket, room: u16)
         requires shelf { found.now.shelf < length self.old.shelves }
         requires few { spec.live_items_of self.old.shelves found.now.shelf + 1 < 2 ^ 32 }
         requires widest { spec.IsWidestKept found.now.shelf found.now.bucket room
@@ -462,7 +462,7 @@ fn next_item(
     frame: &Frame,
     kept: &KeptShelf,
     bucket: &LinkedBucket,
-    found: &Found,
+    found: &FoundBucket,
     width: u32,
 ) -> Allocation
     requires { spec.CanGiveFrom width found.now kept.now bucket.now }
@@ -503,13 +503,13 @@ fn height_of(shelves: &[KeptShelf], number: usize) -> u32
 }
 
 /// The first bucket of the shelf of a number.
-fn found_first(shelves: &[KeptShelf], number: usize) -> Found
+fn found_first(shelves: &[KeptShelf], number: usize) -> FoundBucket
     requires within { number < length shelves.now }
     requires some { IsSome (spec.first_bucket_of shelves.now number) }
     ensures { spec.found_first number shelves.now ≡ Some result }
 {
     let first = first_bucket(shelves, number);
-    Found {
+    FoundBucket {
         shelf: number,
         bucket: first.number().unwrap(),
     }
@@ -661,7 +661,7 @@ fn goes_far(
     shelves: &[KeptShelf],
     buckets: &[LinkedBucket],
     spans: &Spans,
-    found: &Found,
+    found: &FoundBucket,
     keeps: bool,
 ) -> bool
     requires { found.now.shelf < length shelves.now }
@@ -689,7 +689,7 @@ fn learn_row(
     shelves: &[KeptShelf],
     buckets: &[LinkedBucket],
     spans: &mut Spans,
-    found: &Found,
+    found: &FoundBucket,
     keeps: bool,
     may_be_long: bool,
 )
@@ -703,7 +703,7 @@ fn learn_row(
 }
 
 /// Whether the bucket that was found is the first of its shelf.
-fn is_first(shelves: &[KeptShelf], found: &Found) -> bool
+fn is_first(shelves: &[KeptShelf], found: &FoundBucket) -> bool
     requires { found.now.shelf < length shelves.now }
 {
     usize::from(first_bucket(shelves, found.shelf).bits()) == found.bucket
@@ -716,7 +716,7 @@ fn is_first(shelves: &[KeptShelf], found: &Found) -> bool
 fn keeps_widest(
     shelves: &[KeptShelf],
     buckets: &[LinkedBucket],
-    found: &Found,
+    found: &FoundBucket,
     room: u16,
     may_be_long: bool,
 ) -> bool
@@ -737,7 +737,7 @@ fn is_filled(
     shelves: &[KeptShelf],
     buckets: &[LinkedBucket],
     filled: &Filled,
-    found: &Found,
+    found: &FoundBucket,
 ) -> bool
     requires number { found.now.shelf < length shelves.now }
     requires filled { IsFilled filled.now buckets.now }
@@ -757,7 +757,7 @@ fn widest_after(
     buckets: &[LinkedBucket],
     spans: &Spans,
     filled: &mut Filled,
-    found: &Found,
+    found: &FoundBucket,
     keeps: bool,
 ) -> u16
     requires number { found.now.shelf < length shelves.now }
@@ -790,7 +790,7 @@ fn give_from(
     buckets: &[LinkedBucket],
     spans: &mut Spans,
     filled: &mut Filled,
-    found: &Found,
+    found: &FoundBucket,
     room: u16,
     may_be_long: bool,
 )

@@ -10,7 +10,7 @@ ghost use Rattle.bucketed_store.specs.Private.Refusals as spec;
 use crate::refusing::widest_in;
 use crate::store::Store;
 use bucketed_model::usage::BucketedUsage;
-use bucketed_records::records::{KeptShelf, LinkedBucket, MOST_BUCKETS, wider};
+use bucketed_records::records::{KeptShelf, LinkedBucket, MOST_BUCKETS};
 use etagere_base::{Frame, Sides, Size, size_at};
 use etagere_links::Link;
 
@@ -21,7 +21,7 @@ fn tallest_with(shelves: &[KeptShelf], width: u16) -> u16
     let mut tallest = 0;
     for kept in shelves {
         if 0 < kept.shelf.height && kept.widest_room == width {
-            tallest = wider(tallest, kept.shelf.height);
+            tallest = tallest.max(kept.shelf.height);
         }
     }
     tallest

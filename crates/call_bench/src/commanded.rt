@@ -16,9 +16,14 @@ pub trait Commanded {
         ids: &[Option<AllocId>],
     ) -> Result<Option<AllocId>, AllocError>;
 
-    /// Saves the atlas where the round is `saved`, restores it from that where it is `restored`, draws it where it is
-    /// `drawn`, and does nothing in any other one.
-    fn end(&self, alloc: Global, round: &str) -> anyhow::Result<()>;
+    /// Saves the atlas.
+    fn save(&self) -> anyhow::Result<()>;
+
+    /// Saves the atlas, and makes another from that.
+    fn restore(&self, alloc: Global) -> anyhow::Result<()>;
+
+    /// Draws the atlas for nobody.
+    fn draw(&self) -> anyhow::Result<()>;
 }
 
 impl Commanded for AtlasAllocator {
@@ -49,17 +54,18 @@ impl Commanded for AtlasAllocator {
         Ok(None)
     }
 
-    fn end(&self, alloc: Global, round: &str) -> anyhow::Result<()> {
-        match round {
-            "saved" => {
-                self.snapshot()?;
-            }
-            "restored" => {
-                AtlasAllocator::restore(alloc, self.snapshot()?)?;
-            }
-            "drawn" => self.dump_svg(&mut Nowhere)?,
-            _ => {}
-        }
+    fn save(&self) -> anyhow::Result<()> {
+        self.snapshot()?;
+        Ok(())
+    }
+
+    fn restore(&self, alloc: Global) -> anyhow::Result<()> {
+        AtlasAllocator::restore(alloc, self.snapshot()?)?;
+        Ok(())
+    }
+
+    fn draw(&self) -> anyhow::Result<()> {
+        self.dump_svg(&mut Nowhere)?;
         Ok(())
     }
 }
@@ -87,17 +93,18 @@ impl Commanded for BucketedAtlasAllocator {
         Ok(None)
     }
 
-    fn end(&self, alloc: Global, round: &str) -> anyhow::Result<()> {
-        match round {
-            "saved" => {
-                self.snapshot()?;
-            }
-            "restored" => {
-                BucketedAtlasAllocator::restore(alloc, self.snapshot()?)?;
-            }
-            "drawn" => self.dump_svg(&mut Nowhere)?,
-            _ => {}
-        }
+    fn save(&self) -> anyhow::Result<()> {
+        self.snapshot()?;
+        Ok(())
+    }
+
+    fn restore(&self, alloc: Global) -> anyhow::Result<()> {
+        BucketedAtlasAllocator::restore(alloc, self.snapshot()?)?;
+        Ok(())
+    }
+
+    fn draw(&self) -> anyhow::Result<()> {
+        self.dump_svg(&mut Nowhere)?;
         Ok(())
     }
 }

@@ -67,7 +67,12 @@ fn call_and_end<A: Commanded>(
     round: &str,
 ) -> Result<u64> {
     let given = call_all(alloc, atlas, commands)?;
-    atlas.end(alloc, round)?;
+    match round {
+        "saved" => atlas.save()?,
+        "restored" => atlas.restore(alloc)?,
+        "drawn" => atlas.draw()?,
+        _ => {}
+    }
     Ok(given)
 }
 

@@ -40,49 +40,6 @@ impl WalkRoom {
         Ok(WalkRoom { positions })
     }
 
-    /// Follows links from `start` on, as `walk` does, where there are no more links than the room is for.
-    ///
-    /// Takes two bytes of memory for each record met. The error comes only where there was no memory. The
-    /// time is linear in the number of records met.
-    pub fn walk(&mut self, alloc: Global, links: &[u16], start: u16) -> Result<Walk, AllocError>
-        requires few { length links.now ≤ no_link }
-        requires room { length links.now ≤ self.old }
-        ensures room { self.new ≡ self.old }
-        ensures met { IfOk result (λ walk. walk.met.items ≡ (spec.walk links.now start).met) }
-        ensures end { IfOk result (λ walk. walk.end ≡ (spec.walk links.now start).end) }
-        ensures steps { IfOk result (λ walk. walk.steps ≡ vec_len walk.met) }
-        ensures bound { IfOk result (λ walk. walk.steps ≤ length links.now) }
-    {
-        let mut met = Vec::new(alloc);
-        let end = self.walk_onto(&mut met, links, start)?;
-        Ok(Walk {
-            steps: met.len() as u32,
-            met,
-            end,
-        })
-    }
-
-    /// Follows links from `start` on, as `walk` does, and puts the records that it meets behind those in `met`. Returns
-    /// the link at which it stopped.
-    ///
-    /// Takes memory only where `met` has too little room. The error comes only where there was none, and then `met` has
-    /// some of the records more. The time is linear in the number of records met.
-    pub fn walk_onto(
-        &mut self,
-        met: &mut Vec<u16>,
-        links: &[u16],
-        start: u16,
-    ) -> Result<u16, AllocError>
-        requires few { length links.now ≤ no_link }
-        requires room { length links.now ≤ self.old }
-        ensures room { self.new ≡ self.old }
-        ensures met { OnOk result (met.new.items ≡ met.old.items ++ (spec.walk links.now start).met) }
-        ensures end { IfOk result (λ end. end ≡ (spec.walk links.now start).end) }
-        ensures bound { OnOk result (length met.new.items ≤ length met.old.items + length links.now) }
-    {
-        walk_within(&mut self.positions, met, met.len(), links, start)
-    }
-
     /// Goes on from `at` with a walk that has met what stands in `met` behind so many, and puts what it meets then behind
     /// that. Returns the link at which it stopped.
     ///
@@ -139,7 +96,14 @@ pub fn walk(alloc: Global, links: &[u16], start: u16) -> Result<Walk, AllocError
     ensures steps { IfOk result (λ walk. walk.steps ≡ vec_len walk.met) }
     ensures bound { IfOk result (λ walk. walk.steps ≤ length links.now) }
 {
-    WalkRoom::new(alloc, links.len())?.walk(alloc, links, start)
+    let mut positions = vec![in alloc; 0u16; links.len()]?;
+    let mut met = Vec::new(alloc);
+    let end = walk_within(&mut positions, &mut met, 0, links, start)?;
+    Ok(Walk {
+        steps: met.len() as u32,
+        met,
+        end,
+    })
 }
 
 /// Whether a record was met behind so many: the position noted for it is that of one of those, which has it.

@@ -1,7 +1,7 @@
 //! What the words of a line stand for: a header, or a command for a cache.
 //!
 //! Definitions: `Words`, over `Lines` and `Words` of `run_scripts`. A new command goes into the table here, its
-//! `Spelled`, and into the one there.
+//! `LetteredCommand`, and into the one there.
 
 ghost use Rattle.std.specs.Prelude.{◌≡◌, option_map};
 ghost use Rattle.run_scripts.specs.Lines.{words_of};
@@ -13,7 +13,7 @@ use crate::keys::capacity_of;
 use etagere::{AllocatorOptions, Size};
 use run_scripts::lines::split_word;
 use run_scripts::numbers::number_of;
-use run_scripts::words::{Spelled, direction_of, size_of};
+use run_scripts::words::{LetteredCommand, direction_of, size_of};
 use std::num::NonZeroUsize;
 
 /// The cache of a script.
@@ -58,7 +58,7 @@ fn cache_in(words: &[u8]) -> Option<Header>
     })
 }
 
-impl Spelled for GlyphCommand {
+impl LetteredCommand for GlyphCommand {
     ghost use Rattle.glyph_run.specs.declared.commands.GlyphCommand.TheVariants.{Clear};
 
     ghost cleared = { Clear };

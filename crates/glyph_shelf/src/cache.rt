@@ -162,7 +162,7 @@ impl GlyphCache {
     pub fn used_in_frame(&self) -> usize
         ensures { result ≡ frame_uses self.now }
     {
-        self.kept.uses()
+        self.kept.used_in_frame()
     }
 
     /// The rectangle of a key, which becomes the most recently used; none where the key isn't there, and then nothing

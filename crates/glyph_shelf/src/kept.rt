@@ -123,10 +123,10 @@ impl Kept {
     }
 
     /// How many entries were used in this frame.
-    pub fn uses(&self) -> usize
+    pub fn used_in_frame(&self) -> usize
         ensures { result ≡ frame_uses self.now }
     {
-        self.entries.uses()
+        self.entries.used_in_frame()
     }
 
     /// How many entries there may be.
@@ -208,7 +208,7 @@ impl Kept {
         ensures retained { Retains F.step keeps self.old self.new }
         ensures promises { KeepsCachePromises self.new }
     {
-        let uses = self.uses();
+        let uses = self.used_in_frame();
         let earlier = self.len() - uses;
         let framed = self.has_frame();
         self.ask(earlier, &mut keeps);
@@ -520,7 +520,7 @@ impl Kept {
         ensures full { IfOk result (λ makes. makes ≡ false → IsFrameFull self.now size) }
         ensures framed { IfOk result (λ makes. makes ≡ false → 1 ≤ frame_uses self.now) }
     {
-        let uses = self.entries.uses();
+        let uses = self.entries.used_in_frame();
         if uses == 0 {
             return Ok(true);
         }

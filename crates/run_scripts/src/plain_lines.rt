@@ -6,7 +6,7 @@
 ghost use Rattle.std.specs.Prelude.{◌≡◌, ◌<◌, ◌^◌, pos, IfSome};
 ghost use Rattle.run_scripts.specs.Private.PlainLines.{BeginsWithCommand, BeginsWithNumber};
 
-use crate::words::Spelled;
+use crate::words::LetteredCommand;
 use etagere_base::Size;
 
 /// How many bytes a number and what ends it have at most. So many have to be there, which leaves one test for the end
@@ -16,7 +16,7 @@ const SHORT: usize = 9;
 /// The command of the first line, where that is plain, and the bytes after it. Always inlined: it is called for each
 /// line behind the header of a script.
 #[inline(always)]
-pub fn plain_command<C: Spelled>(bytes: &[u8]) -> Option<(C, &[u8])>
+pub fn plain_command<C: LetteredCommand>(bytes: &[u8]) -> Option<(C, &[u8])>
     ensures { IfSome result (λ parts.
         BeginsWithCommand C.cleared C.meaning bytes.now parts.0 parts.1.now) }
 {

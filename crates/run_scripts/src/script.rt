@@ -15,7 +15,7 @@ ghost use Rattle.run_scripts.specs.declared.script.ScriptFault.TheVariants.{Memo
 use crate::commands::{AtlasCommand, BucketedCommand};
 use crate::lines::{blank_lines, first_line, line_feeds};
 use crate::plain_lines::plain_command;
-use crate::words::{AtlasKind, Spelled, command_of, header_of};
+use crate::words::{AtlasKind, LetteredCommand, command_of, header_of};
 use etagere_base::{AllocatorOptions, Size};
 use std::alloc::{AllocFailed, Global};
 use std::marker::Model;
@@ -104,7 +104,7 @@ fn commands_to(
 /// The commands of the lines after line number `before`. Takes memory for a command a line, at once, and two passes over
 /// the bytes. Never inlined: it has the processor's registers to itself.
 #[inline(never)]
-pub fn commands_of<C: Spelled>(
+pub fn commands_of<C: LetteredCommand>(
     alloc: Global,
     before: u64,
     bytes: &[u8],

@@ -1,7 +1,7 @@
 //! What the words of a line stand for: a header, or a command for an atlas of one kind.
 //!
 //! Definitions: `Words`, over `Lines` and `Numbers`. A new command goes into the table of its atlas here and there: here that
-//! is its `Spelled`, by which lines are read in one pass and word by word.
+//! is its `LetteredCommand`, by which lines are read in one pass and word by word.
 
 ghost use Rattle.std.specs.Prelude.{◌≡◌, ◌≢◌, ℕ, List, [], ◌∷◌, Option, IfNone, IfSome, length};
 ghost use Rattle.run_scripts.specs.Lines.{words_of};
@@ -85,7 +85,7 @@ pub fn direction_of(direction: &[u8]) -> Option<bool>
 /// The commands for one kind of atlas, as lines spell them: each is a letter, and what may stand behind one.
 ///
 /// This is the table of the commands: in one pass and word by word, lines are read by it alone.
-pub trait Spelled: Copy {
+pub trait LetteredCommand: Copy {
     ghost cleared: { Self };
 
     ghost meaning: { List ℕ → List (List ℕ) → Option Self };
@@ -112,7 +112,7 @@ pub trait Spelled: Copy {
 }
 
 /// The command that a line spells.
-pub fn command_of<C: Spelled>(line: &[u8]) -> Option<C>
+pub fn command_of<C: LetteredCommand>(line: &[u8]) -> Option<C>
     ensures { result ≡ spec.command_of C.cleared C.meaning (words_of line.now) }
 {
     C::lettered();
@@ -134,7 +134,7 @@ fn letter_of(name: &[u8]) -> Option<u8>
 }
 
 /// The command of a letter and the words behind it.
-fn command_with<C: Spelled>(letter: u8, words: &[u8]) -> Option<C>
+fn command_with<C: LetteredCommand>(letter: u8, words: &[u8]) -> Option<C>
     ensures { result ≡ spec.command_of C.cleared C.meaning ((letter ∷ []) ∷ words_of words.now) }
 {
     C::lettered();
@@ -150,7 +150,7 @@ fn command_with<C: Spelled>(letter: u8, words: &[u8]) -> Option<C>
     }
 }
 
-impl Spelled for AtlasCommand {
+impl LetteredCommand for AtlasCommand {
     ghost use Rattle.run_scripts.specs.declared.commands.AtlasCommand.TheVariants.{Clear};
 
     ghost cleared = { Clear };
@@ -188,7 +188,7 @@ impl Spelled for AtlasCommand {
     fn lettered() {}
 }
 
-impl Spelled for BucketedCommand {
+impl LetteredCommand for BucketedCommand {
     ghost use Rattle.run_scripts.specs.declared.commands.BucketedCommand.TheVariants.{Clear};
 
     ghost cleared = { Clear };

@@ -5,7 +5,7 @@ use Rattle.shelf_model.specs.Places.{allocations}
 use Rattle.shelf_model.specs.State.{AtlasState, Item, Shelf, is_free, items_in_use}
 use Rattle.shelf_model.specs.Usage.{free_items}
 use Rattle.shelf_model.proofs.Allocations.AllocatedIds.{id_of, ids-allocations_after}
-use Rattle.shelf_model.proofs.Allocations.IdLists.{id_list, item_ids, ids}
+use Rattle.shelf_model.proofs.Allocations.IdLists.{item_ids, ids}
 
 -- each item of a shelf is allocated or free
 items-parted : (items : List Item) → length (item_ids items) + length (filter is_free items) ≡ length items

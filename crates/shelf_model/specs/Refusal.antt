@@ -1,7 +1,6 @@
 -- Why a size has no place: each reason as a test of the state and the size, and the first that holds.
 use Rattle.std.specs.Prelude.{ℕ, ◌+◌, Bool, false, Option, None, Some, nat_lt, if◌then◌else◌}
 use Rattle.std.specs.Option.{option_map_or}
-use Rattle.etagere_base.specs.declared.frames.Frame.{Frame}
 use Rattle.etagere_base.specs.declared.geometry.Size.{Size}
 use Rattle.etagere_base.specs.declared.sides.Sides.{Sides}
 use Rattle.etagere_base.specs.declared.faults.SizeRefusal.{SizeRefusal}

@@ -9,7 +9,7 @@ pub mod MadeRecords
 pub mod NeighbourFrames
 pub mod MissingRecords
 pub mod UsedRecords
-mod RecordRows
+pub mod RecordRows
 pub mod ChainEdits
 pub mod Chains
 pub mod ListEnds

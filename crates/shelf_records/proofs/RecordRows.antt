@@ -4,7 +4,7 @@ use Rattle.shelf_records.specs.RecordLists.{Records, walked_lists}
 use Rattle.shelf_records.specs.RecordMerges.{free_absorbed, item_freed}
 
 -- an allocated item of 8 and a free one of 12 after it, in a shelf of 20
-abbrev two_items : Records
+abbrev pub two_items : Records
 two_items =
     record {
       shelves =

@@ -16,7 +16,7 @@ ghost use Rattle.etagere_links.specs.Links.{no_link};
 ghost use Rattle.shelf_notes.specs.Private.Pending.{is_in_use, is_listed, is_noted};
 ghost use Rattle.shelf_records.specs.Private.Kept.{AreKept, bare};
 ghost use Rattle.shelf_store.specs.Private.Settling as spec;
-ghost use Rattle.shelf_store.specs.Private.Settling.{AreByHeightButNoted, AreSettled, BeginAsListed, BeginsAsListed, Follows, IsBoundIn, IsBounded, IsListButNoted, IsListOf, IsSettled, bounded_anew};
+ghost use Rattle.shelf_store.specs.Private.Settling.{AreByHeightExceptNoted, AreSettled, BeginAsListed, BeginsAsListed, Follows, IsBoundIn, IsBounded, IsListExceptNoted, IsListOf, IsSettled, bounded_anew};
 
 use crate::starting::{FIRST_ROOM, newly_bounded, sort_shelves};
 use etagere_base::Frame;
@@ -148,10 +148,10 @@ pub fn settle_unless_few(
     items_in_use: u32,
 ) -> bool
     requires kept { AreKept frame.now records.now }
-    requires by_height { AreByHeightButNoted frame.now records.now pending.old.notes by_height.old.items }
+    requires by_height { AreByHeightExceptNoted frame.now records.now pending.old.notes by_height.old.items }
     requires room { length records.now.shelves ≤ by_height.old.capacity }
     requires room_to_note { length records.now.shelves ≤ pending.old.room }
-    ensures by_height { AreByHeightButNoted frame.now records.now pending.new.notes by_height.new.items }
+    ensures by_height { AreByHeightExceptNoted frame.now records.now pending.new.notes by_height.new.items }
     ensures follows { result ≡ true → AreByHeight frame.now records.now by_height.new.items }
     ensures settled { result ≡ true → AreSettled records.now pending.new.notes }
     ensures same { result ≡ false → by_height.new.items ≡ by_height.old.items }
@@ -174,10 +174,10 @@ fn settle_noted_unless_few(
     items_in_use: u32,
 ) -> bool
     requires kept { AreKept frame.now records.now }
-    requires by_height { AreByHeightButNoted frame.now records.now pending.old.notes by_height.old.items }
+    requires by_height { AreByHeightExceptNoted frame.now records.now pending.old.notes by_height.old.items }
     requires room { length records.now.shelves ≤ by_height.old.capacity }
     requires room_to_note { length records.now.shelves ≤ pending.old.room }
-    ensures by_height { AreByHeightButNoted frame.now records.now pending.new.notes by_height.new.items }
+    ensures by_height { AreByHeightExceptNoted frame.now records.now pending.new.notes by_height.new.items }
     ensures follows { result ≡ true → AreByHeight frame.now records.now by_height.new.items }
     ensures settled { result ≡ true → AreSettled records.now pending.new.notes }
     ensures same { result ≡ false → by_height.new.items ≡ by_height.old.items }
@@ -219,7 +219,7 @@ pub fn settle_shelves(
     pending: &mut PendingShelves,
 )
     requires kept { AreKept frame.now records.now }
-    requires by_height { AreByHeightButNoted frame.now records.now pending.old.notes by_height.old.items }
+    requires by_height { AreByHeightExceptNoted frame.now records.now pending.old.notes by_height.old.items }
     requires room { length records.now.shelves ≤ by_height.old.capacity }
     requires room_to_note { length records.now.shelves ≤ pending.old.room }
     ensures by_height { AreByHeight frame.now records.now by_height.new.items }
@@ -241,7 +241,7 @@ fn settle_noted(
     pending: &mut PendingShelves,
 )
     requires kept { AreKept frame.now records.now }
-    requires by_height { AreByHeightButNoted frame.now records.now pending.old.notes by_height.old.items }
+    requires by_height { AreByHeightExceptNoted frame.now records.now pending.old.notes by_height.old.items }
     requires room { length records.now.shelves ≤ by_height.old.capacity }
     requires room_to_note { length records.now.shelves ≤ pending.old.room }
     ensures by_height { AreByHeight frame.now records.now by_height.new.items }
@@ -266,10 +266,10 @@ fn are_many(changed: usize, listed: usize) -> bool {
 
 /// Takes those out of the list that have changed and are out of use, or begin elsewhere by now.
 fn take_out_moved(records: &Records, by_height: &mut ShelvesByHeight, pending: &mut PendingShelves)
-    requires list { IsListButNoted records.now pending.old.notes by_height.old.items }
+    requires list { IsListExceptNoted records.now pending.old.notes by_height.old.items }
     ensures by_height { (frame : Frame) → AreKept frame records.now
-        → AreByHeightButNoted frame records.now pending.old.notes by_height.old.items
-        → AreByHeightButNoted frame records.now pending.new.notes by_height.new.items }
+        → AreByHeightExceptNoted frame records.now pending.old.notes by_height.old.items
+        → AreByHeightExceptNoted frame records.now pending.new.notes by_height.new.items }
     ensures as_listed { BeginAsListed records.now.shelves pending.new.notes }
     ensures capacity { by_height.old.capacity ≤ by_height.new.capacity }
     ensures room { pending.new.room ≡ pending.old.room }
@@ -287,12 +287,12 @@ fn take_out_if_moved(
     pending: &mut PendingShelves,
     shelf: usize,
 )
-    requires list { IsListButNoted records.now pending.old.notes by_height.old.items }
+    requires list { IsListExceptNoted records.now pending.old.notes by_height.old.items }
     requires known { shelf < length pending.old.notes.standing }
     requires noted { is_noted pending.old.notes shelf ≡ true }
     ensures by_height { (frame : Frame) → AreKept frame records.now
-        → AreByHeightButNoted frame records.now pending.old.notes by_height.old.items
-        → AreByHeightButNoted frame records.now pending.new.notes by_height.new.items }
+        → AreByHeightExceptNoted frame records.now pending.old.notes by_height.old.items
+        → AreByHeightExceptNoted frame records.now pending.new.notes by_height.new.items }
     ensures as_listed { BeginsAsListed records.now.shelves pending.new.notes shelf }
     ensures others { (k : ℕ) → BeginsAsListed records.now.shelves pending.old.notes k
         → BeginsAsListed records.now.shelves pending.new.notes k }
@@ -328,7 +328,7 @@ fn settle_each(
     pending: &mut PendingShelves,
 )
     requires kept { AreKept frame.now records.now }
-    requires by_height { AreByHeightButNoted frame.now records.now pending.old.notes by_height.old.items }
+    requires by_height { AreByHeightExceptNoted frame.now records.now pending.old.notes by_height.old.items }
     requires as_listed { BeginAsListed records.now.shelves pending.old.notes }
     requires room { length records.now.shelves ≤ by_height.old.capacity }
     ensures by_height { AreByHeight frame.now records.now by_height.new.items }
@@ -349,11 +349,11 @@ fn settle_last(
     pending: &mut PendingShelves,
 )
     requires kept { AreKept frame.now records.now }
-    requires by_height { AreByHeightButNoted frame.now records.now pending.old.notes by_height.old.items }
+    requires by_height { AreByHeightExceptNoted frame.now records.now pending.old.notes by_height.old.items }
     requires as_listed { BeginAsListed records.now.shelves pending.old.notes }
     requires some { 0 < length pending.old.notes.noted }
     requires room { length records.now.shelves ≤ by_height.old.capacity }
-    ensures by_height { AreByHeightButNoted frame.now records.now pending.new.notes by_height.new.items }
+    ensures by_height { AreByHeightExceptNoted frame.now records.now pending.new.notes by_height.new.items }
     ensures as_listed { BeginAsListed records.now.shelves pending.new.notes }
     ensures fewer { length pending.new.notes.noted + 1 ≡ length pending.old.notes.noted }
     ensures capacity { by_height.old.capacity ≤ by_height.new.capacity }
@@ -373,12 +373,12 @@ fn settle_one(
     shelf: usize,
 )
     requires kept { AreKept frame.now records.now }
-    requires by_height { AreByHeightButNoted frame.now records.now pending.old.notes by_height.old.items }
+    requires by_height { AreByHeightExceptNoted frame.now records.now pending.old.notes by_height.old.items }
     requires as_listed { BeginAsListed records.now.shelves pending.old.notes }
     requires known { shelf < length pending.old.notes.standing }
     requires noted { is_noted pending.old.notes shelf ≡ true }
     requires room { length records.now.shelves ≤ by_height.old.capacity }
-    ensures by_height { AreByHeightButNoted frame.now records.now pending.new.notes by_height.new.items }
+    ensures by_height { AreByHeightExceptNoted frame.now records.now pending.new.notes by_height.new.items }
     ensures as_listed { BeginAsListed records.now.shelves pending.new.notes }
     ensures settled { IsSettled records.now.shelves pending.new.notes shelf }
     ensures bounded { IsBounded frame.now records.now shelf by_height.new.items }
@@ -406,7 +406,7 @@ fn move_listed(
     shelf: usize,
 )
     requires kept { AreKept frame.now records.now }
-    requires by_height { AreByHeightButNoted frame.now records.now pending.old.notes by_height.old.items }
+    requires by_height { AreByHeightExceptNoted frame.now records.now pending.old.notes by_height.old.items }
     requires as_listed { BeginAsListed records.now.shelves pending.old.notes }
     requires known { shelf < length pending.old.notes.standing }
     requires noted { is_noted pending.old.notes shelf ≡ true }
@@ -415,7 +415,7 @@ fn move_listed(
     ensures moved { by_height.new.items
         ≡ heights.put_in pending.new.notes.kept (bounded_anew frame.now records.now shelf)
         (heights.taken_out shelf by_height.old.items) }
-    ensures by_height { AreByHeightButNoted frame.now records.now pending.new.notes by_height.new.items }
+    ensures by_height { AreByHeightExceptNoted frame.now records.now pending.new.notes by_height.new.items }
     ensures as_listed { BeginAsListed records.now.shelves pending.new.notes }
     ensures settled { IsSettled records.now.shelves pending.new.notes shelf }
     ensures bounded { IsBounded frame.now records.now shelf by_height.new.items }
@@ -473,7 +473,7 @@ fn put_in_new(
     shelf: usize,
 )
     requires kept { AreKept frame.now records.now }
-    requires by_height { AreByHeightButNoted frame.now records.now pending.old.notes by_height.old.items }
+    requires by_height { AreByHeightExceptNoted frame.now records.now pending.old.notes by_height.old.items }
     requires as_listed { BeginAsListed records.now.shelves pending.old.notes }
     requires known { shelf < length pending.old.notes.standing }
     requires noted { is_noted pending.old.notes shelf ≡ true }
@@ -483,7 +483,7 @@ fn put_in_new(
     ensures added { by_height.new.items
         ≡ heights.put_in pending.new.notes.kept (bounded_anew frame.now records.now shelf)
         by_height.old.items }
-    ensures by_height { AreByHeightButNoted frame.now records.now pending.new.notes by_height.new.items }
+    ensures by_height { AreByHeightExceptNoted frame.now records.now pending.new.notes by_height.new.items }
     ensures as_listed { BeginAsListed records.now.shelves pending.new.notes }
     ensures settled { IsSettled records.now.shelves pending.new.notes shelf }
     ensures bounded { IsBounded frame.now records.now shelf by_height.new.items }

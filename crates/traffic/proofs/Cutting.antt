@@ -1,7 +1,7 @@
 -- A run is cut in two, and put together again.
-use Rattle.std.proofs.Common.{◌≡◌, ℕ, ◌+◌, List, [], ◌∷◌, ◌++◌, length, refl, ap, sym, ◌∙◌, subst, arith}
+use Rattle.std.proofs.Common.{◌≡◌, ℕ, ◌+◌, List, [], ◌∷◌, ◌++◌, length, refl, ap, sym, subst, arith}
 use Rattle.run_scripts.specs.declared.commands.Reply.{Reply}
-use Rattle.etagere_run.specs.Answers.Live.{Effect, Entry, live_after, live_from}
+use Rattle.etagere_run.specs.Answers.Live.{Entry, live_after, live_from}
 use Rattle.etagere_run.specs.Answers.Runs.{Kind, Runs, effects}
 use Rattle.traffic.specs.Continuing.{IsCutAnywhere, RunsInTwo}
 

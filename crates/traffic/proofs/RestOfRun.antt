@@ -1,13 +1,10 @@
 -- What goes on from a snapshot is the rest of the run that led to it.
-use Rattle.std.proofs.Common.{◌≡◌, ℕ, ◌+◌, ◌≤◌, Bool, true, false, cond, Option, None, Some, List, [], ◌∷◌, ◌++◌, length, map, refl, ap, sym, ◌∙◌, subst, arith}
+use Rattle.std.proofs.Common.{◌≡◌, ℕ, ◌+◌, ◌≤◌, Bool, true, false, cond, Option, Some, List, [], ◌∷◌, length, map, ap, sym, ◌∙◌, subst, arith}
 use Rattle.std.proofs.lemmas.Option.{slice_get_past}
 use Rattle.std.specs.Prelude.{◌==◌, option_and_then, slice_get}
 use Rattle.std.specs.List.{AllByRecursion, find}
-use Rattle.etagere_base.specs.declared.frames.Frame.{Frame}
-use Rattle.etagere_base.specs.declared.geometry.Size.{Size}
 use Rattle.etagere_base.specs.declared.ids.Allocation.{Allocation}
-use Rattle.etagere_base.specs.declared.options.AllocatorOptions.{AllocatorOptions}
-use Rattle.etagere_base.specs.Frames.{IsAccepted, atlas_frame, longest_side}
+use Rattle.etagere_base.specs.Frames.{atlas_frame}
 use Rattle.etagere_base.specs.Lists.{times}
 use Rattle.etagere_base.proofs.EachLemmas.{Each-weaken}
 use Rattle.shelf_model.specs.Callers.{AreTied, IsFound}

@@ -1,5 +1,5 @@
 -- A run cut in two, and the positions that its second part has in the whole.
-use Rattle.std.specs.Prelude.{◌≡◌, ◌↔◌, ℕ, zero, suc, ◌+◌, List, [], ◌∷◌, ◌++◌, length, map, ◌==◌, if◌then◌else◌}
+use Rattle.std.specs.Prelude.{◌≡◌, ◌↔◌, ℕ, zero, suc, ◌+◌, List, [], ◌∷◌, ◌++◌, length, ◌==◌, if◌then◌else◌}
 use Rattle.etagere_base.specs.declared.ids.Allocation.{Allocation}
 use Rattle.run_scripts.specs.declared.commands.AtlasCommand.{AtlasCommand}
 use Rattle.run_scripts.specs.declared.commands.AtlasCommand.TheVariants.{Return, Look}

@@ -1,5 +1,5 @@
 -- What a place on one of several pages is.
-use Rattle.std.specs.Prelude.{◌≡◌, ◌≢◌, ℕ, ◌<◌, Some, List, length, slice_get}
+use Rattle.std.specs.Prelude.{◌≡◌, ◌≢◌, ℕ, ◌<◌, Some, List, slice_get}
 use Rattle.etagere_base.specs.declared.geometry.Size.{Size}
 use Rattle.shelf_model.specs.Choice.{IsRefused}
 use Rattle.shelf_model.specs.Places.{rectangle_of}

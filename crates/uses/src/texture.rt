@@ -4,11 +4,13 @@
 
 ghost use Rattle.std.specs.Prelude.{◌≡◌, ◌+◌, ◌*◌, ◌^◌, ◌<◌, ◌≤◌, ◌≤ℤ◌, ◌<ℤ◌, pos, IfSome, IfNone};
 ghost use Rattle.etagere_base.specs.Rectangles.{IsInside};
+ghost use Rattle.etagere_base.specs.Sides.{side};
 ghost use Rattle.shelf_model.specs.Atlas.{KeepsPromises};
 ghost use Rattle.shelf_model.specs.Places.{rectangle_of};
 ghost use Rattle.uses.specs.Texture.{HasNoPixel, IsNoPixel, IsPixel, LiesAt};
 
 use etagere::{AllocId, AtlasAllocator, Rectangle, Size};
+use etagere_base::side;
 
 /// How many bytes a pixel has: red, green, blue and how opaque it is.
 pub const PIXEL_BYTES: usize = 4;
@@ -24,10 +26,10 @@ pub fn pixel_offset(atlas: &AtlasAllocator, id: AllocId, x: u32, y: u32) -> Opti
     ensures within { IfSome result (λ offset. offset + PIXEL_BYTES
         ≤ atlas.now.frame.width * atlas.now.frame.height * PIXEL_BYTES) }
 {
-    let Size { width, height } = atlas.size();
+    let size = atlas.size();
     let rectangle = rectangle_inside(atlas, id)?;
     let (left, top) = pixel_of(rectangle, x, y)?;
-    Some(byte_at(whole(width), whole(height), left, top))
+    Some(byte_at(size, left, top))
 }
 
 /// Where a pixel of a rectangle lies in what the rectangle is in, if it has that pixel.
@@ -65,13 +67,13 @@ fn whole(place: i32) -> usize
     place as usize
 }
 
-/// Where the pixel at a place begins in a buffer of these sides.
-fn byte_at(width: usize, height: usize, left: usize, top: usize) -> usize
-    requires small { width * height < 2 ^ 31 }
-    requires across { left < width }
-    requires down { top < height }
-    ensures begins { result ≡ (top * width + left) * PIXEL_BYTES }
-    ensures within { result + PIXEL_BYTES ≤ width * height * PIXEL_BYTES }
+/// Where the pixel at a place begins in a buffer of this size.
+fn byte_at(size: Size, left: usize, top: usize) -> usize
+    requires small { side size.width * side size.height < 2 ^ 31 }
+    requires across { left < side size.width }
+    requires down { top < side size.height }
+    ensures begins { result ≡ (top * side size.width + left) * PIXEL_BYTES }
+    ensures within { result + PIXEL_BYTES ≤ side size.width * side size.height * PIXEL_BYTES }
 {
-    (top * width + left) * PIXEL_BYTES
+    (top * side(size.width) as usize + left) * PIXEL_BYTES
 }

@@ -2,7 +2,7 @@
 use Rattle.std.specs.Prelude.{ℕ, zero, suc, ◌-◌, ◌+◌, ◌^◌, max, min, Bool, false, ◌&&◌, not, Option, None, Some, option_map, option_and_then, unwrap_or, List, [], ◌∷◌, map, drop, slice_get, nat_le, nat_lt, ◌==◌, if◌then◌else◌}
 use Rattle.std.specs.Option.{option_map_or}
 use Rattle.etagere_base.specs.declared.sides.Sides.{Sides}
-use Rattle.etagere_base.specs.Least.{first_least, Found as Least}
+use Rattle.etagere_base.specs.Least.{first_least, Found}
 use Rattle.bucketed_model.specs.Picking.{or_else}
 use Rattle.bucketed_model.specs.State.{most_buckets, most_given}
 use Rattle.bucketed_records.specs.declared.records.LinkedBucket.{LinkedBucket}
@@ -11,7 +11,7 @@ use Rattle.bucketed_records.specs.StandsFor.{free_of}
 use Rattle.bucketed_records.specs.Private.Store.{record_room}
 pub use Rattle.bucket_index.specs.declared.searching.Wanted.{Wanted}
 use Rattle.bucket_index.specs.declared.searching.Wanted.TheVariants.{Roomy, Exact, Wide}
-pub use Rattle.bucket_index.specs.declared.searching.Found.{Found}
+pub use Rattle.bucket_index.specs.declared.searching.FoundBucket.{FoundBucket}
 
 -- a bucket record is what is wanted
 abbrev pub is_wanted : Wanted → LinkedBucket → Bool
@@ -75,49 +75,49 @@ abbrev pub most_waste : Bool → Sides → ℕ
 most_waste adds sides = if adds then min (sides.across + 1) (2 ^ 32 - 1) else 2 ^ 32 - 1
 
 -- the same where something was found before it, that it has to be better than
-abbrev pub limit_beside : Bool → Sides → Option Least → ℕ
+abbrev pub limit_beside : Bool → Sides → Option Found → ℕ
 limit_beside adds sides best =
-    option_map_or (λ (least : Least). min least.rank (most_waste adds sides)) best
+    option_map_or (λ (least : Found). min least.rank (most_waste adds sides)) best
     (most_waste adds sides)
 
 -- a shelf was found that wastes less than two differ in height
-abbrev pub is_least : ℕ → Option Least → Bool
+abbrev pub is_least : ℕ → Option Found → Bool
 is_least step None = false
 is_least step (Some least) = nat_lt least.rank step
 
 -- the number of a shelf and that of its first bucket that is wanted
-abbrev pub found_in : Wanted → List LinkedBucket → ℕ → KeptShelf → Option Found
+abbrev pub found_in : Wanted → List LinkedBucket → ℕ → KeptShelf → Option FoundBucket
 found_in wanted buckets number kept =
     option_map (λ bucket. record { shelf = number; bucket = bucket })
     (first_wanted wanted buckets kept)
 
 -- the first exact bucket of a shelf that wastes no height
-abbrev pub exact_in : Sides → List LinkedBucket → ℕ → KeptShelf → Option Found
+abbrev pub exact_in : Sides → List LinkedBucket → ℕ → KeptShelf → Option FoundBucket
 exact_in sides buckets number kept =
     if kept.shelf.height == sides.across && nat_le sides.along kept.widest_room
     then found_in (Exact sides.along) buckets number kept
     else None
 
 -- the first exact bucket of shelves that waste no height, of which the first has this number
-abbrev pub exact_from : Sides → List LinkedBucket → ℕ → List KeptShelf → Option Found
+abbrev pub exact_from : Sides → List LinkedBucket → ℕ → List KeptShelf → Option FoundBucket
 exact_from sides buckets number [] = None
 exact_from sides buckets number (kept ∷ shelves) =
     or_else (exact_in sides buckets number kept) (exact_from sides buckets (suc number) shelves)
 
 -- what was found, unless it wastes width alone, and there is an exact bucket in a later shelf
-abbrev pub exact_or_found : Sides → List KeptShelf → List LinkedBucket → Least → ℕ → Found
+abbrev pub exact_or_found : Sides → List KeptShelf → List LinkedBucket → Found → ℕ → FoundBucket
 exact_or_found sides shelves buckets least bucket =
-    let found : Found = record { shelf = least.number; bucket = bucket } in
+    let found : FoundBucket = record { shelf = least.number; bucket = bucket } in
     if least.rank == 0 && not (free_of buckets bucket == sides.along)
     then unwrap_or (exact_from sides buckets (suc least.number) (drop (suc least.number) shelves))
     found
     else found
 
 -- the bucket that is picked for these sides
-abbrev pub picked : Bool → Sides → List KeptShelf → List LinkedBucket → Option Found
+abbrev pub picked : Bool → Sides → List KeptShelf → List LinkedBucket → Option FoundBucket
 picked adds sides shelves buckets =
     option_and_then
-    (λ (least : Least). option_and_then
+    (λ (least : Found). option_and_then
     (λ (kept : KeptShelf). option_map (exact_or_found sides shelves buckets least)
     (first_wanted (Roomy sides.along) buckets kept))
     (slice_get shelves least.number))

@@ -37,8 +37,8 @@ IsWithin numbered block room buckets number =
     (numbered number ≡ block) × (room_at buckets number ≤ room)
 
 -- the same of all records but one, of whose room nothing is said
-abbrev pub IsWithinBut : ℕ → (ℕ → ℕ) → ℕ → ℕ → List LinkedBucket → ℕ → Type 0
-IsWithinBut one numbered block room buckets number =
+abbrev pub IsWithinExcept : ℕ → (ℕ → ℕ) → ℕ → ℕ → List LinkedBucket → ℕ → Type 0
+IsWithinExcept one numbered block room buckets number =
     (numbered number ≡ block) × ((number ≡ one → ⊥) → room_at buckets number ≤ room)
 
 -- the links lead through a span's records, which stand in this block and have no more room than it
@@ -50,10 +50,10 @@ pub record IsSpan (numbered : ℕ → ℕ) (block : ℕ) (span : Span) (buckets 
       (Some span.first) (link_of span.behind)
 
 -- the same where nothing is said of the room of one record
-pub record IsSpanBut (one : ℕ) (numbered : ℕ → ℕ) (block : ℕ) (span : Span)
+pub record IsSpanExcept (one : ℕ) (numbered : ℕ → ℕ) (block : ℕ) (span : Span)
     (buckets : List LinkedBucket) : Type 0 where
   pub some : 1 ≤ span.steps
-  pub lead : Lead span.steps (IsWithinBut one numbered block span.widest_room buckets) buckets
+  pub lead : Lead span.steps (IsWithinExcept one numbered block span.widest_room buckets) buckets
       (Some span.first) (link_of span.behind)
 
 -- a span is one of its block, where something is known of it
@@ -62,9 +62,9 @@ IsKnownSpan numbered block span buckets =
     span.first < no_link → IsSpan numbered block span buckets
 
 -- the same where nothing is said of the room of one record
-abbrev pub IsKnownSpanBut : ℕ → (ℕ → ℕ) → ℕ → Span → List LinkedBucket → Type 0
-IsKnownSpanBut one numbered block span buckets =
-    span.first < no_link → IsSpanBut one numbered block span buckets
+abbrev pub IsKnownSpanExcept : ℕ → (ℕ → ℕ) → ℕ → Span → List LinkedBucket → Type 0
+IsKnownSpanExcept one numbered block span buckets =
+    span.first < no_link → IsSpanExcept one numbered block span buckets
 
 -- what is known of a block of which nothing is known
 abbrev pub no_span : Span
@@ -89,10 +89,10 @@ AreSpansOf numbered spans buckets =
     → IsKnownSpan numbered block span buckets
 
 -- the same where nothing is said of the room of one record
-abbrev pub AreSpansButOf : ℕ → (ℕ → ℕ) → List Span → List LinkedBucket → Type 0
-AreSpansButOf one numbered spans buckets =
+abbrev pub AreSpansExceptOf : ℕ → (ℕ → ℕ) → List Span → List LinkedBucket → Type 0
+AreSpansExceptOf one numbered spans buckets =
     (block : ℕ) (span : Span) → slice_get spans block ≡ Some span
-    → IsKnownSpanBut one numbered block span buckets
+    → IsKnownSpanExcept one numbered block span buckets
 
 -- each span of another block than that of this record is one of its block
 abbrev pub AreOtherSpansOf : ℕ → (ℕ → ℕ) → List Span → List LinkedBucket → Type 0
@@ -112,14 +112,14 @@ abbrev pub AreKnownSpans : Spans → List LinkedBucket → Type 0
 AreKnownSpans spans buckets = AreSpansWhere AreSpansOf spans buckets
 
 -- each span is one of its block, where nothing is said of the room of one record
-abbrev pub AreKnownSpansBut : ℕ → Spans → List LinkedBucket → Type 0
-AreKnownSpansBut one spans buckets = AreSpansWhere (AreSpansButOf one) spans buckets
+abbrev pub AreKnownSpansExcept : ℕ → Spans → List LinkedBucket → Type 0
+AreKnownSpansExcept one spans buckets = AreSpansWhere (AreSpansExceptOf one) spans buckets
 
 -- no other record in the span of a record's block has more room than this
 abbrev pub IsBoundOf : (ℕ → ℕ) → ℕ → ℕ → List Span → List LinkedBucket → Type 0
 IsBoundOf numbered room one spans buckets =
     (span : Span) → slice_get spans (numbered one) ≡ Some span
-    → IsKnownSpanBut one numbered (numbered one) (bounded room span) buckets
+    → IsKnownSpanExcept one numbered (numbered one) (bounded room span) buckets
 
 -- how much room others have in the spans of the record that was widened last
 pub record AreBounds (spans : Spans) (buckets : List LinkedBucket) : Type 0 where
@@ -137,8 +137,8 @@ pub record AreLearned (spans : Spans) (buckets : List LinkedBucket) : Type 0 whe
   pub others : AreOthers spans buckets
 
 -- the same where nothing is said of the room of one record
-pub record AreLearnedBut (one : ℕ) (spans : Spans) (buckets : List LinkedBucket) : Type 0 where
-  pub known : AreKnownSpansBut one spans buckets
+pub record AreLearnedExcept (one : ℕ) (spans : Spans) (buckets : List LinkedBucket) : Type 0 where
+  pub known : AreKnownSpansExcept one spans buckets
   pub others : spans.others.number ≡ one → AreOthers spans buckets
 
 -- where spans were learned, they are right
@@ -146,8 +146,8 @@ abbrev pub AreSpans : Spans → List LinkedBucket → Type 0
 AreSpans spans buckets = spans.are_learned ≡ true → AreLearned spans buckets
 
 -- the same where nothing is said of the room of one record
-abbrev pub AreSpansBut : ℕ → Spans → List LinkedBucket → Type 0
-AreSpansBut one spans buckets = spans.are_learned ≡ true → AreLearnedBut one spans buckets
+abbrev pub AreSpansExcept : ℕ → Spans → List LinkedBucket → Type 0
+AreSpansExcept one spans buckets = spans.are_learned ≡ true → AreLearnedExcept one spans buckets
 
 -- where spans were learned, each of another block than that of this record is one of its block
 abbrev pub AreOtherSpans : ℕ → Spans → List LinkedBucket → Type 0

@@ -8,7 +8,7 @@ ghost use Rattle.std.specs.List.{AllByRecursion, list_all};
 ghost use Rattle.bucketed_model.specs.State.{generations};
 ghost use Rattle.bucketed_restoring.specs.Private.Judging as spec;
 
-use bucketed_records::records::{LinkedBucket, LinkedBucketShelf, MOST_GIVEN, record_room, wider};
+use bucketed_records::records::{LinkedBucket, LinkedBucketShelf, MOST_GIVEN, record_room};
 use etagere_base::Frame;
 use etagere_links::is_multiple;
 
@@ -89,7 +89,7 @@ pub(crate) fn judged_buckets(
         judged.are_filled = judged.are_filled & is_kept(alignment, shelf, bucket);
         judged.used_width += u32::from(shelf.bucket_width.saturating_sub(bucket.free_space));
         judged.live_items += u32::from(bucket.refcount);
-        judged.widest_room = wider(judged.widest_room, record_room(bucket));
+        judged.widest_room = judged.widest_room.max(record_room(bucket));
         stand = stand_below(alignment, shelf.bucket_width, stand, bucket);
     }
     judged.stand_together = stand.are_apart & (stand.place == begin);

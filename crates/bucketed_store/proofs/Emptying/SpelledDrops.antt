@@ -1,7 +1,7 @@
 -- Records spell the shelves without the last one, where that holds nothing live and its buckets are unused.
 use Rattle.std.proofs.Common.{◌≡◌, ◌≢◌, ℕ, zero, suc, ◌+◌, ◌-◌, ◌<◌, ◌≤◌, Bool, true, false, cond, Option, None, Some, List, [], ◌∷◌, ◌++◌, length, take, refl, ap, arith, subst, sym, ◌∙◌, append_assoc, append-nil, length-append, ◌==◌}
 use Rattle.std.proofs.Math.Seq.{take-append_seam}
-use Rattle.std.proofs.lemmas.Bool.{and_parts, eqb-false, eqb-true}
+use Rattle.std.proofs.lemmas.Bool.{and_parts, eqb-true}
 use Rattle.std.proofs.lemmas.List.{length-map, length-take-le}
 use Rattle.std.proofs.lemmas.Option.{slice_get_within}
 use Rattle.std.specs.List.{AllByRecursion, list_all}
@@ -26,7 +26,7 @@ use Rattle.bucketed_records.specs.declared.records.KeptShelf.{KeptShelf}
 use Rattle.bucketed_records.specs.StandsFor.{live_of}
 use Rattle.bucketed_records.proofs.Spelling.KeptShelves.{kept-append, last-kept}
 use Rattle.bucketed_records.proofs.Spelling.ReadBack.{spelled-list}
-use Rattle.bucketed_store.specs.Private.Returns.{Dropping, end_dropped, ends_idle, last_dropped, linked_to, row_unused, row_count, row_end, row_from}
+use Rattle.bucketed_store.specs.Private.Returns.{Dropping, end_dropped, last_dropped, linked_to, row_unused, row_count, row_end, row_from}
 use Rattle.bucketed_store.specs.declared.dropping.RowEnd.{RowEnd}
 use Rattle.bucketed_store.proofs.Emptying.SpelledSpots.{shelf-spelled, shelves-frame, shelves-front-spelled}
 use Rattle.bucketed_store.proofs.Emptying.Splices.{last_of, last_of-stands, spliced}
@@ -160,19 +160,6 @@ end-busy (suc steps) done kept last busy = rw last (by_test (kept.live_items == 
     by_test : (t : Bool) → (kept.live_items == 0) ≡ t → cond t (end_dropped steps (last_dropped kept done)) done ≡ done
     by_test true e = absurd (omega (arith, busy, eqb-true kept.live_items 0 e))
     by_test false e = refl
-
--- nothing is dropped unless the shelves end with one that holds nothing live
-pub end-stays : (steps : ℕ) (done : Dropping) → ends_idle done.stored.shelves ≡ false → end_dropped steps done ≡ done
-end-stays steps done stays = by_last (last_kept done.stored.shelves) refl
-  where
-    by_last : (last : Option KeptShelf) → last_kept done.stored.shelves ≡ last → end_dropped steps done ≡ done
-    by_last None e = end-none steps done e
-    by_last (Some kept) e =
-        end-busy steps done kept e
-        (lt_from_eqb (ap (λ (l : Option KeptShelf). option_map_or (λ (one : KeptShelf). one.live_items == 0) l false) (sym e) ∙ stays))
-      where
-        lt_from_eqb : (kept.live_items == 0) ≡ false → 0 < kept.live_items
-        lt_from_eqb h = grind (arith, eqb-false kept.live_items 0 h)
 
 -- no more are left than there were, and all where as many are left
 pub record Leaves (before after : Dropping) : Type 0 where

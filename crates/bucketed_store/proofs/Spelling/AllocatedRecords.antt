@@ -31,7 +31,7 @@ use Rattle.bucketed_records.specs.declared.records.KeptShelf.{KeptShelf}
 use Rattle.bucketed_records.specs.Private.Store.{Spells, Stored, kept_shelf, record_of, stored_state}
 use Rattle.bucketed_records.specs.Private.Witnessed.{Witnessed}
 use Rattle.bucketed_records.proofs.Spelling.Fresh.{witnessed-read}
-use Rattle.bucket_index.specs.declared.searching.Found.{Found}
+use Rattle.bucket_index.specs.declared.searching.FoundBucket.{FoundBucket}
 use Rattle.bucketed_store.specs.Private.Placing.{Placement, kept_placement}
 use Rattle.bucketed_store.specs.Private.StoreEdits.{CanGive, CanPrepare, HasFirst, IsAdding, IsShort, IsWidest, end_of, first_bucket_of, found_first, found_of, height_of, kept_allocation, live_items_of, needed_for, stored_ready, stored_taken}
 use Rattle.bucketed_store.specs.Private.StoreEdits as store
@@ -79,38 +79,38 @@ prepares state size sides destination stored unused valid spells asks h =
     }
 
 -- a shelf whose first bucket is found has one
-first-has : (n : ℕ) (kept : List KeptShelf) (found : Found) → found_first n kept ≡ Some found → HasFirst n kept
+first-has : (n : ℕ) (kept : List KeptShelf) (found : FoundBucket) → found_first n kept ≡ Some found → HasFirst n kept
 first-has n kept found h = by_shelf (slice_get kept n) refl
   where
     by_link : (one : KeptShelf) (link : Option ℕ) → slice_get kept n ≡ Some one → one.shelf.first_bucket ≡ link
-        → option_map (λ (bucket : ℕ). let f : Found = record { shelf = n; bucket = bucket } in f) link ≡ Some found → HasFirst n kept
+        → option_map (λ (bucket : ℕ). let f : FoundBucket = record { shelf = n; bucket = bucket } in f) link ≡ Some found → HasFirst n kept
     by_link one None at e k = absurd (cc)
     by_link one (Some b) at e k =
         let first : first_bucket_of kept n ≡ Some b = ap (λ (r : Option KeptShelf). option_map_or (λ (one : KeptShelf). one.shelf.first_bucket) r None) at ∙ e in
         record { within = slice_get_within kept n one at; some = rw first refl }
 
     by_shelf : (o : Option KeptShelf) → slice_get kept n ≡ o → HasFirst n kept
-    by_shelf None e = absurd (none (sym (ap (λ (r : Option KeptShelf). option_map (λ (bucket : ℕ). let f : Found = record { shelf = n; bucket = bucket } in f) (option_map_or (λ (one : KeptShelf). one.shelf.first_bucket) r None)) e) ∙ h))
+    by_shelf None e = absurd (none (sym (ap (λ (r : Option KeptShelf). option_map (λ (bucket : ℕ). let f : FoundBucket = record { shelf = n; bucket = bucket } in f) (option_map_or (λ (one : KeptShelf). one.shelf.first_bucket) r None)) e) ∙ h))
       where
         none : None ≡ Some found → ⊥
         none k = cc
     by_shelf (Some one) e =
         by_link one one.shelf.first_bucket e refl
-        (sym (ap (λ (r : Option KeptShelf). option_map (λ (bucket : ℕ). let f : Found = record { shelf = n; bucket = bucket } in f) (option_map_or (λ (one : KeptShelf). one.shelf.first_bucket) r None)) e) ∙ h)
+        (sym (ap (λ (r : Option KeptShelf). option_map (λ (bucket : ℕ). let f : FoundBucket = record { shelf = n; bucket = bucket } in f) (option_map_or (λ (one : KeptShelf). one.shelf.first_bucket) r None)) e) ∙ h)
 
 -- records can be made ready
-pub can-prepare : (frame : Frame) (destination : Destination) (in_use : ℕ) (stored : Stored) (found : Found) → CanReady frame (placement_by destination) in_use stored
+pub can-prepare : (frame : Frame) (destination : Destination) (in_use : ℕ) (stored : Stored) (found : FoundBucket) → CanReady frame (placement_by destination) in_use stored
     → found_of (placement_by destination) (stored_ready frame (placement_by destination) stored) ≡ Some found → CanPrepare frame (placement_by destination) in_use stored
 can-prepare frame (placing.InBucket spot) in_use stored found can h = tt
 can-prepare frame (placing.InAdded news) in_use stored found can h = (can, first-has _ _ found h)
 can-prepare frame (placing.InMerged group) in_use stored found can h = (can, first-has _ _ found h)
 
 -- the records after a placement was made ready and its item was taken
-abbrev pub taken_from : Frame → Sides → Placement → Found → Stored → Stored
+abbrev pub taken_from : Frame → Sides → Placement → FoundBucket → Stored → Stored
 taken_from frame sides placement found stored = stored_taken found.shelf found.bucket sides.along (stored_ready frame placement stored)
 
 -- all that an allocation at a placement needs and leaves
-pub record IsAllocation (state : BucketedState) (size : Size) (sides : Sides) (stored : Stored) (placement : Placement) (found : Found) : Type 0 where
+pub record IsAllocation (state : BucketedState) (size : Size) (sides : Sides) (stored : Stored) (placement : Placement) (found : FoundBucket) : Type 0 where
   pub give : CanGive state.frame sides.along found (stored_ready state.frame placement stored)
   pub shelf : found.shelf < length (stored_ready state.frame placement stored).shelves
   pub take : store.CanTake found.bucket sides.along (stored_ready state.frame placement stored).buckets
@@ -220,7 +220,7 @@ refused state size sides stored unused valid spells asks h =
     none (Some p) h = absurd (cc)
 
 -- an allocation at the bucket that was found
-pub allocation-is : (state : BucketedState) (size : Size) (sides : Sides) (stored : Stored) (placement : Placement) (found : Found) → IsValid state → Makes state size sides stored placement
+pub allocation-is : (state : BucketedState) (size : Size) (sides : Sides) (stored : Stored) (placement : Placement) (found : FoundBucket) → IsValid state → Makes state size sides stored placement
     → found_of placement (stored_ready state.frame placement stored) ≡ Some found → IsAllocation state size sides stored placement found
 allocation-is state size sides stored placement found valid makes h =
     let first : found_of (placement_by makes.at) (stored_ready state.frame (placement_by makes.at) stored) ≡ Some found =
@@ -229,7 +229,7 @@ allocation-is state size sides stored placement found valid makes h =
     subst (λ (p : Placement). IsAllocation state size sides stored p found) makes.seen
     (subst (IsAllocation state size sides stored (placement_by makes.at)) same (allocation-at state size sides makes.at stored valid makes.prepares))
   where
-    some-same : {f g : Found} → Some f ≡ Some g → f ≡ g
+    some-same : {f g : FoundBucket} → Some f ≡ Some g → f ≡ g
     some-same {f} {g} h = cc
 
 -- where the placement is in shelves to be added the size needs a shelf

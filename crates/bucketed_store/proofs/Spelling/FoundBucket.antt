@@ -8,7 +8,7 @@ use Rattle.std.specs.Prelude.{find, is_some, nat_le, not, option_and_then, optio
 use Rattle.etagere_base.proofs.Least.{first_least-is}
 use Rattle.etagere_base.specs.declared.frames.Frame.{Frame}
 use Rattle.etagere_base.specs.declared.sides.Sides.{Sides}
-use Rattle.etagere_base.specs.Least.{first_least, Found as Least}
+use Rattle.etagere_base.specs.Least.{first_least, Found}
 use Rattle.bucketed_model.specs.Picking.{Spot, exact_bucket, exact_or, first_spot, has_room, is_eligible, is_exact, or_else, pick, roomy_bucket, spot_in, waste}
 use Rattle.bucketed_model.specs.State.{Bucket, BucketShelf, buckets_in_use, most_buckets}
 use Rattle.bucketed_model.proofs.Validity.Spots.{find-found}
@@ -17,12 +17,12 @@ use Rattle.bucketed_records.specs.Private.Store.{AreBucketsSpelled, AreShelvesSp
 use Rattle.bucketed_records.specs.declared.records.KeptShelf.{KeptShelf}
 use Rattle.bucketed_records.specs.StandsFor.{free_of}
 use Rattle.bucket_index.specs.declared.searching.Wanted.TheVariants.{Roomy, Exact}
-use Rattle.bucket_index.specs.declared.searching.Found.{Found}
+use Rattle.bucket_index.specs.declared.searching.FoundBucket.{FoundBucket}
 use Rattle.bucket_index.specs.Private.Searching.{exact_from, exact_in, exact_or_found, first_wanted, found_in, kept_waste, picked}
 use Rattle.bucketed_store.proofs.Spelling.FoundFirst.{exact-roomy, first-found, number_of, spelled-back, widest-roomy}
 
 -- a bucket that was found, by the numbers of its shelf and its own
-abbrev pub found_at : ℕ → ℕ → Found
+abbrev pub found_at : ℕ → ℕ → FoundBucket
 found_at shelf bucket = record { shelf = shelf; bucket = bucket }
 
 -- a spot of these
@@ -30,7 +30,7 @@ abbrev pub spot_at : ℕ → BucketShelf → Bucket → Spot
 spot_at number shelf bucket = record { number = number; shelf = shelf; bucket = bucket }
 
 -- a spot by the numbers of its shelf and of its bucket
-abbrev pub found_seen : Spot → Found
+abbrev pub found_seen : Spot → FoundBucket
 found_seen spot = record { shelf = spot.number; bucket = spot.bucket.tag.number }
 
 -- each shelf has few enough buckets
@@ -138,8 +138,8 @@ exact-from : (sides : Sides) (records : List LinkedBucket) (number : ℕ) (frame
     → exact_from sides records number (kept_shelves frame before ss) ≡ option_map found_seen (first_spot (exact_bucket sides) number ss)
 exact-from sides records number frame before [] some few h = refl
 exact-from sides records number frame before (s ∷ ss) some few h =
-    ap (λ (f : Option Found). or_else f (exact_from sides records (suc number) (kept_shelves frame (before ++ s ∷ []) ss))) (exact-kept sides records number frame before s some (omega (arith, few)) h.0)
-    ∙ ap (λ (f : Option Found). or_else (option_map (λ (b : Bucket). found_seen (spot_at number s b)) (exact_bucket sides s)) f)
+    ap (λ (f : Option FoundBucket). or_else f (exact_from sides records (suc number) (kept_shelves frame (before ++ s ∷ []) ss))) (exact-kept sides records number frame before s some (omega (arith, few)) h.0)
+    ∙ ap (λ (f : Option FoundBucket). or_else (option_map (λ (b : Bucket). found_seen (spot_at number s b)) (exact_bucket sides s)) f)
     (exact-from sides records (suc number) frame (before ++ s ∷ []) ss some (omega (arith, few)) h.1)
     ∙ either (exact_bucket sides s) (first_spot (exact_bucket sides) (suc number) ss)
   where
@@ -158,7 +158,7 @@ free-read records number width item s bs b found h =
     ap (λ (r : Option LinkedBucket). option_map_or (λ (bucket : LinkedBucket). bucket.free_space) r 0) here.0
 
 -- what is picked among kept shelves where one wastes least
-abbrev picked_in : Sides → List KeptShelf → List LinkedBucket → Least → Option Found
+abbrev picked_in : Sides → List KeptShelf → List LinkedBucket → Found → Option FoundBucket
 picked_in sides kept records least =
     option_and_then
     (λ (one : KeptShelf). option_map (exact_or_found sides kept records least) (first_wanted (Roomy sides.along) records one))
@@ -171,7 +171,7 @@ picked-is adds sides records frame ss some few h =
     ap (λ (ws : List (Option ℕ)). option_and_then (picked_in sides (kept_shelves frame [] ss) records) (first_least ws)) (wastes-kept adds sides frame [] ss some)
     ∙ by_least (first_least (map (waste adds sides) ss)) refl
   where
-    exactly : (least : Least) (s : BucketShelf) (b : Bucket) → waste adds sides s ≡ Some least.rank → free_of records b.tag.number ≡ s.bucket_width - b.used
+    exactly : (least : Found) (s : BucketShelf) (b : Bucket) → waste adds sides s ≡ Some least.rank → free_of records b.tag.number ≡ s.bucket_width - b.used
         → exact_or_found sides (kept_shelves frame [] ss) records least b.tag.number ≡ found_seen (exact_or sides ss (spot_at least.number s b))
     exactly least s b wasted free =
         let later : exact_from sides records (suc least.number) (drop (suc least.number) (kept_shelves frame [] ss)) ≡ option_map found_seen (first_spot (exact_bucket sides) (suc least.number) (drop (suc least.number) ss))
@@ -182,7 +182,7 @@ picked-is adds sides records frame ss some few h =
         let level : (least.rank == 0) ≡ (s.height == sides.across) = wasted-level (is_eligible adds sides s) refl wasted in
         ap (λ (f : ℕ). cond ((least.rank == 0) && not (f == sides.along)) (unwrap_or (exact_from sides records (suc least.number) (drop (suc least.number) (kept_shelves frame [] ss))) (found_at least.number b.tag.number)) (found_at least.number b.tag.number)) free
         ∙ ap (λ (t : Bool). cond (t && not (s.bucket_width - b.used == sides.along)) (unwrap_or (exact_from sides records (suc least.number) (drop (suc least.number) (kept_shelves frame [] ss))) (found_at least.number b.tag.number)) (found_at least.number b.tag.number)) level
-        ∙ ap (λ (f : Option Found). cond ((s.height == sides.across) && not (s.bucket_width - b.used == sides.along)) (unwrap_or f (found_at least.number b.tag.number)) (found_at least.number b.tag.number)) later
+        ∙ ap (λ (f : Option FoundBucket). cond ((s.height == sides.across) && not (s.bucket_width - b.used == sides.along)) (unwrap_or f (found_at least.number b.tag.number)) (found_at least.number b.tag.number)) later
         ∙ by_test ((s.height == sides.across) && not (s.bucket_width - b.used == sides.along)) (first_spot (exact_bucket sides) (suc least.number) (drop (suc least.number) ss))
       where
         wasted-level : (e : Bool) → is_eligible adds sides s ≡ e → cond e (option_map (λ (_ : Bucket). s.height - sides.across) (roomy_bucket sides.along s)) None ≡ Some least.rank
@@ -204,17 +204,17 @@ picked-is adds sides records frame ss some few h =
         by_test true None = refl
         by_test true (Some x) = refl
 
-    by_bucket : (least : Least) (s : BucketShelf) → slice_get ss least.number ≡ Some s → waste adds sides s ≡ Some least.rank → (found : Option Bucket) → roomy_bucket sides.along s ≡ found
+    by_bucket : (least : Found) (s : BucketShelf) → slice_get ss least.number ≡ Some s → waste adds sides s ≡ Some least.rank → (found : Option Bucket) → roomy_bucket sides.along s ≡ found
         → option_map (exact_or_found sides (kept_shelves frame [] ss) records least) (option_map number_of found)
         ≡ option_map found_seen (option_map (exact_or sides ss) (option_map (spot_at least.number s) found))
     by_bucket least s at wasted None e = refl
     by_bucket least s at wasted (Some b) e =
-        ap (λ (f : Found). Some f) (exactly least s b wasted (free-read records (0 + least.number) s.bucket_width sides.along s s.buckets b e (spelled-at records 0 ss least.number s h at)))
+        ap (λ (f : FoundBucket). Some f) (exactly least s b wasted (free-read records (0 + least.number) s.bucket_width sides.along s s.buckets b e (spelled-at records 0 ss least.number s h at)))
 
     unwrapped : (o p : Option ℕ) → Some o ≡ Some p → o ≡ p
     unwrapped o p h = cc
 
-    by_shelf : (least : Least) → slice_get (map (waste adds sides) ss) least.number ≡ Some (Some least.rank) → (o : Option BucketShelf) → slice_get ss least.number ≡ o
+    by_shelf : (least : Found) → slice_get (map (waste adds sides) ss) least.number ≡ Some (Some least.rank) → (o : Option BucketShelf) → slice_get ss least.number ≡ o
         → option_and_then
         (λ (kept : KeptShelf). option_map (exact_or_found sides (kept_shelves frame [] ss) records least) (first_wanted (Roomy sides.along) records kept))
         (option_map (kept_shelf frame (take least.number ss)) o)
@@ -228,9 +228,9 @@ picked-is adds sides records frame ss some few h =
         (first-found (Roomy sides.along) (has_room sides.along s) records (0 + least.number) s.bucket_width (λ next b. refl) most_buckets s.buckets (omega (arith, few, few-at ss least.number s e)) (spelled-at records 0 ss least.number s h e))
         ∙ by_bucket least s e wasted (roomy_bucket sides.along s) refl
 
-    by_least : (o : Option Least) → first_least (map (waste adds sides) ss) ≡ o
+    by_least : (o : Option Found) → first_least (map (waste adds sides) ss) ≡ o
         → option_and_then (picked_in sides (kept_shelves frame [] ss) records) o
-        ≡ option_map found_seen (option_map (exact_or sides ss) (option_and_then (λ (found : Least). spot_in (roomy_bucket sides.along) found.number ss) o))
+        ≡ option_map found_seen (option_map (exact_or sides ss) (option_and_then (λ (found : Found). spot_in (roomy_bucket sides.along) found.number ss) o))
     by_least None e = refl
     by_least (Some least) e =
         ap (option_and_then (λ (kept : KeptShelf). option_map (exact_or_found sides (kept_shelves frame [] ss) records least) (first_wanted (Roomy sides.along) records kept))) (kept-at frame [] ss least.number)

@@ -36,8 +36,8 @@ get-some (x ∷ xs) zero within = (x, refl)
 get-some (x ∷ xs) (suc k) within = get-some xs k (omega arith)
 
 -- what of records stays where one of a number was put to use
-abbrev pub StaysBut : List ℕ → List LinkedBucket → List LinkedBucket → Type 0
-StaysBut numbers old new =
+abbrev pub StaysExcept : List ℕ → List LinkedBucket → List LinkedBucket → Type 0
+StaysExcept numbers old new =
     (k : ℕ) (record_ : LinkedBucket) → times k numbers ≡ 0 → slice_get old k ≡ Some record_ → slice_get new k ≡ Some record_
 
 -- a bucket was made: its number and generation, and what is in use and unused now
@@ -50,7 +50,7 @@ pub record IsMade (new : NewBuckets) (made after : Made) (used : List ℕ) : Typ
   pub fresh : times number used ≡ 0
   pub has_unused : HasUnused after.buckets after.unused (number ∷ used) unused
   pub here : slice_get after.buckets number ≡ Some (new_record new made.first generation)
-  pub stays : StaysBut (number ∷ []) made.buckets after.buckets
+  pub stays : StaysExcept (number ∷ []) made.buckets after.buckets
   pub grows : length after.buckets ≡ max (length made.buckets) (length used + 1)
 
 -- a number that is counted once in all, and stands among the unused, is not in use
@@ -154,7 +154,7 @@ made_one-is new made used (u ∷ us) has_unused few =
     subst (λ (after : Made). IsMade new made after used) (sym same) (made_again-is new made used u us found.0 has_unused found.1)
 
 -- buckets stay spelled where none of their records is put to use
-pub buckets-stay : (old new : List LinkedBucket) (numbers : List ℕ) (number width : ℕ) (bs : List Bucket) → StaysBut numbers old new
+pub buckets-stay : (old new : List LinkedBucket) (numbers : List ℕ) (number width : ℕ) (bs : List Bucket) → StaysExcept numbers old new
     → ((k : ℕ) → 1 ≤ times k (numbers_of bs) → times k numbers ≡ 0) → AreBucketsSpelled old number width bs → AreBucketsSpelled new number width bs
 buckets-stay old new numbers number width [] stays apart h = tt
 buckets-stay old new numbers number width (b ∷ bs) stays apart h = (
@@ -163,7 +163,7 @@ buckets-stay old new numbers number width (b ∷ bs) stays apart h = (
 )
 
 -- shelves stay spelled where none of their buckets' records is put to use
-pub shelves-stay : (old new : List LinkedBucket) (numbers : List ℕ) (number : ℕ) (ss : List BucketShelf) → StaysBut numbers old new
+pub shelves-stay : (old new : List LinkedBucket) (numbers : List ℕ) (number : ℕ) (ss : List BucketShelf) → StaysExcept numbers old new
     → ((k : ℕ) → 1 ≤ times k (bucket_numbers ss) → times k numbers ≡ 0) → AreShelvesSpelled old number ss → AreShelvesSpelled new number ss
 shelves-stay old new numbers number [] stays apart h = tt
 shelves-stay old new numbers number (s ∷ ss) stays apart h = (
@@ -211,7 +211,7 @@ pub record AreMade (count shelf width place : ℕ) (before after : Made) (used :
   pub first : after.first ≡ first_link (new_buckets place width tags ++ bs)
   pub spelled : AreBucketsSpelled after.buckets shelf width (new_buckets place width tags ++ bs)
   pub has_unused : HasUnused after.buckets after.unused (tag_numbers tags ++ used) unused
-  pub stays : StaysBut (tag_numbers tags) before.buckets after.buckets
+  pub stays : StaysExcept (tag_numbers tags) before.buckets after.buckets
   pub grows : length after.buckets ≡ max (length before.buckets) (length used + count)
 
 -- what is in use stands once at most

@@ -25,7 +25,7 @@ use Rattle.bucketed_model.proofs.Validity.Picked.{map-parts, or_else-parts}
 use Rattle.bucketed_records.specs.declared.records.KeptShelf.{KeptShelf}
 use Rattle.bucketed_records.specs.Private.Store.{Spells, Stored, first_link, kept_shelf, kept_shelves}
 use Rattle.bucketed_records.proofs.Spelling.KeptShelves.{length-kept}
-use Rattle.bucket_index.specs.declared.searching.Found.{Found}
+use Rattle.bucket_index.specs.declared.searching.FoundBucket.{FoundBucket}
 use Rattle.bucketed_store.specs.Private.Placing.{InAdded, InBucket, InMerged, Placement, kept_mergeable, kept_placement}
 use Rattle.bucketed_store.specs.Private.StoreEdits.{CanStore, IsGroupIn, IsNewShelf, across_of, found_first, found_of, group_height, needed_for, stored_ready, stored_shelves}
 use Rattle.bucketed_store.proofs.Spelling.FoundBucket.{found_seen, kept-at, picked-is}
@@ -43,7 +43,7 @@ pub destination-is : (frame : Frame) (sides : Sides) (stored : Stored) (unused :
     → Spells frame stored unused ss → kept_placement frame (left_to frame ss) sides stored.shelves stored.buckets ≡ option_map placement_by (destination_of frame ss sides)
 destination-is frame sides stored unused ss wide some few spells =
     ap (λ (ks : List KeptShelf). kept_placement frame (left_to frame ss) sides ks stored.buckets) spells.shelves
-    ∙ ap (λ (f : Option Found). or_else (option_map InBucket f) (later (kept_mergeable sides 0 (kept_shelves frame [] ss)))) (picked-is adds sides stored.buckets frame ss some few spells.buckets)
+    ∙ ap (λ (f : Option FoundBucket). or_else (option_map InBucket f) (later (kept_mergeable sides 0 (kept_shelves frame [] ss)))) (picked-is adds sides stored.buckets frame ss some few spells.buckets)
     ∙ ap (λ (g : Option Group). or_else (option_map InBucket (option_map found_seen (pick adds sides ss))) (later g)) (mergeable-kept sides 0 frame [] ss wide)
     ∙ by_parts (pick adds sides ss) adds (mergeable_shelves sides 0 ss)
   where
@@ -67,7 +67,7 @@ first-kept frame ss n =
     ap (λ (k : Option KeptShelf). option_map (found n) (option_map_or (λ (kept : KeptShelf). kept.shelf.first_bucket) k None)) (kept-at frame [] ss n)
     ∙ by_shelf (slice_get ss n)
   where
-    found : ℕ → ℕ → Found
+    found : ℕ → ℕ → FoundBucket
     found shelf bucket = record { shelf = shelf; bucket = bucket }
 
     by_buckets : (s : BucketShelf) (bs : List Bucket)

@@ -24,7 +24,7 @@ use Rattle.bucketed_model.proofs.Validity.Taken.{CanTake, spot-valid}
 use Rattle.bucketed_records.specs.declared.records.LinkedBucket.{LinkedBucket}
 use Rattle.bucketed_records.specs.Private.Store.{AreBucketsSpelled, HasUnused, Spells, Stored, first_link, kept_shelf, kept_shelves, live_items, record_of}
 use Rattle.bucketed_records.specs.declared.records.KeptShelf.{KeptShelf}
-use Rattle.bucketed_store.specs.Private.StoreEdits.{CanGive, CanGiveFrom, height_of, kept_allocation, live_items_of}
+use Rattle.bucketed_store.specs.Private.StoreEdits.{CanGive, height_of, kept_allocation, live_items_of}
 use Rattle.bucketed_store.specs.Private.StoreEdits as store
 use Rattle.bucketed_store.proofs.Spelling.FoundFirst.{spelled-back}
 use Rattle.bucketed_store.proofs.Spelling.FoundBucket.{few-at, found_seen, kept-at, spelled-at}

@@ -23,7 +23,7 @@ use Rattle.bucketed_store.specs.Private.StoreEdits.{Made, first_bucket_of, made_
 use Rattle.bucketed_store.proofs.Emptying.ItemReturns.{changed-middle}
 use Rattle.bucketed_store.proofs.Emptying.SpelledSpots.{shelf-spelled}
 use Rattle.bucketed_store.proofs.Emptying.SpelledReturns.{widest-all}
-use Rattle.bucketed_store.proofs.Spelling.MadeBuckets.{AreMade, made_many-are, has_unused-same, shelves-stay, StaysBut}
+use Rattle.bucketed_store.proofs.Spelling.MadeBuckets.{AreMade, made_many-are, has_unused-same, shelves-stay, StaysExcept}
 
 -- a shelf with further buckets, side by side from a place on
 abbrev pub wider : ℕ → List Tag → BucketShelf → BucketShelf
@@ -51,7 +51,7 @@ kept-wider frame front x place count tags first long e =
     rw (e, widest-new place x.bucket_width count tags x.buckets long, live-new place x.bucket_width tags x.buckets) refl
 
 -- the shelves are spelled where one got further buckets, and the records of the others stay
-spelled-wider : (old new : List LinkedBucket) (numbers : List ℕ) (n : ℕ) (front : List BucketShelf) (x other : BucketShelf) (back : List BucketShelf) → StaysBut numbers old new
+spelled-wider : (old new : List LinkedBucket) (numbers : List ℕ) (n : ℕ) (front : List BucketShelf) (x other : BucketShelf) (back : List BucketShelf) → StaysExcept numbers old new
     → ((k : ℕ) → 1 ≤ times k (bucket_numbers (front ++ x ∷ back)) → times k numbers ≡ 0)
     → AreBucketsSpelled new (n + length front) other.bucket_width other.buckets
     → AreShelvesSpelled old n (front ++ x ∷ back) → AreShelvesSpelled new n (front ++ other ∷ back)

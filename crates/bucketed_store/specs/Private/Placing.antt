@@ -9,14 +9,14 @@ use Rattle.bucketed_model.specs.Merging.{Group}
 use Rattle.bucketed_records.specs.declared.records.LinkedBucket.{LinkedBucket}
 use Rattle.bucketed_records.specs.declared.records.KeptShelf.{KeptShelf}
 use Rattle.bucketed_records.specs.Private.Store.{is_kept_idle}
-use Rattle.bucket_index.specs.declared.searching.Found.{Found}
+use Rattle.bucket_index.specs.declared.searching.FoundBucket.{FoundBucket}
 use Rattle.bucket_index.specs.Private.Searching.{picked}
 use Rattle.bucketed_store.specs.declared.placing.Placement as code
 use Rattle.bucketed_store.specs.declared.placing.Placement.TheVariants as variants
 
 -- where an item goes: a bucket that was found, shelves to be added, or shelves to be merged
 pub data Placement : Type 0 where
-  InBucket : (found : Found) → Placement
+  InBucket : (found : FoundBucket) → Placement
   InAdded : (news : List NewShelf) → Placement
   InMerged : (group : Group) → Placement
 

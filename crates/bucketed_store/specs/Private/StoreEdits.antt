@@ -17,7 +17,7 @@ pub use Rattle.bucketed_records.specs.declared.records.LinkedBucket.{LinkedBucke
 use Rattle.bucketed_records.specs.BucketRecords.{next_of}
 pub use Rattle.bucketed_records.specs.declared.records.KeptShelf.{KeptShelf}
 use Rattle.bucketed_records.specs.Private.Store.{Stored}
-use Rattle.bucket_index.specs.declared.searching.Found.{Found}
+use Rattle.bucket_index.specs.declared.searching.FoundBucket.{FoundBucket}
 use Rattle.bucket_index.specs.Private.Searching.{widest_from}
 use Rattle.bucketed_store.specs.Private.Placing.{Placement, InBucket, InAdded, InMerged, kept_height}
 -- buckets to be made side by side: the number of their shelf, their width, and where the first one
@@ -243,7 +243,7 @@ pub record IsWidest (shelf bucket width : ℕ) (stored : Stored) : Type 0 where
       (first_bucket_of stored.shelves shelf)
 
 -- the first bucket of the shelf of a number
-abbrev pub found_first : ℕ → List KeptShelf → Option Found
+abbrev pub found_first : ℕ → List KeptShelf → Option FoundBucket
 found_first number shelves =
     option_map (λ bucket. record { shelf = number; bucket = bucket })
     (first_bucket_of shelves number)
@@ -256,7 +256,7 @@ stored_ready frame (InMerged group) stored =
     record stored { shelves = kept_merged group stored.shelves }
 
 -- the bucket of a placement in records that were made ready for it
-abbrev pub found_of : Placement → Stored → Option Found
+abbrev pub found_of : Placement → Stored → Option FoundBucket
 found_of (InBucket found) stored = Some found
 found_of (InAdded news) stored = found_first (length stored.shelves - 1) stored.shelves
 found_of (InMerged group) stored = found_first group.first stored.shelves
@@ -305,7 +305,7 @@ CanPrepare frame (InMerged group) in_use stored =
     IsGroupIn group stored.shelves × HasFirst group.first (kept_merged group stored.shelves)
 
 -- what a bucket of a shelf gives next, that wide
-abbrev pub kept_allocation : Frame → ℕ → Found → KeptShelf → LinkedBucket → Allocation
+abbrev pub kept_allocation : Frame → ℕ → FoundBucket → KeptShelf → LinkedBucket → Allocation
 kept_allocation frame width found kept bucket =
     record {
       id = id_of (record { number = found.bucket; generation = bucket.generation })
@@ -343,7 +343,7 @@ IsAdding (InAdded news) = Unit {0}
 IsAdding (InMerged group) = ⊥
 
 -- a bucket of a shelf can give an item this wide, which lies within the atlas
-pub record CanGiveFrom (width : ℕ) (found : Found) (kept : KeptShelf) (bucket : LinkedBucket)
+pub record CanGiveFrom (width : ℕ) (found : FoundBucket) (kept : KeptShelf) (bucket : LinkedBucket)
     : Type 0 where
   pub number : found.bucket < most_buckets
   pub given : bucket.item_count < most_given
@@ -352,7 +352,7 @@ pub record CanGiveFrom (width : ℕ) (found : Found) (kept : KeptShelf) (bucket 
   pub bottom : kept.shelf.y + kept.shelf.height < 2 ^ 31
 
 -- a bucket that was found can give an item this wide
-pub record CanGive (frame : Frame) (width : ℕ) (found : Found) (stored : Stored) : Type 0 where
+pub record CanGive (frame : Frame) (width : ℕ) (found : FoundBucket) (stored : Stored) : Type 0 where
   pub kept : KeptShelf
   pub shelf : slice_get stored.shelves found.shelf ≡ Some kept
   pub bucket : LinkedBucket

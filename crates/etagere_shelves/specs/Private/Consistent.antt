@@ -1,7 +1,7 @@
 -- What the fields of an atlas keep, and the state that they stand for.
 use Rattle.std.specs.Prelude.{◌≡◌, ◌≤◌, length}
 use Rattle.etagere_shelves.specs.declared.atlas.AtlasAllocator.TheInside.{Inside}
-use Rattle.shelf_store.specs.Private.Settling.{AreByHeightButNoted}
+use Rattle.shelf_store.specs.Private.Settling.{AreByHeightExceptNoted}
 use Rattle.shelf_records.specs.Private.Kept.{AreKept, state_of}
 use Rattle.shelf_model.specs.Space.{allocated_space}
 use Rattle.shelf_model.specs.State.{AtlasState, items_in_use}
@@ -14,7 +14,7 @@ state_in atlas = state_of atlas.frame atlas.records
 -- for each column, room among these and for a note for each shelf record, the count of items and the space that is allocated
 pub record IsConsistent (atlas : Inside) : Type 0 where
   pub kept : AreKept atlas.frame atlas.records
-  pub by_height : AreByHeightButNoted atlas.frame atlas.records atlas.pending.notes atlas.by_height.items
+  pub by_height : AreByHeightExceptNoted atlas.frame atlas.records atlas.pending.notes atlas.by_height.items
   pub columns : atlas.frame.columns ≤ length atlas.by_height.items
   pub room : length atlas.records.shelves ≤ atlas.by_height.capacity
   pub room_to_note : length atlas.records.shelves ≤ atlas.pending.room

@@ -1,5 +1,5 @@
 -- Stamps fall along the order of use, whatever goes or is used; and how many of the first entries have the latest one.
-use Rattle.std.proofs.Common.{◌≡◌, ℕ, zero, suc, ◌+◌, ◌<◌, ◌≤◌, ◌==◌, Bool, true, false, cond, Some, List, [], ◌∷◌, length, take, refl, ap, sym, ◌∙◌, subst, arith}
+use Rattle.std.proofs.Common.{◌≡◌, ℕ, zero, suc, ◌+◌, ◌<◌, ◌≤◌, ◌==◌, Bool, true, false, cond, Some, List, [], ◌∷◌, take, refl, ap, sym, ◌∙◌, subst, arith}
 use Rattle.std.proofs.lemmas.Bool.Decides.{nat_tests}
 use Rattle.std.proofs.Math.Nat.{min-zero, suc-min-suc, zero-min}
 use Rattle.std.specs.Map.{lookup, remove_entry}
@@ -42,14 +42,6 @@ stamped-none most frame (e ∷ es) falling less =
     let first = falling.0 in
     let differs : (e.1.frame == frame) ≡ false = grind (arith, nat_tests) in
     rw differs refl
-
-pub stamped-few : (frame : ℕ) (es : List (ℕ × Entry)) → stamped_first frame es ≤ length es
-stamped-few frame [] = omega arith
-stamped-few frame (e ∷ es) = here (e.1.frame == frame) (stamped-few frame es)
-  where
-    here : (b : Bool) → stamped_first frame es ≤ length es → cond b (suc (stamped_first frame es)) 0 ≤ suc (length es)
-    here true later = omega arith
-    here false later = omega arith
 
 pub stamped-take : (frame n : ℕ) (es : List (ℕ × Entry)) → stamped_first frame (take n es) ≡ min n (stamped_first frame es)
 stamped-take frame zero es = sym (zero-min (stamped_first frame es))

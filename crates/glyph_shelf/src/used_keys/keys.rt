@@ -185,7 +185,7 @@ impl UsedKeys {
     }
 
     /// How many keys were used in the present frame: the first ones. Goes through them once.
-    pub fn uses(&self) -> usize
+    pub fn used_in_frame(&self) -> usize
         ensures uses { result ≡ frame_uses self.now }
         ensures few { result ≤ length self.now.entries }
     {

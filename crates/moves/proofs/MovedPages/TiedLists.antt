@@ -8,7 +8,7 @@ use Rattle.std.proofs.lemmas.List.Recursion.{is_sum_by}
 use Rattle.std.proofs.lemmas.List.Sorted.{All-permutation, sum_by-IsPermutation}
 use Rattle.std.specs.List.{AllByRecursion, find, sum_by}
 use Rattle.std.specs.List.Sorted.{IsPermutation}
-use Rattle.std.specs.Prelude.{None, is_some, option_and_then, option_map, slice_get}
+use Rattle.std.specs.Prelude.{is_some, option_and_then, option_map, slice_get}
 use Rattle.etagere_base.proofs.EachLemmas.{Each-append, Each-weaken}
 use Rattle.etagere_base.proofs.Totals.{total-append}
 use Rattle.etagere_base.specs.declared.geometry.Rectangle.{Rectangle}

@@ -46,9 +46,9 @@ trimmed-paged padding paged told page id = by_test (are paged.page paged.allocat
     by_test true = ap (λ (r : Rectangle). Some r) (given-back padding given)
     by_test false = refl
 
-trimmed-but : (padding : Padding) (gone_page gone_id : ℕ) (told : Told) (page id : ℕ)
+trimmed-except : (padding : Padding) (gone_page gone_id : ℕ) (told : Told) (page id : ℕ)
     → trimmed_told padding (but_for gone_page gone_id told) page id ≡ but_for gone_page gone_id (trimmed_told padding told) page id
-trimmed-but padding gone_page gone_id told page id = by_test (are gone_page gone_id page id)
+trimmed-except padding gone_page gone_id told page id = by_test (are gone_page gone_id page id)
   where
     by_test : (b : Bool) → option_map (trimmed padding) (cond b None (told page id)) ≡ cond b None (option_map (trimmed padding) (told page id))
     by_test true = refl
@@ -78,7 +78,7 @@ seen-step old (Allocate size) Refused new was is (refused, same) page id =
 seen-step old (Allocate size) NoMemory new was is (needs, same) page id =
     ap (λ (s : PaddedState). trimmed_told old.padding (rectangle_on s.pages) page id) (sym same)
 seen-step old (Deallocate on gone) Returned new was is (step, same) page id =
-    sym (trimmed-but old.padding on gone (rectangle_on old.pages) page id)
+    sym (trimmed-except old.padding on gone (rectangle_on old.pages) page id)
     ∙ ap (option_map (trimmed old.padding))
     (told-step old.pages (Deallocate on gone) Returned new.pages (rectangle_on old.pages) was is step (λ p i. refl) page id)
 seen-step old (Deallocate on gone) Unknown new was is (step, same) page id =

@@ -22,7 +22,7 @@ use std::marker::Model;
 ///
 /// ```text
 /// let mut pages = PaddedPages::new(alloc, &options, Padding::around(1))?;
-/// let place = pages.allocate(size2(9, 14))?;        // Some: the rectangle begins at (1, 1)
+/// let paged = pages.allocate(size2(9, 14))?;        // Some: the rectangle begins at (1, 1)
 /// ```
 #[derive(Drop)]
 pub struct PaddedPages {

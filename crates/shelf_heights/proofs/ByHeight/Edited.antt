@@ -1,7 +1,7 @@
 -- What the list of shelves by height keeps when a shelf is taken out of it, put in or its bound raised.
 use Rattle.std.proofs.Common.{◌≡◌, ◌≢◌, ℕ, zero, suc, ◌+◌, ◌<◌, ◌≤◌, Bool, true, false, cond, List, [], ◌∷◌, ◌++◌, length, map, refl, ap, arith, sym, subst}
 use Rattle.std.specs.Prelude.{not, nat_lt, ◌==◌}
-use Rattle.etagere_base.proofs.EachLemmas.{Each-filter, Each-weaken}
+use Rattle.etagere_base.proofs.EachLemmas.{Each-filter}
 use Rattle.etagere_base.proofs.TimesLemmas.{times-append}
 use Rattle.std.specs.List.{AllByRecursion}
 use Rattle.etagere_base.specs.Lists.{remove_number, times}
@@ -12,7 +12,7 @@ use Rattle.shelf_records.proofs.Spelled.RecordValues.{map-agrees}
 use Rattle.etagere_base.specs.declared.frames.Frame.{Frame}
 use Rattle.shelf_records.specs.declared.records.LinkedShelf.{LinkedShelf}
 use Rattle.shelf_records.specs.RecordLists.{Records, shelf_numbers, walked_lists}
-use Rattle.shelf_heights.specs.Private.ByHeight.{AreInOrder, AreByHeight, bound_of, order_of, put_in, raised, numbers_by_height, taken_out}
+use Rattle.shelf_heights.specs.Private.ByHeight.{AreInOrder, AreByHeight, order_of, put_in, raised, numbers_by_height, taken_out}
 use Rattle.shelf_records.specs.Private.Kept.{AreKept}
 use Rattle.shelf_heights.specs.declared.by_height.BoundedShelf.{BoundedShelf}
 use Rattle.shelf_records.proofs.Spelled.StandsKept.{witnesses}
@@ -95,19 +95,6 @@ Each-raised P Q shelf width (one ∷ more) others own each =
         let same : one.shelf ≡ shelf = grind arith in
         (own one same each.0 one.widest (omega arith) (grind arith), rest)
     by_tests false c e less rest = let other : one.shelf ≢ shelf = grind arith in (others one other each.0, rest)
-
--- what holds of each shelf holds of one that stands there, with its bound
-pub bound_of-each : (P : BoundedShelf → Type 0) (shelf : ℕ) (by_height : List BoundedShelf)
-    → 1 ≤ times shelf (numbers_by_height by_height) → AllByRecursion P by_height → P (bounded_as shelf (bound_of shelf by_height))
-bound_of-each P shelf [] stands each = absurd (omega (arith, stands))
-bound_of-each P shelf (one ∷ others) stands each = by_test (one.shelf == shelf) refl (λ later. bound_of-each P shelf others later each.1)
-  where
-    by_test : (b : Bool) → (one.shelf == shelf) ≡ b → (1 ≤ times shelf (numbers_by_height others) → P (bounded_as shelf (bound_of shelf others)))
-        → P (bounded_as shelf (cond b one.widest (bound_of shelf others)))
-    by_test true e later = let same : one.shelf ≡ shelf = grind arith in subst (λ (n : ℕ). P (bounded_as n one.widest)) same each.0
-    by_test false e later =
-        let other : one.shelf ≢ shelf = grind arith in
-        later (omega (arith, stands, times-other shelf one.shelf (numbers_by_height others) other))
 
 -- numbers that rise from a number on rise from one below it
 pub rise-lower : (low from : ℕ) (numbers : List ℕ) → low ≤ from → RiseFrom from numbers → RiseFrom low numbers
@@ -198,17 +185,6 @@ by_height-in_order frame records by_height kept are =
 pub in_order-once : (shelves : List LinkedShelf) (by_height : List BoundedShelf) (k : ℕ)
     → AreInOrder shelves by_height → times k (numbers_by_height by_height) ≤ 1
 in_order-once shelves by_height k order = rise-once (order_of shelves) k 0 (numbers_by_height by_height) order.rising
-
--- they stand in their order by other records that give each of them the same order
-pub in_order-kept : (shelves new : List LinkedShelf) (by_height : List BoundedShelf)
-    → length shelves ≤ length new
-    → ((k : ℕ) → 1 ≤ times k (numbers_by_height by_height) → order_of new k ≡ order_of shelves k)
-    → AreInOrder shelves by_height → AreInOrder new by_height
-in_order-kept shelves new by_height longer same order =
-    record {
-      within = Each-weaken (λ k. k < length shelves) (λ k. k < length new) (numbers_by_height by_height) (λ k below. omega (arith, below, longer)) order.within;
-      rising = subst (RiseFrom 0) (sym (map-agrees (order_of new) (order_of shelves) (numbers_by_height by_height) same)) order.rising;
-    }
 
 -- and by records of which those of each of them alone are known
 pub in_order-among : (shelves new : List LinkedShelf) (by_height : List BoundedShelf)

@@ -20,14 +20,6 @@ is-product a width e = omega (arith, e, div-add-mod' a width)
 pub same-start : (a start width : ℕ) → a % width ≡ 0 → start % width ≡ 0 → a / width ≡ start / width → a ≡ start
 same-start a start width e f same = is-product a width e ∙ ap (λ (n : ℕ). n * width) same ∙ sym (is-product start width f)
 
--- one in the next column starts where this column ends
-pub next-start : (a start width : ℕ) → a % width ≡ 0 → start % width ≡ 0 → a / width ≡ start / width + 1 → a ≡ start + width
-next-start a start width e f next =
-    is-product a width e ∙ ap (λ (n : ℕ). n * width) next ∙ times-next (start / width) width ∙ ap (λ (n : ℕ). n + width) (sym (is-product start width f))
-  where
-    times-next : (n w : ℕ) → (n + 1) * w ≡ n * w + w
-    times-next n w = grind arith
-
 -- where a column ends the next one starts
 pub starts-next : (start width : ℕ) → 1 ≤ width → start % width ≡ 0 → ((start + width) / width ≡ start / width + 1) × ((start + width) % width ≡ 0)
 starts-next start width wide e = (add-div_right start wide, add-mod_right start width ∙ e)

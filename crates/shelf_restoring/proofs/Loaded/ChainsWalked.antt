@@ -1,5 +1,5 @@
 -- The items of the first few shelves, and of one more.
-use Rattle.std.proofs.Common.{◌≡◌, ℕ, zero, suc, ◌+◌, ◌<◌, ◌≤◌, Bool, List, [], ◌∷◌, ◌++◌, length, get_or, map, take, refl, ap, arith, sym, subst, append_assoc, append-nil, ◌∙◌}
+use Rattle.std.proofs.Common.{◌≡◌, ℕ, ◌+◌, ◌<◌, ◌≤◌, Bool, List, [], ◌∷◌, ◌++◌, length, get_or, map, take, refl, ap, arith, sym, subst, append_assoc, append-nil, ◌∙◌}
 use Rattle.std.proofs.lemmas.List.{length-append, take_more}
 use Rattle.std.specs.List.{AllByRecursion}
 use Rattle.etagere_base.proofs.EachLemmas.{Each-append}
@@ -77,16 +77,6 @@ pub free-next : (records : Records) (numbers : List ℕ) (i n : ℕ) → i < len
     → free_numbers (map (walked_entry records) (take (i + 1) numbers)) ≡ free_numbers (map (walked_entry records) (take i numbers)) ++ (free_walk records n).met
 free-next records numbers i n within is =
     ap free_numbers (sym (images-next (walked_entry records) numbers i n within is)) ∙ free-last (map (walked_entry records) (take i numbers)) (walked_entry records n)
-
--- the shelf at a place, by its number
-pub image-at : (records : Records) (numbers : List ℕ) (i : ℕ) (entry : Entry) → i < length (map (chain_entry records) numbers)
-    → entry ≡ get_or (map (chain_entry records) numbers) i entry
-    → (i < length numbers) × (entry ≡ chain_entry records (get_or numbers i 0))
-image-at records [] i entry within is = absurd (omega arith)
-image-at records (n ∷ ns) zero entry within is = (omega arith, is)
-image-at records (n ∷ ns) (suc i) entry within is =
-    let rest = image-at records ns i entry (omega arith) is in
-    (omega (arith, rest.0), rest.1)
 
 -- each item stands once in the lists that walks meet
 pub once-walked : (atlas : AtlasRecords) → HasItemLists atlas

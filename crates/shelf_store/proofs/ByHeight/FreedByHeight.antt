@@ -11,7 +11,7 @@ use Rattle.shelf_records.specs.RecordLists.{Records, Entry, IsEntry, first_item_
 use Rattle.etagere_links.proofs.FieldChanges.{field_at-kept}
 use Rattle.shelf_records.specs.AtlasRecords.{AtlasRecords, across_of, along_of, height_of, spelled_shelf}
 use Rattle.shelf_heights.specs.Private.ByHeight.{chain_order}
-use Rattle.shelf_store.specs.Private.Settling.{HoldsButNoted}
+use Rattle.shelf_store.specs.Private.Settling.{HoldsExceptNoted}
 use Rattle.shelf_notes.specs.Private.Pending.{Notes, is_noted}
 use Rattle.shelf_store.specs.Private.ItemReturned.{emptiness_said, item_merged, names_one_free}
 use Rattle.shelf_store.specs.Private.ReturnedNotes.{freed_width, raised_unless}
@@ -28,8 +28,8 @@ use Rattle.shelf_store.proofs.Spelled.SpelledLists.{with_records, IsSpelled}
 -- what an item that became free leaves by height, once its shelf says whether it is empty
 abbrev pub FreesByHeight : AtlasRecords → AtlasRecords → List Entry → List Entry → ℕ → ℕ → Type 0
 FreesByHeight atlas new entries edited shelf width =
-    (notes : Notes) (by_height : List BoundedShelf) → HoldsButNoted atlas entries notes by_height
-    → HoldsButNoted new edited notes (raised_unless (is_noted notes shelf) shelf width by_height)
+    (notes : Notes) (by_height : List BoundedShelf) → HoldsExceptNoted atlas entries notes by_height
+    → HoldsExceptNoted new edited notes (raised_unless (is_noted notes shelf) shelf width by_height)
 
 -- an item became free, and its shelf says whether it is empty
 pub frees-by_height : (atlas : AtlasRecords) (around : Around) (shelf number : ℕ) (front back free : List ℕ) → IsShelf atlas.frame (spelled_shelf atlas (entry_of shelf (front ++ number ∷ back) free)) → IsSpelled atlas (with_entry around (entry_of shelf (front ++ number ∷ back) free)) → (merges : MergesItem atlas (item_merged shelf number atlas.records) around shelf number front back free) → map (spelled_shelf (with_records atlas (emptiness_said shelf (item_merged shelf number atlas.records).records))) (around.before ++ entry_of shelf merges.numbers merges.free_list ∷ around.after) ≡ map (spelled_shelf (with_records atlas (item_merged shelf number atlas.records).records)) (around.before ++ entry_of shelf merges.numbers merges.free_list ∷ around.after) → FreesByHeight atlas (with_records atlas (emptiness_said shelf (item_merged shelf number atlas.records).records)) (around.before ++ entry_of shelf (front ++ number ∷ back) free ∷ around.after) (around.before ++ entry_of shelf merges.numbers merges.free_list ∷ around.after) shelf (freed_width atlas.records.items number)

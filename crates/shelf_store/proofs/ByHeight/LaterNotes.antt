@@ -10,7 +10,7 @@ use Rattle.shelf_records.specs.AtlasRecords.{AtlasRecords, shelf_of}
 use Rattle.shelf_records.specs.RecordLists.{Entry, Records, first_item_of}
 use Rattle.shelf_records.specs.Records.{shelf_chain}
 use Rattle.shelf_heights.specs.Private.ByHeight.{order_of, raised}
-use Rattle.shelf_store.specs.Private.Settling.{HoldsButNoted, IsBoundIn}
+use Rattle.shelf_store.specs.Private.Settling.{HoldsExceptNoted, IsBoundIn}
 use Rattle.shelf_notes.specs.Private.Pending.{Notes, is_noted, noted_as, standing_at}
 use Rattle.shelf_heights.specs.declared.by_height.BoundedShelf.{BoundedShelf}
 use Rattle.shelf_notes.specs.declared.pending.Standing.{Standing}
@@ -96,7 +96,7 @@ Each-unraised P Q shelf width (one ∷ more) others own each =
     by_tests false c e all rest = let other : one.shelf ≢ shelf = grind arith in (others one other all.0, rest all.1)
 
 -- shelves in use by height of which the bound of one was raised, where that is noted
-unraised-holds : (atlas : AtlasRecords) (entries : List Entry) (notes : Notes) (shelf width : ℕ) (by_height : List BoundedShelf) → is_noted notes shelf ≡ true → HoldsButNoted atlas entries notes (raised shelf width by_height) → HoldsButNoted atlas entries notes by_height
+unraised-holds : (atlas : AtlasRecords) (entries : List Entry) (notes : Notes) (shelf width : ℕ) (by_height : List BoundedShelf) → is_noted notes shelf ≡ true → HoldsExceptNoted atlas entries notes (raised shelf width by_height) → HoldsExceptNoted atlas entries notes by_height
 unraised-holds atlas entries notes shelf width by_height noted holds =
     let Bounded : BoundedShelf → Type 0 = λ one. is_noted notes one.shelf ≡ false → IsBoundIn atlas entries one in
     record {
@@ -114,10 +114,10 @@ unraised-holds atlas entries notes shelf width by_height noted holds =
     }
 
 -- so a bound need not rise where a later step noted the shelf
-pub raised-later : (atlas : AtlasRecords) (entries : List Entry) (notes later : Notes) (shelf width : ℕ) (by_height : List BoundedShelf) → AreLater notes later → HoldsButNoted atlas entries later (raised_unless (is_noted notes shelf) shelf width by_height) → HoldsButNoted atlas entries later (raised_unless (is_noted later shelf) shelf width by_height)
+pub raised-later : (atlas : AtlasRecords) (entries : List Entry) (notes later : Notes) (shelf width : ℕ) (by_height : List BoundedShelf) → AreLater notes later → HoldsExceptNoted atlas entries later (raised_unless (is_noted notes shelf) shelf width by_height) → HoldsExceptNoted atlas entries later (raised_unless (is_noted later shelf) shelf width by_height)
 raised-later atlas entries notes later shelf width by_height are = by_tests (is_noted notes shelf) (is_noted later shelf) refl (are.before shelf)
   where
-    by_tests : (b c : Bool) → is_noted later shelf ≡ c → (c ≡ false → b ≡ false) → HoldsButNoted atlas entries later (raised_unless b shelf width by_height) → HoldsButNoted atlas entries later (raised_unless c shelf width by_height)
+    by_tests : (b c : Bool) → is_noted later shelf ≡ c → (c ≡ false → b ≡ false) → HoldsExceptNoted atlas entries later (raised_unless b shelf width by_height) → HoldsExceptNoted atlas entries later (raised_unless c shelf width by_height)
     by_tests false false e before holds = holds
     by_tests true true e before holds = holds
     by_tests true false e before holds = let none : true ≡ false = before refl in absurd (cc)

@@ -11,7 +11,7 @@ use Rattle.shelf_records.specs.RecordLists.{Records, Entry, shelf_numbers}
 use Rattle.shelf_records.proofs.AllLists.LinkedFrames.{shelf_numbers-append}
 use Rattle.shelf_records.specs.AtlasRecords.{AtlasRecords, height_of, item_at, spelled_shelf}
 use Rattle.shelf_heights.specs.Private.ByHeight.{IsBound, chain_order}
-use Rattle.shelf_store.specs.Private.Settling.{HoldsButNoted, IsSettled}
+use Rattle.shelf_store.specs.Private.Settling.{HoldsExceptNoted, IsSettled}
 use Rattle.shelf_notes.specs.Private.Pending.{Notes, is_in_use, is_listed, is_noted, noted_as, once_where}
 use Rattle.shelf_model.specs.State.{Item, Shelf}
 use Rattle.shelf_heights.specs.declared.by_height.BoundedShelf.{BoundedShelf}
@@ -40,7 +40,7 @@ bounds-same atlas new shelf widest other (entry ∷ entries) same less bounds =
     )
 
 -- what an item that became free leaves by height, where the bound of its shelf was raised, unless that has changed
-pub raised-holds : (atlas new : AtlasRecords) (before after : List Entry) (entry edited : Entry) (width : ℕ) (notes : Notes) (by_height : List BoundedShelf) → edited.number ≡ entry.number → length new.records.shelves ≡ length atlas.records.shelves → ((k : ℕ) → chain_order new.records.shelves k ≡ chain_order atlas.records.shelves k) → ((k : ℕ) → height_of new.records.shelves k ≡ height_of atlas.records.shelves k) → map (spelled_shelf new) before ≡ map (spelled_shelf atlas) before → map (spelled_shelf new) after ≡ map (spelled_shelf atlas) after → ((widest : ℕ) → IsBound widest (spelled_shelf atlas entry) → width ≤ widest → IsBound widest (spelled_shelf new edited)) → HoldsButNoted atlas (before ++ entry ∷ after) notes by_height → HoldsButNoted new (before ++ edited ∷ after) notes (raised_unless (is_noted notes entry.number) entry.number width by_height)
+pub raised-holds : (atlas new : AtlasRecords) (before after : List Entry) (entry edited : Entry) (width : ℕ) (notes : Notes) (by_height : List BoundedShelf) → edited.number ≡ entry.number → length new.records.shelves ≡ length atlas.records.shelves → ((k : ℕ) → chain_order new.records.shelves k ≡ chain_order atlas.records.shelves k) → ((k : ℕ) → height_of new.records.shelves k ≡ height_of atlas.records.shelves k) → map (spelled_shelf new) before ≡ map (spelled_shelf atlas) before → map (spelled_shelf new) after ≡ map (spelled_shelf atlas) after → ((widest : ℕ) → IsBound widest (spelled_shelf atlas entry) → width ≤ widest → IsBound widest (spelled_shelf new edited)) → HoldsExceptNoted atlas (before ++ entry ∷ after) notes by_height → HoldsExceptNoted new (before ++ edited ∷ after) notes (raised_unless (is_noted notes entry.number) entry.number width by_height)
 raised-holds atlas new before after entry edited width notes by_height number lengths in_chain heights before_same after_same own holds = by_note (is_noted notes entry.number) refl
   where
     Old : BoundedShelf → Type 0
@@ -81,7 +81,7 @@ raised-holds atlas new before after entry edited width notes by_height number le
         wide)
         (bounds none)
 
-    by_note : (b : Bool) → is_noted notes entry.number ≡ b → HoldsButNoted new (before ++ edited ∷ after) notes (raised_unless b entry.number width by_height)
+    by_note : (b : Bool) → is_noted notes entry.number ≡ b → HoldsExceptNoted new (before ++ edited ∷ after) notes (raised_unless b entry.number width by_height)
     by_note true noted =
         record {
           listed = holds.listed;
@@ -128,7 +128,7 @@ hit-own k = grind arith
 
 -- a shelf took the place of the next one: both are noted, and that is out of use
 module _ (atlas : AtlasRecords) (records : Records) (before after : List Entry) (entry gone : Entry) (height : ℕ) (notes : Notes) (by_height : List BoundedShelf) (taller : IsTaller atlas.records records entry.number height)
-    (holds : HoldsButNoted atlas (before ++ entry ∷ gone ∷ after) notes by_height) where
+    (holds : HoldsExceptNoted atlas (before ++ entry ∷ gone ∷ after) notes by_height) where
   abbrev new : AtlasRecords
   new = with_records atlas records
 
@@ -188,7 +188,7 @@ module _ (atlas : AtlasRecords) (records : Records) (before after : List Entry) 
       (fewer-bounds atlas bounded.shelf bounded.widest before after entry gone
       (bounds (unnoted-before notes gone.number false gone_known bounded.shelf (unnoted-before one entry.number true still-known bounded.shelf none))))
 
-  pub absorbed-holds : HoldsButNoted new (before ++ entry ∷ after) two by_height
+  pub absorbed-holds : HoldsExceptNoted new (before ++ entry ∷ after) two by_height
   absorbed-holds =
       record {
         listed = λ k. holds.listed k ∙ sym (ap once_where (noted-listed one entry.number true still-known k ∙ noted-listed notes gone.number false gone_known k));

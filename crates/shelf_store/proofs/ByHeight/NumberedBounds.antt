@@ -1,11 +1,9 @@
 -- The bound of a shelf by height, said over the numbers of the shelves in use and what these are spelled as.
-use Rattle.std.proofs.Common.{◌≡◌, ◌≢◌, ℕ, ◌+◌, List, [], ◌∷◌, ◌++◌, length, map, arith}
+use Rattle.std.proofs.Common.{◌≡◌, ℕ, ◌+◌, List, [], ◌∷◌, ◌++◌, length, map, arith}
 use Rattle.std.specs.List.{AllByRecursion}
-use Rattle.etagere_base.specs.Lists.{times}
 use Rattle.shelf_records.specs.RecordLists.{Entry, shelf_numbers}
-use Rattle.etagere_links.proofs.ListEnds.{times-here}
 use Rattle.shelf_records.specs.AtlasRecords.{AtlasRecords, spelled_shelf}
-use Rattle.shelf_heights.specs.Private.ByHeight.{IsBound, numbers_by_height}
+use Rattle.shelf_heights.specs.Private.ByHeight.{IsBound}
 use Rattle.shelf_model.specs.State.{Shelf}
 use Rattle.shelf_heights.specs.declared.by_height.BoundedShelf.{BoundedShelf}
 
@@ -48,29 +46,6 @@ bounds-append one [] back [] backs long begins ends = ends
 bounds-append one [] back (shelf ∷ fronts) backs long begins ends = absurd (omega (arith, long))
 bounds-append one (n ∷ front) back [] backs long begins ends = absurd (omega (arith, long))
 bounds-append one (n ∷ front) back (shelf ∷ fronts) backs long begins ends = (begins.0, bounds-append one front back fronts backs (omega (arith, long)) begins.1 ends)
-
--- a bound of none of these shelves
-pub bounds-none : (one : BoundedShelf) (ns : List ℕ) (shelves : List Shelf) → times one.shelf ns ≡ 0 → BoundsIn one ns shelves
-bounds-none one [] shelves none = tt
-bounds-none one (n ∷ ns) [] none = tt
-bounds-none one (n ∷ ns) (shelf ∷ shelves) none =
-    (λ same. absurd (here n same none), bounds-none one ns shelves (omega (arith, none)))
-  where
-    here : (m : ℕ) → m ≡ one.shelf → times one.shelf (m ∷ ns) ≡ 0 → ⊥
-    here m same absent =
-        let stands : times one.shelf (m ∷ ns) ≡ 1 + times one.shelf ns = rw same (times-here one.shelf ns) in
-        omega (arith, stands, absent)
-
--- each shelf by height is another than one that doesn't stand among them
-pub by_height-other : (number : ℕ) (by_height : List BoundedShelf) → times number (numbers_by_height by_height) ≡ 0 → AllByRecursion (λ (one : BoundedShelf). one.shelf ≢ number) by_height
-by_height-other number [] none = tt
-by_height-other number (one ∷ others) none =
-    (λ same. absurd (here one.shelf same none), by_height-other number others (omega (arith, none)))
-  where
-    here : (m : ℕ) → m ≡ number → times number (m ∷ numbers_by_height others) ≡ 0 → ⊥
-    here m same absent =
-        let stands : times number (m ∷ numbers_by_height others) ≡ 1 + times number (numbers_by_height others) = rw same (times-here number (numbers_by_height others)) in
-        omega (arith, stands, absent)
 
 -- the bounds stay where one shelf becomes another
 pub bounds-changed : (one : BoundedShelf) (number : ℕ) (front back : List ℕ) (fronts backs : List Shelf) (whole taken : Shelf) → length front ≡ length fronts

@@ -1,20 +1,17 @@
 -- The room that a split has: among the shelves by height for each shelf record, and in the records for what is unused.
 use Rattle.std.proofs.Common.{◌≡◌, ℕ, ◌+◌, ◌<◌, ◌≤◌, Bool, true, false, Option, None, Some, List, [], ◌∷◌, ◌++◌, length, refl, arith, subst, if◌then◌else◌}
-use Rattle.std.proofs.lemmas.List.{length-append, length-map}
+use Rattle.std.proofs.lemmas.List.{length-append}
 use Rattle.std.specs.Prelude.{IfSome}
 use Rattle.etagere_base.specs.declared.frames.Frame.{Frame}
 use Rattle.shelf_records.specs.RecordLists.{Records, shelf_numbers, walked_lists}
 use Rattle.shelf_records.specs.RecordUses.{missing, new_shelf, number_used, rests_missing, rests_of, rests_used, shelves_used}
 use Rattle.shelf_records.specs.Records.{item_chain, shelf_chain}
-use Rattle.shelf_heights.specs.declared.by_height.BoundedShelf.{BoundedShelf}
 use Rattle.shelf_model.specs.Choice.{Placement}
-use Rattle.shelf_heights.specs.Private.ByHeight.{AreByHeight, numbers_by_height}
 use Rattle.shelf_records.specs.Private.Kept.{AreKept, bare, state_of}
 use Rattle.shelf_store.specs.Private.PlacementTaken.{free_item, item_record, placement_taken, rest_shelf, shelf_record, with_shelf_rest}
 use Rattle.shelf_model.specs.State.{items_in_use}
 use Rattle.shelf_store.proofs.ByHeight.SplitOrders.{length-split, length-taken}
 use Rattle.shelf_records.proofs.MissingRecords.{missing-counted}
-use Rattle.shelf_records.proofs.Judged.EqualTimes.{length-fewer}
 use Rattle.shelf_store.proofs.Spelled.ItemLocated.{in-use-counted}
 use Rattle.shelf_store.proofs.Spelled.TakenReady.{each-length}
 use Rattle.shelf_records.proofs.Spelled.StandsKept.{witnesses}
@@ -49,18 +46,6 @@ taken-count column_width found records =
       length-taken column_width found records,
       split-count column_width found rests.shelf rests.shelf_item (rests_used found.splits_shelf found.splits_item records),
       used-count found.splits_shelf found.splits_item records,
-    )
-
--- the shelves that stand by height are those in use
-by_height-count : (frame : Frame) (records : Records) (by_height : List BoundedShelf) → AreByHeight frame records by_height
-    → length by_height ≡ length (shelf_numbers (walked_lists records).entries)
-by_height-count frame records by_height are =
-    let numbers : List ℕ = shelf_numbers (walked_lists records).entries in
-    omega (
-      arith,
-      length-map by_height (λ (one : BoundedShelf). one.shelf),
-      length-fewer numbers (numbers_by_height by_height) (λ k. omega (arith, are.once k)),
-      length-fewer (numbers_by_height by_height) numbers (λ k. omega (arith, are.once k)),
     )
 
 -- the shelf records are those in use and those that became unused

@@ -26,7 +26,7 @@ use Rattle.shelf_records.proofs.Judged.EqualTimes.{length-fewer}
 use Rattle.shelf_store.proofs.ByHeight.RoomByHeight.{shelves-count}
 use Rattle.shelf_store.proofs.ByHeight.SplitByHeight.{used-once}
 use Rattle.shelf_store.proofs.ByHeight.SplitOrders.{StandsSame, order-stands, orders-apart}
-use Rattle.shelf_store.specs.Private.Settling.{AreByHeightButNoted, AreSettled, BeginAsListed, BeginsAsListed, Follows, IsBoundIn, IsBounded, IsSettled}
+use Rattle.shelf_store.specs.Private.Settling.{AreByHeightExceptNoted, AreSettled, BeginAsListed, BeginsAsListed, Follows, IsBoundIn, IsBounded, IsSettled}
 
 -- how often a number stands where another was left out
 times-left : (k n : ℕ) (ns : List ℕ) → k ≢ n → times k (remove_number n ns) ≡ times k ns
@@ -91,7 +91,7 @@ written-own kept shelves n one below there read =
       height = field-own (λ (s : LinkedShelf). s.height) 0 kept one n below ∙ sym (field-read (λ (s : LinkedShelf). s.height) 0 shelves n one there read);
     }
 
-module _ (frame : Frame) (records : Records) (notes : Notes) (by_height : List BoundedShelf) (kept : AreKept frame records) (holds : AreByHeightButNoted frame records notes by_height) where
+module _ (frame : Frame) (records : Records) (notes : Notes) (by_height : List BoundedShelf) (kept : AreKept frame records) (holds : AreByHeightExceptNoted frame records notes by_height) where
   -- a shelf in use is there
   pub in_use-there : (k : ℕ) → is_in_use notes k ≡ true → k < length records.shelves
   in_use-there k so = (used-once frame records kept).within k (omega (arith, holds.in_use k, ap once_where so))
@@ -136,7 +136,7 @@ module _ (frame : Frame) (records : Records) (notes : Notes) (by_height : List B
     unnoted-differs : (k : ℕ) → is_noted notes k ≡ false → k ≢ shelf
     unnoted-differs k unnoted same = let so : is_noted notes k ≡ true = rw same noted in absurd (cc)
 
-    pub gone-holds : AreByHeightButNoted frame records (unlisted shelf notes) (taken_out shelf by_height)
+    pub gone-holds : AreByHeightExceptNoted frame records (unlisted shelf notes) (taken_out shelf by_height)
     gone-holds =
         record {
           listed = λ k. by_number k (k == shelf) refl;
@@ -239,7 +239,7 @@ module _ (frame : Frame) (records : Records) (notes : Notes) (by_height : List B
               let here : hit shelf k ≡ 0 = grind (arith, other) in
               omega (arith, here, times-without shelf k other, holds.listed k, ap (λ (s : Standing). once_where s.listed) (listed-other notes shelf read known k other))
 
-      pub put-holds : AreByHeightButNoted frame records after (put_in after.kept one Others)
+      pub put-holds : AreByHeightExceptNoted frame records after (put_in after.kept one Others)
       put-holds =
           record {
             listed = listed-after;
@@ -331,7 +331,7 @@ module _ (frame : Frame) (records : Records) (notes : Notes) (by_height : List B
   -- a shelf with an entry
   module _ (shelf : ℕ) (known : shelf < length notes.standing) where
     -- a shelf that the list follows is noted no more
-    pub forgotten-holds : (left : List ℕ) → IsSettled records.shelves notes shelf → IsBounded frame records shelf by_height → AreByHeightButNoted frame records (forgotten shelf left notes) by_height
+    pub forgotten-holds : (left : List ℕ) → IsSettled records.shelves notes shelf → IsBounded frame records shelf by_height → AreByHeightExceptNoted frame records (forgotten shelf left notes) by_height
     forgotten-holds left own bounded =
         record {
           listed = λ k. holds.listed k ∙ sym (ap once_where (forgotten-listed notes shelf left known k));
@@ -488,7 +488,7 @@ one-more-as_listed shelves old new n shelf below read others own before k stands
         others k (before k (omega (arith, stands, ap (λ m. times k (take m old.noted)) (add-one n), more n old.noted below, none)))
 
 -- where all that have changed begin as listed, all do
-pub all-as_listed : (frame : Frame) (records : Records) (notes : Notes) (by_height : List BoundedShelf) → AreKept frame records → AreByHeightButNoted frame records notes by_height → AreTied notes → BeginAsListedAmong records.shelves notes notes.noted → BeginAsListed records.shelves notes
+pub all-as_listed : (frame : Frame) (records : Records) (notes : Notes) (by_height : List BoundedShelf) → AreKept frame records → AreByHeightExceptNoted frame records notes by_height → AreTied notes → BeginAsListedAmong records.shelves notes notes.noted → BeginAsListed records.shelves notes
 all-as_listed frame records notes by_height kept holds tied as_listed k = by_note (is_noted notes k) refl
   where
     by_note : (b : Bool) → is_noted notes k ≡ b → BeginsAsListed records.shelves notes k
@@ -497,10 +497,10 @@ all-as_listed frame records notes by_height kept holds tied as_listed k = by_not
 
 -- what holds once the number of the shelf that changed last was taken away
 pub popped-holds : (frame : Frame) (records : Records) (old new : Notes) (by_height : List BoundedShelf) (shelf : ℕ) (result : Option ℕ)
-    → AreKept frame records → AreByHeightButNoted frame records old by_height → BeginAsListed records.shelves old → IsSettled records.shelves old shelf → IsBounded frame records shelf by_height
+    → AreKept frame records → AreByHeightExceptNoted frame records old by_height → BeginAsListed records.shelves old → IsSettled records.shelves old shelf → IsBounded frame records shelf by_height
     → (result ≡ None → old.noted ≡ []) → IfSome result (λ s. s < length old.standing) → IfSome result (λ s. old.noted ≡ new.noted ++ s ∷ []) → IfSome result (λ s. new ≡ forgotten s new.noted old)
     → 0 < length old.noted → shelf ≡ get_or old.noted (length old.noted - 1) 0
-    → AreByHeightButNoted frame records new by_height × BeginAsListed records.shelves new
+    → AreByHeightExceptNoted frame records new by_height × BeginAsListed records.shelves new
 popped-holds frame records old new by_height shelf None kept holds as_listed settled bounded none within last made some read =
     absurd (omega (arith, some, ap (λ (ns : List ℕ). length ns) (none refl)))
 popped-holds frame records old new by_height shelf (Some s) kept holds as_listed settled bounded none within last made some read =
@@ -509,6 +509,6 @@ popped-holds frame records old new by_height shelf (Some s) kept holds as_listed
     read ∙ ap (λ n. get_or old.noted n 0) end ∙ ap (λ (ns : List ℕ). get_or ns (length new.noted) 0) last ∙ get_or-append_seam new.noted s [] 0 in
     let known : shelf < length old.standing = omega (arith, within, same) in
     let is : new ≡ forgotten shelf new.noted old = made ∙ ap (λ n. forgotten n new.noted old) (sym same) in (
-      subst (λ (notes : Notes). AreByHeightButNoted frame records notes by_height) (sym is) (forgotten-holds frame records old by_height kept holds shelf known new.noted settled bounded),
+      subst (λ (notes : Notes). AreByHeightExceptNoted frame records notes by_height) (sym is) (forgotten-holds frame records old by_height kept holds shelf known new.noted settled bounded),
       subst (BeginAsListed records.shelves) (sym is) (forgotten-as_listed frame records old by_height kept holds shelf known new.noted as_listed),
     )

@@ -13,7 +13,7 @@ use Rattle.shelf_records.specs.AtlasRecords.{height_of, spelled_shelf}
 use Rattle.shelf_heights.specs.Private.ByHeight.{AreByHeight, AreInOrder, IsBound, chain_order, numbers_by_height, order_of}
 use Rattle.shelf_notes.specs.Private.Pending.{Notes, is_in_use, is_listed, is_noted, noted_as, once_where, with_entry}
 use Rattle.shelf_records.specs.Private.Kept.{AreKept, bare}
-use Rattle.shelf_store.specs.Private.Settling.{AreByHeightButNoted, AreSettled, IsSettled}
+use Rattle.shelf_store.specs.Private.Settling.{AreByHeightExceptNoted, AreSettled, IsSettled}
 use Rattle.shelf_model.specs.State.{Shelf}
 use Rattle.shelf_heights.specs.declared.by_height.BoundedShelf.{BoundedShelf}
 use Rattle.shelf_notes.specs.declared.pending.Standing.{Standing}
@@ -68,7 +68,7 @@ order-settled frame records notes by_height kept are settled =
     (by_height-in_order frame records by_height kept are)
 
 -- what holds of a list that follows the records holds but for those that have changed, of which there are none
-pub settled-holds : (frame : Frame) (records : Records) (notes : Notes) (by_height : List BoundedShelf) → AreKept frame records → AreByHeight frame records by_height → AreSettled records notes → AreByHeightButNoted frame records notes by_height
+pub settled-holds : (frame : Frame) (records : Records) (notes : Notes) (by_height : List BoundedShelf) → AreKept frame records → AreByHeight frame records by_height → AreSettled records notes → AreByHeightExceptNoted frame records notes by_height
 settled-holds frame records notes by_height kept are settled =
     record {
       listed = λ k. listed-once frame records notes by_height k are settled;
@@ -110,7 +110,7 @@ entry-stands notes rest any k below = by_test (rest == length notes.standing) re
 -- a shelf was split, by the numbers of the shelves and where they begin
 pub record IsSplitByHeight (frame : Frame) (records new : Records) (notes : Notes) (by_height : List BoundedShelf) (shelf rest : ℕ) (front back : List ℕ) : Type 0 where
   pub new_kept : AreKept frame new
-  pub holds : AreByHeightButNoted frame records notes by_height
+  pub holds : AreByHeightExceptNoted frame records notes by_height
   pub numbers : shelf_numbers (walked_lists records).entries ≡ front ++ shelf ∷ back
   pub new_numbers : shelf_numbers (walked_lists new).entries ≡ front ++ shelf ∷ rest ∷ back
   pub others : (k : ℕ) → shelf ≢ k → rest ≢ k → StandsSame records.shelves new.shelves k
@@ -252,7 +252,7 @@ module _ (frame : Frame) (records new : Records) (notes : Notes) (by_height : Li
       → map (spelled_shelf (bare frame records)) (walked_lists records).entries ≡ fronts ++ whole ∷ backs
       → map (spelled_shelf (bare frame new)) (walked_lists new).entries ≡ fronts ++ taken ∷ added ∷ backs
       → ((widest : ℕ) → IsBound widest whole → IsBound widest taken)
-      → AreByHeightButNoted frame new three by_height
+      → AreByHeightExceptNoted frame new three by_height
   split-holds fronts backs whole taken added long shelves new_shelves change =
       record {
         listed = λ k. is.holds.listed k ∙ sym (ap once_where (listed-same k));

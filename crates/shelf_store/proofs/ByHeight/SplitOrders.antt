@@ -1,13 +1,12 @@
 -- Where shelves begin and how tall they are once a shelf was split and its item given.
-use Rattle.std.proofs.Common.{◌≡◌, ◌≢◌, ℕ, ◌+◌, ◌*◌, ◌<◌, ◌≤◌, Bool, true, false, Option, None, Some, List, [], ◌∷◌, length, refl, ap, arith, sym, ◌∙◌}
-use Rattle.std.proofs.lemmas.List.{length-append}
+use Rattle.std.proofs.Common.{◌≡◌, ◌≢◌, ℕ, ◌+◌, ◌*◌, ◌<◌, ◌≤◌, Bool, true, false, Option, None, Some, List, length, refl, ap, arith, sym, ◌∙◌}
 use Rattle.etagere_base.specs.Lists.{times}
 use Rattle.etagere_base.specs.declared.frames.Frame.{Frame}
 use Rattle.etagere_links.specs.Edits.{changed_by, link_at}
 use Rattle.shelf_records.specs.ListEdits.{first_without, linked_between}
 use Rattle.shelf_records.specs.RecordLists.{Records, first_free_of, shelf_walk}
 use Rattle.shelf_records.specs.RecordMerges.{shelf_split}
-use Rattle.shelf_records.specs.RecordUses.{new_shelf, rests_of, rests_used, shelves_used}
+use Rattle.shelf_records.specs.RecordUses.{rests_of, rests_used}
 use Rattle.shelf_records.specs.Records.{free_list, item_chain, shelf_chain}
 use Rattle.shelf_records.specs.declared.records.LinkedItem.{LinkedItem}
 use Rattle.shelf_records.specs.declared.records.LinkedShelf.{LinkedShelf}
@@ -49,15 +48,6 @@ order-stands shelves new k same = ap (λ (h : ℕ). h * (65536 * 65536) + chain_
 pub same-used : (of_shelf of_item : Bool) (records : Records) (k : ℕ) → SameShelf records.shelves (rests_used of_shelf of_item records).shelves k
 same-used false of_item records k = same-shelf records.shelves k
 same-used true of_item records k = shelves-used records.unused_shelves records.shelves k
-
--- there are no fewer then
-pub length-used : (of_shelf of_item : Bool) (records : Records) → length records.shelves ≤ length (rests_used of_shelf of_item records).shelves
-length-used false of_item records = omega arith
-length-used true of_item records = by_link records.unused_shelves
-  where
-    by_link : (unused : Option ℕ) → length records.shelves ≤ length (shelves_used true unused records.shelves)
-    by_link None = omega (arith, length-append records.shelves (new_shelf ∷ []))
-    by_link (Some number) = omega arith
 
 -- the other shelves say the same once one was split
 pub same-split : (records : Records) (number rest rest_item height : ℕ) (rest_shelf : LinkedShelf) (item : LinkedItem) (k : ℕ) → number ≢ k → rest ≢ k

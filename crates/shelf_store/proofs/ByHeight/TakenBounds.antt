@@ -7,7 +7,7 @@ use Rattle.etagere_base.specs.Lists.{replaced_at}
 use Rattle.etagere_base.specs.declared.frames.Frame.{Frame}
 use Rattle.shelf_model.specs.Choice.{Placement}
 use Rattle.shelf_heights.specs.Private.ByHeight.{IsBound}
-use Rattle.shelf_model.specs.State.{Item, Shelf, empty_shelf, is_free}
+use Rattle.shelf_model.specs.State.{Item, Shelf, is_free}
 use Rattle.shelf_model.specs.Taking.{item_pieces, taken_shelf}
 use Rattle.shelf_model.proofs.Taken.TakenShelves.{IsTaking}
 use Rattle.shelf_store.proofs.ByHeight.FreedBounds.{IsWithin}
@@ -34,7 +34,3 @@ bound-taken frame widest placement id shelf takes bound =
     subst (AllByRecursion (IsWithin widest)) (sym is)
     (Each-append (IsWithin widest) front (item_pieces placement id item ++ back) (Each-front (IsWithin widest) front (item ∷ back) split)
     (Each-append (IsWithin widest) (item_pieces placement id item) back pieces tail.1))
-
--- the width of its column bounds an empty shelf
-pub bound-empty : (frame : Frame) (column height : ℕ) → IsBound frame.column_width (empty_shelf frame column height)
-bound-empty frame column height = (λ free. omega arith, tt)

@@ -13,7 +13,7 @@ use Rattle.shelf_heights.specs.Private.ByHeight.{IsBound}
 use Rattle.shelf_notes.specs.Private.Pending.{Notes, is_noted}
 use Rattle.shelf_records.specs.Private.Kept.{AreKept, bare}
 use Rattle.shelf_store.specs.Private.PlacementTaken.{free_item, id_of, item_record, placement_taken, rest_shelf, rests_used_for, shelf_record, taken_notes, with_rest_notes, with_shelf_rest}
-use Rattle.shelf_store.specs.Private.Settling.{AreByHeightButNoted}
+use Rattle.shelf_store.specs.Private.Settling.{AreByHeightExceptNoted}
 use Rattle.shelf_model.specs.State.{Shelf, empty_shelf}
 use Rattle.shelf_model.specs.Taking.{taken_shelf}
 use Rattle.shelf_heights.specs.declared.by_height.BoundedShelf.{BoundedShelf}
@@ -27,13 +27,13 @@ use Rattle.shelf_records.proofs.Spelled.StandsKept.{witnesses}
 
 -- where none is split
 unsplit-holds : (frame : Frame) (records new : Records) (notes : Notes) (by_height : List BoundedShelf) (shelf : ℕ) (front back : List ℕ) (fronts backs : List Shelf) (whole taken : Shelf)
-    → AreKept frame new → AreByHeightButNoted frame records notes by_height
+    → AreKept frame new → AreByHeightExceptNoted frame records notes by_height
     → shelf_numbers (walked_lists records).entries ≡ front ++ shelf ∷ back → shelf_numbers (walked_lists new).entries ≡ front ++ shelf ∷ back
     → length front ≡ length fronts
     → map (spelled_shelf (bare frame records)) (walked_lists records).entries ≡ fronts ++ whole ∷ backs
     → map (spelled_shelf (bare frame new)) (walked_lists new).entries ≡ fronts ++ taken ∷ backs
     → ((widest : ℕ) → IsBound widest whole → IsBound widest taken)
-    → ((k : ℕ) → StandsSame records.shelves new.shelves k) → length new.shelves ≤ length records.shelves → AreByHeightButNoted frame new notes by_height
+    → ((k : ℕ) → StandsSame records.shelves new.shelves k) → length new.shelves ≤ length records.shelves → AreByHeightExceptNoted frame new notes by_height
 unsplit-holds frame records new notes by_height shelf front back fronts backs whole taken new_kept holds numbers new_numbers long shelves new_shelves change stands few =
     record {
       listed = holds.listed;
@@ -73,9 +73,9 @@ rest-last (Some number) shelves rest names = omega arith
 
 -- when a placement that was found in kept records is taken
 pub taken-holds : (frame : Frame) (records : Records) (placement found : Placement) (notes : Notes) (by_height : List BoundedShelf) → AreKept frame records → KeepsTaken frame records placement found
-    → found.splits_shelf ≡ placement.splits_shelf → AreByHeightButNoted frame records notes by_height
+    → found.splits_shelf ≡ placement.splits_shelf → AreByHeightExceptNoted frame records notes by_height
     → ((rest : ℕ) → number_used found.splits_shelf records.unused_shelves records.shelves ≡ Some rest → rest ≤ length records.shelves)
-    → AreByHeightButNoted frame (placement_taken frame.column_width found records) (taken_notes found records notes) by_height
+    → AreByHeightExceptNoted frame (placement_taken frame.column_width found records) (taken_notes found records notes) by_height
 taken-holds frame records placement found notes by_height kept made split_same holds next = by_split placement.splits_shelf refl
   where
     new : Records
@@ -124,7 +124,7 @@ taken-holds frame records placement found notes by_height kept made split_same h
     any = shelf_record used.shelves found.shelf
 
     Holds : Option ℕ → Option ℕ → Type 0
-    Holds rest item = AreByHeightButNoted frame new (with_rest_notes found.shelf rest item any notes) by_height
+    Holds rest item = AreByHeightExceptNoted frame new (with_rest_notes found.shelf rest item any notes) by_height
 
     -- where shelves stand that taking leaves
     Stand : Option ℕ → Option ℕ → Type 0
@@ -137,7 +137,7 @@ taken-holds frame records placement found notes by_height kept made split_same h
         (stands-taken frame.column_width found records, length-taken frame.column_width found records))
 
     by_numbers : (rest item : Option ℕ) → number_used found.splits_shelf records.unused_shelves records.shelves ≡ rest → number_used found.splits_shelf records.unused_items records.items ≡ item
-        → Holds rest item → AreByHeightButNoted frame new (taken_notes found records notes) by_height
+        → Holds rest item → AreByHeightExceptNoted frame new (taken_notes found records notes) by_height
     by_numbers rest item e f holds =
         subst (λ (o : Option ℕ). Holds o (number_used found.splits_shelf records.unused_items records.items)) (sym e) (subst (λ (o : Option ℕ). Holds rest o) (sym f) holds)
 
@@ -145,7 +145,7 @@ taken-holds frame records placement found notes by_height kept made split_same h
     used-few : (b : Bool) → found.splits_shelf ≡ b → b ≡ false → length used.shelves ≤ length records.shelves
     used-few b e none = let no : found.splits_shelf ≡ false = e ∙ none in rw no (omega arith)
 
-    by_split : (b : Bool) → placement.splits_shelf ≡ b → AreByHeightButNoted frame new (taken_notes found records notes) by_height
+    by_split : (b : Bool) → placement.splits_shelf ≡ b → AreByHeightExceptNoted frame new (taken_notes found records notes) by_height
     by_split false e =
         let same : Stand None None = stand None None (shelf_used false e) (item_used false e) in
         let stays : (k : ℕ) → StandsSame records.shelves new.shelves k = λ k. stands-then records.shelves used.shelves new.shelves k (used-stands k) (same.0 k) in

@@ -22,12 +22,12 @@ use Rattle.shelf_model.proofs.Grown.GrownShelf.{wider_shelf}
 use Rattle.shelf_model.proofs.Grown.GrownShelves.{taller_ends}
 use Rattle.shelf_store.proofs.Grown.MadeLinked.{numbers_from}
 use Rattle.shelf_records.proofs.Spelled.RecordValues.{SameShelf}
-use Rattle.shelf_store.proofs.Spelled.SpelledLists.{IsSpelledBut}
+use Rattle.shelf_store.proofs.Spelled.SpelledLists.{IsSpelledExcept}
 
 -- records that spell these lists, while so many of each kind are still to be put to use: those that became unused, and
 -- then those that were made for it; before the grow there were so many items
 pub record IsGrowing (frame : Frame) (old : ℕ) (growing : Growing) (entries : List Entry) (unused_items unused_shelves : List ℕ) (items shelves : ℕ) : Type 0 where
-  pub spelled : IsSpelledBut (bare frame growing.records) (lists_of entries unused_items unused_shelves)
+  pub spelled : IsSpelledExcept (bare frame growing.records) (lists_of entries unused_items unused_shelves)
       (numbers_from growing.made.item (items - length unused_items) ++ [])
       (numbers_from growing.made.shelf (shelves - length unused_shelves) ++ [])
   pub flags : AllByRecursion (HasFlag (bare frame growing.records)) entries

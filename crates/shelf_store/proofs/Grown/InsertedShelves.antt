@@ -38,7 +38,7 @@ use Rattle.shelf_store.proofs.Grown.NextRecords.{item-next, shelf-next}
 use Rattle.shelf_store.proofs.Grown.UsedRecords.{fewer-left, shelf-unused, used-length, used-other}
 use Rattle.shelf_records.proofs.Spelled.EntryValues.{free_count-free}
 use Rattle.shelf_records.proofs.Spelled.RecordValues.{SameItem, SameShelf, SameShelf-then, item-same, shelf-other, shelf_values, shelves-same}
-use Rattle.shelf_store.proofs.Spelled.SpelledLists.{IsSpelledBut}
+use Rattle.shelf_store.proofs.Spelled.SpelledLists.{IsSpelledExcept}
 use Rattle.shelf_store.proofs.Spelled.SpelledMerges.{unmarked-same}
 use Rattle.shelf_store.proofs.Spelled.SpelledShelves.{shelves-keep_values}
 use Rattle.shelf_store.proofs.Spelled.SpelledSplits.{shelf-parts}
@@ -149,7 +149,7 @@ module _ (records : Records) (previous shelf item width along across height : �
 
 -- an empty shelf was put after another one of those that records spell
 record IsAdded (frame : Frame) (records new : Records) (before after : List Entry) (entry added : Entry) (unused_items unused_shelves loose loose_shelves : List ℕ) (column height : ℕ) : Type 0 where
-  spelled : IsSpelledBut (bare frame new) (lists_of (before ++ entry ∷ added ∷ after) unused_items unused_shelves) loose loose_shelves
+  spelled : IsSpelledExcept (bare frame new) (lists_of (before ++ entry ∷ added ∷ after) unused_items unused_shelves) loose loose_shelves
   flags : AllByRecursion (HasFlag (bare frame records)) (before ++ entry ∷ after) → AllByRecursion (HasFlag (bare frame new)) (before ++ entry ∷ added ∷ after)
   others : shelves_spelled frame new (before ++ entry ∷ after) ≡ shelves_spelled frame records (before ++ entry ∷ after)
   empty : spelled_shelf (bare frame new) added ≡ empty_shelf frame column height
@@ -201,7 +201,7 @@ module _ (frame : Frame) (records : Records) (before after : List Entry) (entry 
   -- an empty shelf put after another one, where those before it in its column end
   shelf-added : 1 ≤ frame.column_width → across ≡ height_before records.shelves frame.column_width column (shelf_numbers (before ++ entry ∷ []))
       → AllByRecursion (λ (other : Entry). along_of records.shelves other.number / frame.column_width ≢ column) after
-      → IsSpelledBut (bare frame records) (lists_of (before ++ entry ∷ after) unused_items unused_shelves) (item ∷ loose) (shelf ∷ loose_shelves)
+      → IsSpelledExcept (bare frame records) (lists_of (before ++ entry ∷ after) unused_items unused_shelves) (item ∷ loose) (shelf ∷ loose_shelves)
       → IsAdded frame records new_records before after entry (entry_of shelf (item ∷ []) (item ∷ [])) unused_items unused_shelves loose loose_shelves column height
   shelf-added wide ends others spelled =
       let entries : List Entry = before ++ entry ∷ after in
@@ -267,7 +267,7 @@ left_shelves growing unused shelves = numbers_from growing.made.shelf (shelves -
 
 -- records of which an item and a shelf were put to use for an empty shelf
 record IsReady (frame : Frame) (growing used : Growing) (entries : List Entry) (unused_items unused_shelves : List ℕ) (items shelves : ℕ) : Type 0 where
-  spelled : IsSpelledBut (bare frame used.records) (lists_of entries (but_first unused_items) (but_first unused_shelves))
+  spelled : IsSpelledExcept (bare frame used.records) (lists_of entries (but_first unused_items) (but_first unused_shelves))
       (next_item growing ∷ left_items used (but_first unused_items) items) (next_shelf (after_item growing) ∷ left_shelves used (but_first unused_shelves) shelves)
   flags : AllByRecursion (HasFlag (bare frame used.records)) entries
   same : shelves_spelled frame used.records entries ≡ shelves_spelled frame growing.records entries
@@ -276,7 +276,7 @@ record IsReady (frame : Frame) (growing used : Growing) (entries : List Entry) (
 
 -- an item and a shelf are put to use, where some of each are still needed
 ready : (frame : Frame) (growing : Growing) (entries : List Entry) (unused_items unused_shelves : List ℕ) (items shelves : ℕ)
-    → IsSpelledBut (bare frame growing.records) (lists_of entries unused_items unused_shelves) (left_items growing unused_items (suc items)) (left_shelves growing unused_shelves (suc shelves))
+    → IsSpelledExcept (bare frame growing.records) (lists_of entries unused_items unused_shelves) (left_items growing unused_items (suc items)) (left_shelves growing unused_shelves (suc shelves))
     → AllByRecursion (HasFlag (bare frame growing.records)) entries
     → IsReady frame growing (after_shelf (after_item growing)) entries unused_items unused_shelves items shelves
 ready frame growing entries unused_items unused_shelves items shelves spelled flags =

@@ -32,7 +32,7 @@ use Rattle.shelf_store.proofs.Grown.MadeLinked.{numbers_from, records-made}
 use Rattle.shelf_records.proofs.MissingRecords.{missing-counted}
 use Rattle.shelf_store.proofs.Spelled.ItemLocated.{in-use-counted}
 use Rattle.shelf_records.proofs.Spelled.RecordValues.{SameItem, SameItem-then, SameShelf, SameShelf-then, item-same}
-use Rattle.shelf_store.proofs.Spelled.SpelledLists.{IsSpelledBut}
+use Rattle.shelf_store.proofs.Spelled.SpelledLists.{IsSpelledExcept}
 use Rattle.shelf_store.proofs.Spelled.StackedEdits.{stacked-same}
 use Rattle.shelf_store.proofs.Spelled.SpelledMerges.{unmarked-same}
 use Rattle.shelf_store.proofs.Spelled.SpelledUses.{SameEntries, field_at-made, same-entries, same-shelf, shelves-used}
@@ -226,7 +226,7 @@ module _ (frame : Frame) (size : Size) (records : Records) (kept : AreKept frame
   same = same-entries (bare grown records) new entries (λ k stands. same_shelf k) (λ k stands. same_item k) (witnesses kept).linked.entries
 
   -- the records spell the same lists in the grown frame, but for those that were made
-  spelled-made : IsSpelledBut (bare grown new) (lists_of entries unused_items unused_shelves)
+  spelled-made : IsSpelledExcept (bare grown new) (lists_of entries unused_items unused_shelves)
       (numbers_from (length records.items) (missing item_chain needed.items records.unused_items records.items) ++ [])
       (numbers_from (length records.shelves) (missing shelf_chain needed.shelves records.unused_shelves records.shelves) ++ [])
   spelled-made =
@@ -239,13 +239,13 @@ module _ (frame : Frame) (size : Size) (records : Records) (kept : AreKept frame
       }
 
   -- those are as many as are missing
-  spelled-missing : IsSpelledBut (bare grown new) (lists_of entries unused_items unused_shelves)
+  spelled-missing : IsSpelledExcept (bare grown new) (lists_of entries unused_items unused_shelves)
       (numbers_from (length records.items) (needed.items - length unused_items) ++ [])
       (numbers_from (length records.shelves) (needed.shelves - length unused_shelves) ++ [])
   spelled-missing =
-      subst (λ (n : ℕ). IsSpelledBut (bare grown new) (lists_of entries unused_items unused_shelves)
+      subst (λ (n : ℕ). IsSpelledExcept (bare grown new) (lists_of entries unused_items unused_shelves)
       (numbers_from (length records.items) (needed.items - length unused_items) ++ []) (numbers_from (length records.shelves) n ++ [])) missing-shelves
-      (subst (λ (n : ℕ). IsSpelledBut (bare grown new) (lists_of entries unused_items unused_shelves)
+      (subst (λ (n : ℕ). IsSpelledExcept (bare grown new) (lists_of entries unused_items unused_shelves)
       (numbers_from (length records.items) n ++ []) (numbers_from (length records.shelves) (missing shelf_chain needed.shelves records.unused_shelves records.shelves) ++ []))
       missing-items spelled-made)
 

@@ -8,7 +8,7 @@ use Rattle.shelf_records.specs.RecordLists.{Records}
 use Rattle.shelf_model.specs.Atlas.{KeepsPromises, without_id}
 use Rattle.shelf_model.specs.Places.{allocations}
 use Rattle.shelf_records.specs.AtlasRecords.{is_allocated_at, item_at, shelf_of}
-use Rattle.shelf_store.specs.Private.Settling.{AreByHeightButNoted}
+use Rattle.shelf_store.specs.Private.Settling.{AreByHeightExceptNoted}
 use Rattle.shelf_notes.specs.Private.Pending.{Notes}
 use Rattle.shelf_store.specs.Private.ItemReturned.{CanReturn, item_returned, unused_by}
 use Rattle.shelf_records.specs.Private.Kept.{AreKept, state_of}
@@ -74,13 +74,13 @@ after-return frame records new id number made_unused area kept named made counts
     (item_returned-after frame records id number kept named)))
 
 -- the shelves stand by height after a return, but for those that have changed
-pub by_height-after : (frame : Frame) (records : Records) (notes : Notes) (by_height : List BoundedShelf) (id number : ℕ) → AreKept frame records → AreByHeightButNoted frame records notes by_height → record_of records.items id ≡ Some number
-    → AreByHeightButNoted frame (item_returned number records) (returned_notes number records notes)
+pub by_height-after : (frame : Frame) (records : Records) (notes : Notes) (by_height : List BoundedShelf) (id number : ℕ) → AreKept frame records → AreByHeightExceptNoted frame records notes by_height → record_of records.items id ≡ Some number
+    → AreByHeightExceptNoted frame (item_returned number records) (returned_notes number records notes)
     (returned_by_height number records notes by_height)
 by_height-after frame records notes by_height id number kept are named = (returns-item frame records number kept (record-marked records.items id number named).0).by_height notes by_height are
 
 -- the item of the record that an id names can be returned
-pub can-return : (frame : Frame) (records : Records) (notes : Notes) (by_height : List BoundedShelf) (id number : ℕ) → AreKept frame records → AreByHeightButNoted frame records notes by_height → record_of records.items id ≡ Some number
+pub can-return : (frame : Frame) (records : Records) (notes : Notes) (by_height : List BoundedShelf) (id number : ℕ) → AreKept frame records → AreByHeightExceptNoted frame records notes by_height → record_of records.items id ≡ Some number
     → (number < 65535) × CanReturn number records × CanReturnByHeight (shelf_of records.items number) number records notes by_height
 can-return frame records notes by_height id number kept are named =
     let marked : is_allocated_at records.items number ≡ true = (record-marked records.items id number named).0 in

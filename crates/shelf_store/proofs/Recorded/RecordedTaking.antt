@@ -10,7 +10,7 @@ use Rattle.shelf_model.specs.Choice.{Placement, area, rectangle_of_placement, sp
 use Rattle.shelf_notes.specs.Private.Pending.{Notes}
 use Rattle.shelf_records.specs.Private.Kept.{AreKept, Finds, state_of}
 use Rattle.shelf_store.specs.Private.PlacementTaken.{CanTakeFrom, id_of, placement_taken, taken_notes}
-use Rattle.shelf_store.specs.Private.Settling.{AreByHeightButNoted}
+use Rattle.shelf_store.specs.Private.Settling.{AreByHeightExceptNoted}
 use Rattle.shelf_model.specs.Space.{allocated_space}
 use Rattle.shelf_model.specs.State.{AtlasState, items_in_use}
 use Rattle.shelf_model.specs.Taking.{taken}
@@ -53,8 +53,8 @@ found-as_placed frame records size found kept finds =
 
 -- what taking what was found leaves of the shelves by height
 pub found-holds : (frame : Frame) (records : Records) (size : Size) (found : Placement) (notes : Notes) (by_height : List BoundedShelf) → AreKept frame records → Finds frame records size found
-    → AreByHeightButNoted frame records notes by_height
-    → AreByHeightButNoted frame (placement_taken frame.column_width found records) (taken_notes found records notes) by_height
+    → AreByHeightExceptNoted frame records notes by_height
+    → AreByHeightExceptNoted frame (placement_taken frame.column_width found records) (taken_notes found records notes) by_height
 found-holds frame records size found notes by_height kept finds holds =
     let placement : Placement = finds.placement in
     let can : CanTakeFrom frame.column_width found records = can-take frame records size placement found kept finds.placed finds.located in

@@ -28,7 +28,7 @@ use Rattle.shelf_model.specs.State.{Item, Shelf}
 use Rattle.shelf_records.proofs.Spelled.EntryValues.{IsGiven, id_at}
 use Rattle.shelf_records.proofs.Spelled.RecordValues.{SameItem, SameItem-then, item-same}
 use Rattle.shelf_store.proofs.Spelled.SpelledFronts.{IsFront, IsRestItem, front-values, front_given-spelled}
-use Rattle.shelf_store.proofs.Spelled.SpelledLists.{with_records, IsSpelled, EditsItems, items-edited-but}
+use Rattle.shelf_store.proofs.Spelled.SpelledLists.{with_records, IsSpelled, EditsItems, items-edited-except}
 use Rattle.shelf_store.proofs.Spelled.SpelledMerges.{given-values, item_given-spelled, before-other, after-other}
 use Rattle.shelf_store.proofs.Spelled.SpelledSplits.{HasShelfSplit, split-written, read-record}
 use Rattle.shelf_store.proofs.Spelled.SpelledUses.{SameEntries, same-entries}
@@ -54,7 +54,7 @@ given-after {atlas} split_records new around added entry edited loose tall rests
     let last : AtlasRecords = with_records atlas new in
     let entries : List Entry = around.before ++ entry ∷ (added ++ around.after) in
     let are : AllByRecursion (IsEntry split_records) entries = is_split.spelled.linked.entries in
-    let done = items-edited-but new (record around { after = added ++ around.after }) around.unused_items loose entry edited is_split.spelled edits in
+    let done = items-edited-except new (record around { after = added ++ around.after }) around.unused_items loose entry edited is_split.spelled edits in
     let apart = linked-apart (record around { after = added ++ around.after }) entry is_split.spelled.linked in
     let other : (k : ℕ) → 1 ≤ times k (item_numbers around.before) + times k (item_numbers (added ++ around.after)) → SameItem split_records.items new.items k =
     λ k stands. edits.items k (omega (arith, apart.others k (omega (arith, stands)))) in

@@ -22,7 +22,7 @@ use Rattle.shelf_records.specs.AtlasRecords.{AtlasRecords, is_allocated_at, item
 use Rattle.shelf_model.specs.Merging.{both_empty, combined_shelves, merged_shelf}
 use Rattle.shelf_model.specs.Places.{column_height}
 use Rattle.shelf_store.specs.Private.ItemReturned.{CanMergeItem, CanMergeShelves, CanReturn, IsLinkedBack, IsRemaining, Step, emptiness_said, item_merged, item_returned, merged_width, unused_by, shelves_merged}
-use Rattle.shelf_store.specs.Private.Settling.{AreByHeightButNoted, HoldsButNoted}
+use Rattle.shelf_store.specs.Private.Settling.{AreByHeightExceptNoted, HoldsExceptNoted}
 use Rattle.shelf_notes.specs.Private.Pending.{Notes, is_in_use, is_noted, once_where}
 use Rattle.shelf_records.specs.Private.Kept.{AreKept, atlas_of, bare, state_of}
 use Rattle.shelf_records.proofs.Spelled.Witnessed.{HasFlag, IsPlaced}
@@ -105,10 +105,10 @@ pub record ReturnsItem (frame : Frame) (records : Records) (number : ℕ) : Type
   pub kept : AreKept frame (item_returned number records)
   pub state : state_of frame (item_returned number records) ≡ returned (state_of frame records) (id_at records.items number)
   pub counted : items_in_use (state_of frame (item_returned number records)).shelves + unused_by number records ≡ items_in_use (state_of frame records).shelves
-  pub can_by_height : (notes : Notes) (by_height : List BoundedShelf) → AreByHeightButNoted frame records notes by_height → CanReturnByHeight (shelf_of records.items number) number records notes by_height
+  pub can_by_height : (notes : Notes) (by_height : List BoundedShelf) → AreByHeightExceptNoted frame records notes by_height → CanReturnByHeight (shelf_of records.items number) number records notes by_height
   pub by_height :
-      (notes : Notes) (by_height : List BoundedShelf) → AreByHeightButNoted frame records notes by_height
-      → AreByHeightButNoted frame (item_returned number records) (returned_notes number records notes)
+      (notes : Notes) (by_height : List BoundedShelf) → AreByHeightExceptNoted frame records notes by_height
+      → AreByHeightExceptNoted frame (item_returned number records) (returned_notes number records notes)
       (returned_by_height number records notes by_height)
 
 -- records after a return, by the lists that they spell
@@ -118,21 +118,21 @@ record IsReturned (atlas : AtlasRecords) (step : Step) (old : List Entry) (chang
   spelled : map (spelled_shelf (with_records atlas step.records)) lists.entries ≡ state.shelves
   counted : length lists.unused_items ≡ step.made_unused + length unused
   holds :
-      (notes : Notes) (by_height : List BoundedShelf) → HoldsButNoted atlas old notes by_height
-      → HoldsButNoted (with_records atlas step.records) lists.entries (change notes) (raised_unless (is_noted (change notes) shelf) shelf width by_height)
+      (notes : Notes) (by_height : List BoundedShelf) → HoldsExceptNoted atlas old notes by_height
+      → HoldsExceptNoted (with_records atlas step.records) lists.entries (change notes) (raised_unless (is_noted (change notes) shelf) shelf width by_height)
 
 -- what holds of kept records holds of the atlas that they are of, and back
-holds-kept : (frame : Frame) (records : Records) (notes : Notes) (by_height : List BoundedShelf) → AreByHeightButNoted frame records notes by_height → HoldsButNoted (atlas_of frame records) (walked_lists records).entries notes by_height
+holds-kept : (frame : Frame) (records : Records) (notes : Notes) (by_height : List BoundedShelf) → AreByHeightExceptNoted frame records notes by_height → HoldsExceptNoted (atlas_of frame records) (walked_lists records).entries notes by_height
 holds-kept frame records notes by_height holds =
     record { listed = holds.listed; in_use = holds.in_use; order = holds.order; settled = holds.settled; bounds = holds.bounds; known = holds.known; few = holds.few }
 
-holds-walked : (frame : Frame) (records new : Records) (lists : Lists) (notes : Notes) (by_height : List BoundedShelf) → walked_lists new ≡ lists → HoldsButNoted (with_records (atlas_of frame records) new) lists.entries notes by_height → AreByHeightButNoted frame new notes by_height
+holds-walked : (frame : Frame) (records new : Records) (lists : Lists) (notes : Notes) (by_height : List BoundedShelf) → walked_lists new ≡ lists → HoldsExceptNoted (with_records (atlas_of frame records) new) lists.entries notes by_height → AreByHeightExceptNoted frame new notes by_height
 holds-walked frame records new lists notes by_height walked holds =
-    subst (λ (l : Lists). HoldsButNoted (bare frame new) l.entries notes by_height) (sym walked)
+    subst (λ (l : Lists). HoldsExceptNoted (bare frame new) l.entries notes by_height) (sym walked)
     (record { listed = holds.listed; in_use = holds.in_use; order = holds.order; settled = holds.settled; bounds = holds.bounds; known = holds.known; few = holds.few })
 
 -- records that spell lists keep every rule again where what they spell is valid
-kept-again : (frame : Frame) (records new : Records) (id left_unused : ℕ) (change : Notes → Notes) (shelf width : ℕ) → AreKept frame records → SameLengths records new → IsReturned (atlas_of frame records) (record { records = new; made_unused = left_unused }) (walked_lists records).entries change shelf width (returned (state_of frame records) id) (walked_lists records).unused_items → (AreKept frame new × (state_of frame new ≡ returned (state_of frame records) id)) × (items_in_use (state_of frame new).shelves + left_unused ≡ items_in_use (state_of frame records).shelves) × ((notes : Notes) (by_height : List BoundedShelf) → AreByHeightButNoted frame records notes by_height → AreByHeightButNoted frame new (change notes) (raised_unless (is_noted (change notes) shelf) shelf width by_height))
+kept-again : (frame : Frame) (records new : Records) (id left_unused : ℕ) (change : Notes → Notes) (shelf width : ℕ) → AreKept frame records → SameLengths records new → IsReturned (atlas_of frame records) (record { records = new; made_unused = left_unused }) (walked_lists records).entries change shelf width (returned (state_of frame records) id) (walked_lists records).unused_items → (AreKept frame new × (state_of frame new ≡ returned (state_of frame records) id)) × (items_in_use (state_of frame new).shelves + left_unused ≡ items_in_use (state_of frame records).shelves) × ((notes : Notes) (by_height : List BoundedShelf) → AreByHeightExceptNoted frame records notes by_height → AreByHeightExceptNoted frame new (change notes) (raised_unless (is_noted (change notes) shelf) shelf width by_height))
 kept-again frame records new id left_unused change shelf width kept lengths is =
     let lists : Lists = is.lists in
     let linked : IsLinked new lists = is.flagged.spelled.linked in
@@ -195,7 +195,7 @@ record Returns (frame : Frame) (records : Records) (shelf number : ℕ) : Type 0
   remains : IsRemaining shelf number records
   can_shelves : CanMergeShelves shelf (emptiness_said shelf (item_merged shelf number records).records)
   linked : IsLinkedBack shelf (emptiness_said shelf (item_merged shelf number records).records).shelves
-  can_by_height : (notes : Notes) (by_height : List BoundedShelf) → AreByHeightButNoted frame records notes by_height → CanReturnByHeight shelf number records notes by_height
+  can_by_height : (notes : Notes) (by_height : List BoundedShelf) → AreByHeightExceptNoted frame records notes by_height → CanReturnByHeight shelf number records notes by_height
 
 -- an allocated item was returned that stands there
 returned-there : (frame : Frame) (records : Records) (number : ℕ) (has : HasItem number (walked_lists records).entries) → AreKept frame records → is_allocated_at records.items number ≡ true → IsFlagged (atlas_of frame records) (lists_of (has.before ++ entry_of has.shelf (has.front ++ number ∷ has.back) has.free ∷ has.after) (walked_lists records).unused_items (walked_lists records).unused_shelves) → Returns frame records has.shelf number
@@ -227,8 +227,8 @@ returned-there frame records number has kept allocated flagged =
     rw freed.spelled (omega (arith, same, column_height-append column front (new ∷ back), column_height-append column front (old ∷ back), low-valid state (witnesses kept).valid column, ap (column_height column) shelves)) in
     let remaining : IsRemaining shelf number records × (merged_width shelf number records ≡ freed_width records.items number) =
     item-remaining (around_of has.before has.after unused gone) shelf number has.front has.back has.free valid allocated flagged in
-    let start : (notes : Notes) (by_height : List BoundedShelf) → HoldsButNoted atlas (walked_lists records).entries notes by_height → HoldsButNoted atlas (has.before ++ entry ∷ has.after) notes by_height = λ notes by_height holds.
-    subst (λ (es : List Entry). HoldsButNoted atlas es notes by_height) has.whole holds in
+    let start : (notes : Notes) (by_height : List BoundedShelf) → HoldsExceptNoted atlas (walked_lists records).entries notes by_height → HoldsExceptNoted atlas (has.before ++ entry ∷ has.after) notes by_height = λ notes by_height holds.
+    subst (λ (es : List Entry). HoldsExceptNoted atlas es notes by_height) has.whole holds in
     record {
       after =
           record {
@@ -245,7 +245,7 @@ returned-there frame records number has kept allocated flagged =
       linked = shelf-before (around_of has.before has.after freed.left_unused gone) edited freed.flagged;
       can_shelves = can-merge-shelves (around_of has.before has.after freed.left_unused gone) edited low freed.flagged;
       can_by_height = λ notes by_height are.
-          let holds : HoldsButNoted atlas (has.before ++ entry ∷ has.after) notes by_height = start notes by_height (holds-kept frame records notes by_height are) in
+          let holds : HoldsExceptNoted atlas (has.before ++ entry ∷ has.after) notes by_height = start notes by_height (holds-kept frame records notes by_height are) in
           let in_use : 1 ≤ once_where (is_in_use notes shelf) =
           omega (
             arith,

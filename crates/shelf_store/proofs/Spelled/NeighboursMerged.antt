@@ -22,7 +22,7 @@ use Rattle.shelf_store.specs.Private.ItemReturned.{Step, CanMergeShelves, Height
 use Rattle.shelf_store.specs.Private.ReturnedNotes.{CanMergeAllNotes, CanMergeNamedNotes, CanMergeNotes, named_shelf_merged_notes, shelf_merged_notes, shelves_merged_notes}
 use Rattle.shelf_model.specs.State.{Shelf}
 use Rattle.shelf_heights.specs.declared.by_height.BoundedShelf.{BoundedShelf}
-use Rattle.shelf_store.specs.Private.Settling.{HoldsButNoted}
+use Rattle.shelf_store.specs.Private.Settling.{HoldsExceptNoted}
 use Rattle.shelf_notes.specs.Private.Pending.{Notes}
 use Rattle.shelf_model.proofs.Places.Heights.{column_height-merged_at, heights-le}
 use Rattle.shelf_store.proofs.Spelled.EmptinessSaid.{IsFlagged}
@@ -42,7 +42,7 @@ pub record MergesShelves (atlas : AtlasRecords) (step : Step) (change : Notes �
       ≡ merged_before both_empty combined_shelves (length around.before)
       (merged_at both_empty combined_shelves (length around.before) (map (spelled_shelf atlas) (around.before ++ entry ∷ around.after)))
   pub counted : length left_unused ≡ step.made_unused + length around.unused_items
-  pub holds : (notes : Notes) (by_height : List BoundedShelf) → HoldsButNoted atlas (around.before ++ entry ∷ around.after) notes by_height → HoldsButNoted (with_records atlas step.records) entries (change notes) by_height
+  pub holds : (notes : Notes) (by_height : List BoundedShelf) → HoldsExceptNoted atlas (around.before ++ entry ∷ around.after) notes by_height → HoldsExceptNoted (with_records atlas step.records) entries (change notes) by_height
 
 -- one more than the elements of a front
 one-more : {X : Type 0} (front : List X) (x : X) → length (front ++ x ∷ []) ≡ suc (length front)
@@ -101,7 +101,7 @@ merges-shelves {atlas} around entry flagged =
               ∙ ap (λ n. merged_before both_empty combined_shelves n (merged_at both_empty combined_shelves (length (xs ++ last ∷ [])) (map (spelled_shelf atlas) ((xs ++ last ∷ []) ++ entry ∷ around.after)))) (sym (one-more xs last));
           counted = omega (arith, two.counted, merges.counted);
           holds = λ notes by_height holds. two.holds (shelf_merged_notes entry.number atlas.records notes) by_height
-              (subst (λ (es : List Entry). HoldsButNoted middle es (shelf_merged_notes entry.number atlas.records notes) by_height) regrouped (merges.holds notes by_height holds));
+              (subst (λ (es : List Entry). HoldsExceptNoted middle es (shelf_merged_notes entry.number atlas.records notes) by_height) regrouped (merges.holds notes by_height holds));
         })
 
 -- two neighbours, read by their numbers
@@ -206,7 +206,7 @@ in-use-neighbours {atlas} around entry flagged =
     ))
 
 -- what merging a shelf with the next one reads is there
-can-merge-notes : (atlas : AtlasRecords) (before after : List Entry) (entry : Entry) (unused shelves : List ℕ) (notes : Notes) (by_height : List BoundedShelf) → IsFlagged atlas (lists_of (before ++ entry ∷ after) unused shelves) → HoldsButNoted atlas (before ++ entry ∷ after) notes by_height → CanMergeNotes entry.number atlas.records notes
+can-merge-notes : (atlas : AtlasRecords) (before after : List Entry) (entry : Entry) (unused shelves : List ℕ) (notes : Notes) (by_height : List BoundedShelf) → IsFlagged atlas (lists_of (before ++ entry ∷ after) unused shelves) → HoldsExceptNoted atlas (before ++ entry ∷ after) notes by_height → CanMergeNotes entry.number atlas.records notes
 can-merge-notes atlas before [] entry unused shelves notes by_height flagged holds =
     let none : empty_next atlas.records.shelves entry.number ≡ None = ap (empty_named atlas.records.shelves entry.number) (next-link (around_of before [] unused shelves) entry flagged.spelled) in
     record {
@@ -264,12 +264,12 @@ can-merge-notes atlas before (next ∷ after) entry unused shelves notes by_heig
         cc (near.named, some, e)
 
 -- and so are they all when it is merged with its neighbours
-pub can-merge-all-notes : {atlas : AtlasRecords} (around : Around) (entry : Entry) (notes : Notes) (by_height : List BoundedShelf) → IsFlagged atlas (with_entry around entry) → HoldsButNoted atlas (around.before ++ entry ∷ around.after) notes by_height → CanMergeAllNotes entry.number atlas.records notes
+pub can-merge-all-notes : {atlas : AtlasRecords} (around : Around) (entry : Entry) (notes : Notes) (by_height : List BoundedShelf) → IsFlagged atlas (with_entry around entry) → HoldsExceptNoted atlas (around.before ++ entry ∷ around.after) notes by_height → CanMergeAllNotes entry.number atlas.records notes
 can-merge-all-notes {atlas} around entry notes by_height flagged holds =
     record {
       next = can-merge-notes atlas around.before around.after entry around.unused_items around.unused_shelves notes by_height flagged holds;
       previous =
-          by_end (λ (xs : List Entry). HoldsButNoted atlas (xs ++ entry ∷ around.after) notes by_height → MergesShelf atlas one (shelf_merged_notes entry.number atlas.records) (record around { before = xs }) entry → CanMergeNamedNotes link one.records (shelf_merged_notes entry.number atlas.records notes))
+          by_end (λ (xs : List Entry). HoldsExceptNoted atlas (xs ++ entry ∷ around.after) notes by_height → MergesShelf atlas one (shelf_merged_notes entry.number atlas.records) (record around { before = xs }) entry → CanMergeNamedNotes link one.records (shelf_merged_notes entry.number atlas.records notes))
           first some around.before holds (merges-shelf atlas around.before around.after entry around.unused_items around.unused_shelves flagged);
     }
   where
@@ -282,12 +282,12 @@ can-merge-all-notes {atlas} around entry notes by_height flagged holds =
     link : Option ℕ
     link = link_at shelf_chain.previous one.records.shelves entry.number
 
-    first : HoldsButNoted atlas (entry ∷ around.after) notes by_height → MergesShelf atlas one (shelf_merged_notes entry.number atlas.records) (record around { before = [] }) entry → CanMergeNamedNotes link one.records (shelf_merged_notes entry.number atlas.records notes)
+    first : HoldsExceptNoted atlas (entry ∷ around.after) notes by_height → MergesShelf atlas one (shelf_merged_notes entry.number atlas.records) (record around { before = [] }) entry → CanMergeNamedNotes link one.records (shelf_merged_notes entry.number atlas.records notes)
     first holds_ merges n e =
         let none : link ≡ None = previous-link (around_of [] merges.rest merges.left_unused merges.gone) entry merges.flagged.spelled in
         absurd (cc (none, e))
 
-    some : (xs : List Entry) (last : Entry) → HoldsButNoted atlas ((xs ++ last ∷ []) ++ entry ∷ around.after) notes by_height → MergesShelf atlas one (shelf_merged_notes entry.number atlas.records) (record around { before = xs ++ last ∷ [] }) entry → CanMergeNamedNotes link one.records (shelf_merged_notes entry.number atlas.records notes)
+    some : (xs : List Entry) (last : Entry) → HoldsExceptNoted atlas ((xs ++ last ∷ []) ++ entry ∷ around.after) notes by_height → MergesShelf atlas one (shelf_merged_notes entry.number atlas.records) (record around { before = xs ++ last ∷ [] }) entry → CanMergeNamedNotes link one.records (shelf_merged_notes entry.number atlas.records notes)
     some xs last holds_ merges n e =
         let named : link ≡ Some last.number = last-named (around_of xs merges.rest merges.left_unused merges.gone) last entry merges.flagged in
         let same : last.number ≡ n = cc (named, e) in
@@ -295,4 +295,4 @@ can-merge-all-notes {atlas} around entry notes by_height flagged holds =
         subst (λ m. CanMergeNotes m one.records (shelf_merged_notes entry.number atlas.records notes)) same
         (can-merge-notes middle xs (entry ∷ merges.rest) last merges.left_unused merges.gone (shelf_merged_notes entry.number atlas.records notes) by_height
         (subst (λ (es : List Entry). IsFlagged middle (lists_of es merges.left_unused merges.gone)) regrouped merges.flagged)
-        (subst (λ (es : List Entry). HoldsButNoted middle es (shelf_merged_notes entry.number atlas.records notes) by_height) regrouped (merges.holds notes by_height holds_)))
+        (subst (λ (es : List Entry). HoldsExceptNoted middle es (shelf_merged_notes entry.number atlas.records notes) by_height) regrouped (merges.holds notes by_height holds_)))

@@ -26,7 +26,7 @@ use Rattle.shelf_records.proofs.Spelled.Witnessed.{HasFlag, IsPlaced}
 use Rattle.shelf_store.specs.Private.ReturnedNotes.{next_absorbed_notes, shelf_merged_notes, shelf_of_item_absorbed_notes}
 use Rattle.shelf_model.specs.State.{Shelf, is_empty, is_free, is_one_free}
 use Rattle.shelf_heights.specs.declared.by_height.BoundedShelf.{BoundedShelf}
-use Rattle.shelf_store.specs.Private.Settling.{HoldsButNoted}
+use Rattle.shelf_store.specs.Private.Settling.{HoldsExceptNoted}
 use Rattle.shelf_notes.specs.Private.Pending.{Notes}
 use Rattle.shelf_store.proofs.ByHeight.MergedByHeight.{absorbed-holds}
 use Rattle.shelf_store.proofs.Spelled.EmptinessSaid.{IsFlagged, flags-same, shelf-is}
@@ -61,7 +61,7 @@ pub record MergesShelf (atlas : AtlasRecords) (step : Step) (change : Notes → 
       map (spelled_shelf (with_records atlas step.records)) (around.before ++ entry ∷ rest)
       ≡ merged_at both_empty combined_shelves (length around.before) (map (spelled_shelf atlas) (around.before ++ entry ∷ around.after))
   pub counted : length left_unused ≡ step.made_unused + length around.unused_items
-  pub holds : (notes : Notes) (by_height : List BoundedShelf) → HoldsButNoted atlas (around.before ++ entry ∷ around.after) notes by_height → HoldsButNoted (with_records atlas step.records) (around.before ++ entry ∷ rest) (change notes) by_height
+  pub holds : (notes : Notes) (by_height : List BoundedShelf) → HoldsExceptNoted atlas (around.before ++ entry ∷ around.after) notes by_height → HoldsExceptNoted (with_records atlas step.records) (around.before ++ entry ∷ rest) (change notes) by_height
 
 -- nothing is merged
 shelf-kept : {atlas : AtlasRecords} (around : Around) (entry : Entry) → merged_at both_empty combined_shelves (length around.before) (map (spelled_shelf atlas) around.before ++ map (spelled_shelf atlas) (entry ∷ around.after)) ≡ map (spelled_shelf atlas) around.before ++ map (spelled_shelf atlas) (entry ∷ around.after) → IsFlagged atlas (with_entry around entry) → MergesShelf atlas (record { records = atlas.records; made_unused = 0 }) (λ notes. notes) around entry

@@ -24,7 +24,7 @@ use Rattle.shelf_model.specs.State.{Item}
 use Rattle.shelf_store.proofs.Spelled.AbsorbedItems.{frees-keep_values, items-keep_values}
 use Rattle.shelf_records.proofs.Spelled.EntryValues.{id_at, widths, widths-same, LieFrom-front, LieFrom-back, LieFrom-append, free_count, free_count-append, free_count-free, free_count-allocated, free_count-same}
 use Rattle.shelf_records.proofs.Spelled.RecordValues.{ItemValues, item_values, shelf_values, values-same, SameItem, SameShelf, SameItem-then, item-same, items-same, shelves-same, owners-same, LieFrom-same}
-use Rattle.shelf_store.proofs.Spelled.SpelledLists.{IsSpelledBut, EditsItems}
+use Rattle.shelf_store.proofs.Spelled.SpelledLists.{IsSpelledExcept, EditsItems}
 use Rattle.shelf_store.proofs.Spelled.SpelledMerges.{unmarked-same, free-first, not-member, before-other, after-other}
 
 -- an item with its width changed and marked allocated
@@ -94,7 +94,7 @@ front-places items new here front back shelf number rest width apart same_front 
     LieFrom-append new here front (number ∷ rest ∷ back) (LieFrom-same items new here front same_front (LieFrom-front items here front (number ∷ back) lies)) tail
 
 -- the records after the front of a free item was given
-pub front_given-spelled : {atlas : AtlasRecords} (around : Around) (shelf number rest width : ℕ) (front back free_front free_back : List ℕ) → is_allocated_at atlas.records.items number ≡ false → IsRestItem atlas.records.items shelf number rest width → IsSpelledBut atlas (with_entry around (entry_of shelf (front ++ number ∷ back) (free_front ++ number ∷ free_back))) (rest ∷ []) [] → EditsItems atlas (front_given shelf number rest width atlas.records) around around.unused_items (entry_of shelf (front ++ number ∷ back) (free_front ++ number ∷ free_back)) (entry_of shelf (front ++ number ∷ rest ∷ back) (free_front ++ rest ∷ free_back))
+pub front_given-spelled : {atlas : AtlasRecords} (around : Around) (shelf number rest width : ℕ) (front back free_front free_back : List ℕ) → is_allocated_at atlas.records.items number ≡ false → IsRestItem atlas.records.items shelf number rest width → IsSpelledExcept atlas (with_entry around (entry_of shelf (front ++ number ∷ back) (free_front ++ number ∷ free_back))) (rest ∷ []) [] → EditsItems atlas (front_given shelf number rest width atlas.records) around around.unused_items (entry_of shelf (front ++ number ∷ back) (free_front ++ number ∷ free_back)) (entry_of shelf (front ++ number ∷ rest ∷ back) (free_front ++ rest ∷ free_back))
 front_given-spelled {atlas} around shelf number rest width front back free_front free_back is_free is_rest spelled =
     let items : List LinkedItem = atlas.records.items in
     let records : Records = front_given shelf number rest width atlas.records in

@@ -40,7 +40,7 @@ placed-same atlas records entry along items placed =
 
 -- records that spell lists, while an edit goes on, but for those that stand in no list: no more is known of the state
 -- that they spell
-pub record IsSpelledBut (atlas : AtlasRecords) (lists : Lists) (loose_items loose_shelves : List ℕ) : Type 0 where
+pub record IsSpelledExcept (atlas : AtlasRecords) (lists : Lists) (loose_items loose_shelves : List ℕ) : Type 0 where
   pub linked : IsLinkedExcept atlas.records lists loose_items loose_shelves
   pub placed : AllByRecursion (IsPlaced atlas) lists.entries
   pub stacked : AreStacked atlas.records.shelves atlas.frame.column_width [] (shelf_numbers lists.entries)
@@ -48,7 +48,7 @@ pub record IsSpelledBut (atlas : AtlasRecords) (lists : Lists) (loose_items loos
 
 -- records that spell lists, while an edit goes on, each in one of them
 abbrev pub IsSpelled : AtlasRecords → Lists → Type 0
-IsSpelled atlas lists = IsSpelledBut atlas lists [] []
+IsSpelled atlas lists = IsSpelledExcept atlas lists [] []
 
 -- an edit of the items of one shelf: what the records of other items and of all shelves say stays
 pub record EditsItems (atlas : AtlasRecords) (records : Records) (around : Around) (unused' : List ℕ) (entry edited : Entry) : Type 0 where
@@ -72,8 +72,8 @@ untouched atlas records (entry ∷ entries) shelf items are placed =
 
 -- the records after an edit of the items of one shelf that puts all loose records into it spell the lists with that
 -- shelf edited, and the same other shelves
-pub items-edited-but : {atlas : AtlasRecords} (records : Records) (around : Around) (unused' loose : List ℕ) (entry edited : Entry) → IsSpelledBut atlas (with_entry around entry) loose [] → EditsItems atlas records around unused' entry edited → IsSpelled (with_records atlas records) (with_entry (record around { unused_items = unused' }) edited) × (map (spelled_shelf (with_records atlas records)) (around.before ++ edited ∷ around.after) ≡ map (spelled_shelf atlas) around.before ++ spelled_shelf (with_records atlas records) edited ∷ map (spelled_shelf atlas) around.after)
-items-edited-but {atlas} records around unused' loose entry edited spelled edits =
+pub items-edited-except : {atlas : AtlasRecords} (records : Records) (around : Around) (unused' loose : List ℕ) (entry edited : Entry) → IsSpelledExcept atlas (with_entry around entry) loose [] → EditsItems atlas records around unused' entry edited → IsSpelled (with_records atlas records) (with_entry (record around { unused_items = unused' }) edited) × (map (spelled_shelf (with_records atlas records)) (around.before ++ edited ∷ around.after) ≡ map (spelled_shelf atlas) around.before ++ spelled_shelf (with_records atlas records) edited ∷ map (spelled_shelf atlas) around.after)
+items-edited-except {atlas} records around unused' loose entry edited spelled edits =
     let new : AtlasRecords = with_records atlas records in
     let apart = linked-apart around entry spelled.linked in
     let front = untouched atlas records around.before edits.shelf
@@ -99,4 +99,4 @@ items-edited-but {atlas} records around unused' loose entry edited spelled edits
 -- the same of an edit that puts no other records into it
 pub items-edited : {atlas : AtlasRecords} (records : Records) (around : Around) (unused' : List ℕ) (entry edited : Entry) → IsSpelled atlas (with_entry around entry) → EditsItems atlas records around unused' entry edited → IsSpelled (with_records atlas records) (with_entry (record around { unused_items = unused' }) edited) × (map (spelled_shelf (with_records atlas records)) (around.before ++ edited ∷ around.after) ≡ map (spelled_shelf atlas) around.before ++ spelled_shelf (with_records atlas records) edited ∷ map (spelled_shelf atlas) around.after)
 items-edited {atlas} records around unused' entry edited spelled edits =
-    items-edited-but records around unused' [] entry edited spelled edits
+    items-edited-except records around unused' [] entry edited spelled edits

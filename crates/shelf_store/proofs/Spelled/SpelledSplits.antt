@@ -29,7 +29,7 @@ use Rattle.shelf_store.specs.Private.PlacementTaken.{free_item, item_record, res
 use Rattle.shelf_model.specs.State.{Item, Shelf, empty_shelf, is_empty}
 use Rattle.shelf_records.proofs.Spelled.EntryValues.{free_count-free}
 use Rattle.shelf_records.proofs.Spelled.RecordValues.{shelf_values, SameItem, SameShelf, item-same, shelves-same, shelf-other, SameShelf-then}
-use Rattle.shelf_store.proofs.Spelled.SpelledLists.{with_records, IsSpelledBut, placed-same}
+use Rattle.shelf_store.proofs.Spelled.SpelledLists.{with_records, IsSpelledExcept, placed-same}
 use Rattle.shelf_store.proofs.Spelled.SpelledMerges.{unmarked-same}
 use Rattle.shelf_store.proofs.Spelled.SpelledShelves.{shelves-keep_values}
 use Rattle.shelf_store.proofs.Spelled.SpelledUses.{IsUsed, SameEntries, same-entries, same-shelf, stranger}
@@ -60,7 +60,7 @@ shelf-parts column column' height height' items items' free free' a b c d = rw (
 
 -- records of which a shelf was split where that was due: it is this tall, and these shelves stand after it
 pub record HasShelfSplit (atlas : AtlasRecords) (new : Records) (around : Around) (added : List Entry) (entry : Entry) (loose : List ℕ) (tall : ℕ) (pieces : List Shelf) : Type 0 where
-  pub spelled : IsSpelledBut (with_records atlas new) (lists_of (around.before ++ entry ∷ (added ++ around.after)) around.unused_items around.unused_shelves) loose []
+  pub spelled : IsSpelledExcept (with_records atlas new) (lists_of (around.before ++ entry ∷ (added ++ around.after)) around.unused_items around.unused_shelves) loose []
   pub items : (k : ℕ) → 1 ≤ times k (item_numbers (around.before ++ entry ∷ around.after)) → slice_get new.items k ≡ slice_get atlas.records.items k
   pub others : (k : ℕ) → 1 ≤ times k (shelf_numbers around.before) + times k (shelf_numbers around.after) → SameShelf atlas.records.shelves new.shelves k
   pub along : along_of new.shelves entry.number ≡ along_of atlas.records.shelves entry.number
@@ -156,7 +156,7 @@ split-shelf {atlas} used around entry rest rest_item height loose tall is_used =
     let item : LinkedItem = free_item whole.x cw rest (item_record used.items rest_item).generation in
     let added : Entry = entry_of rest (rest_item ∷ []) (rest_item ∷ []) in
     let new : Records = shelf_split number rest rest_item height rest_record item used in
-    let spelled : IsSpelledBut middle (lists_of entries around.unused_items around.unused_shelves) (rest_item ∷ loose) (rest ∷ []) = is_used.spelled in
+    let spelled : IsSpelledExcept middle (lists_of entries around.unused_items around.unused_shelves) (rest_item ∷ loose) (rest ∷ []) = is_used.spelled in
     let free_shelf : IsLoose (length used.shelves) (shelf_numbers entries) around.unused_shelves rest = loose-of (length used.shelves) (shelf_numbers entries) around.unused_shelves [] rest spelled.linked.shelves_once in
     let free : IsLoose (length used.items) (item_numbers entries) around.unused_items rest_item = loose-of (length used.items) (item_numbers entries) around.unused_items loose rest_item spelled.linked.items_once in
     let apart = linked-apart around entry spelled.linked in
@@ -233,7 +233,7 @@ split-written {atlas} new around added entry loose tall pieces rest item is_spli
     let middle : AtlasRecords = with_records atlas new in
     let last : Records = item_changed rest (λ _. item) new in
     let entries : List Entry = around.before ++ entry ∷ (added ++ around.after) in
-    let spelled : IsSpelledBut middle (lists_of entries around.unused_items around.unused_shelves) (rest ∷ loose) [] = is_split.spelled in
+    let spelled : IsSpelledExcept middle (lists_of entries around.unused_items around.unused_shelves) (rest ∷ loose) [] = is_split.spelled in
     let free : IsLoose (length new.items) (item_numbers entries) around.unused_items rest = loose-of (length new.items) (item_numbers entries) around.unused_items loose rest spelled.linked.items_once in
     let item_same : (k : ℕ) → rest ≢ k → slice_get last.items k ≡ slice_get new.items k = λ k other.
     get-changed_by-other (λ _. item) new.items (Some rest) k (λ e. let same : rest ≡ k = cc in other same) in

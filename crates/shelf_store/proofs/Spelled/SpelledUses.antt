@@ -16,7 +16,7 @@ use Rattle.shelf_records.specs.AtlasRecords.{AtlasRecords, is_allocated_at, spel
 use Rattle.shelf_records.proofs.Spelled.Witnessed.{HasFlag, IsPlaced}
 use Rattle.shelf_model.specs.State.{Shelf, is_empty}
 use Rattle.shelf_records.proofs.Spelled.RecordValues.{SameItem, SameShelf, item-same, SameShelf-then}
-use Rattle.shelf_store.proofs.Spelled.SpelledLists.{with_records, IsSpelledBut, shelf-same, placed-same}
+use Rattle.shelf_store.proofs.Spelled.SpelledLists.{with_records, IsSpelledExcept, shelf-same, placed-same}
 use Rattle.shelf_store.proofs.Spelled.StackedEdits.{stacked-same}
 use Rattle.shelf_store.proofs.Spelled.SpelledMerges.{unmarked-same}
 
@@ -81,7 +81,7 @@ stranger n k xs absent stands e = let again : 1 ≤ times n xs = rw e stands in 
 -- records of which some were put to use: the shelves and their items say the same; there are no fewer items, and as
 -- many where some are still unused
 pub record IsUsed (atlas : AtlasRecords) (new : Records) (lists : Lists) (loose_items loose_shelves : List ℕ) : Type 0 where
-  pub spelled : IsSpelledBut (with_records atlas new) lists loose_items loose_shelves
+  pub spelled : IsSpelledExcept (with_records atlas new) lists loose_items loose_shelves
   pub items : (k : ℕ) → 1 ≤ times k (item_numbers lists.entries) → slice_get new.items k ≡ slice_get atlas.records.items k
   pub shelves : (k : ℕ) → SameShelf atlas.records.shelves new.shelves k
   pub more : length atlas.records.items ≤ length new.items

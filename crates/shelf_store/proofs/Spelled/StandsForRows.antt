@@ -1,12 +1,13 @@
 -- The records of a small atlas stand for its state, by computing.
 use Rattle.etagere_base.specs.declared.faults.RestoreFault.TheVariants.{Frame, Counts, Link, Shelves, Runs, Neighbours, FreeList, Sharing, Unused, Space, Memory}
-use Rattle.std.proofs.Common.{◌≡◌, ℕ, true, false, None, Some, [], ◌∷◌, refl, pos, arith, lit<}
+use Rattle.std.proofs.Common.{◌≡◌, ℕ, false, None, Some, [], ◌∷◌, refl, pos, arith, lit<}
 use Rattle.std.specs.Prelude.{nat_lt, if◌then◌else◌}
 use Rattle.etagere_base.specs.Lists.{times}
 use Rattle.etagere_base.specs.declared.frames.Frame as frames
 use Rattle.shelf_records.specs.AtlasRecords.{AtlasRecords, spelled_state, walked_entries}
 use Rattle.shelf_records.specs.StandsFor.{StandsFor}
 use Rattle.shelf_model.specs.State.{AtlasState}
+use Rattle.shelf_records.proofs.RecordRows.{two_items}
 
 -- an atlas of 20 by 8
 abbrev small_frame : frames.Frame
@@ -26,46 +27,7 @@ abbrev small_records : AtlasRecords
 small_records =
     record {
       frame = small_frame;
-      records =
-          record {
-            shelves =
-                record {
-                  x = 0;
-                  y = 0;
-                  height = 8;
-                  prev = None;
-                  next = None;
-                  first_item = Some 0;
-                  first_unallocated = Some 1;
-                  is_empty = false;
-                } ∷ [];
-            items =
-                record {
-                  x = 0;
-                  width = 8;
-                  prev = None;
-                  next = Some 1;
-                  prev_unallocated = None;
-                  next_unallocated = None;
-                  shelf = 0;
-                  allocated = true;
-                  generation = 1;
-                }
-                ∷ record {
-                  x = 8;
-                  width = 12;
-                  prev = Some 0;
-                  next = None;
-                  prev_unallocated = None;
-                  next_unallocated = None;
-                  shelf = 0;
-                  allocated = false;
-                  generation = 1;
-                } ∷ [];
-            first_shelf = Some 0;
-            unused_items = None;
-            unused_shelves = None;
-          };
+      records = two_items;
       allocated_space = pos 64;
     }
 

@@ -58,7 +58,7 @@ bounded_anew frame records shelf =
 
 -- the list has the shelves in use in the order of their heights and of the chain, each with a bound, but for those that
 -- have changed since it followed them
-pub record HoldsButNoted (atlas : AtlasRecords) (entries : List Entry) (notes : Notes) (by_height : List BoundedShelf)
+pub record HoldsExceptNoted (atlas : AtlasRecords) (entries : List Entry) (notes : Notes) (by_height : List BoundedShelf)
     : Type 0 where
   pub listed : (k : ℕ) → times k (numbers_by_height by_height) ≡ once_where (is_listed notes k)
   pub in_use : (k : ℕ) → times k (shelf_numbers entries) ≡ once_where (is_in_use notes k)
@@ -69,15 +69,15 @@ pub record HoldsButNoted (atlas : AtlasRecords) (entries : List Entry) (notes : 
   pub few : length atlas.records.shelves ≤ no_link
 
 -- the same of the shelves in use of these records
-abbrev pub AreByHeightButNoted : Frame → Records → Notes → List BoundedShelf → Type 0
-AreByHeightButNoted frame records notes by_height =
-    HoldsButNoted (bare frame records) (walked_lists records).entries notes by_height
+abbrev pub AreByHeightExceptNoted : Frame → Records → Notes → List BoundedShelf → Type 0
+AreByHeightExceptNoted frame records notes by_height =
+    HoldsExceptNoted (bare frame records) (walked_lists records).entries notes by_height
 
 -- a list has the shelves in use of kept records by height, but for those that have changed, whatever their frame
-pub record IsListButNoted (records : Records) (notes : Notes) (list : List BoundedShelf) : Type 0 where
+pub record IsListExceptNoted (records : Records) (notes : Notes) (list : List BoundedShelf) : Type 0 where
   pub frame : Frame
   pub kept : AreKept frame records
-  pub by_height : AreByHeightButNoted frame records notes list
+  pub by_height : AreByHeightExceptNoted frame records notes list
 
 -- none has changed since the list followed the records: the shelves in use are listed, where their records put them
 pub record AreSettled (records : Records) (notes : Notes) : Type 0 where

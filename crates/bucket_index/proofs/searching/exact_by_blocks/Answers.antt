@@ -1,14 +1,14 @@
 use Rattle.std.proofs.Common.{◌≡◌, ℕ, ◌+◌, false, Option, None, Some, drop, refl, ap, sym, ◌∙◌, arith}
 use Rattle.std.specs.Prelude.{is_some}
 use Rattle.bucketed_model.specs.Picking.{or_else}
-use Rattle.bucket_index.specs.declared.searching.Found.{Found}
+use Rattle.bucket_index.specs.declared.searching.FoundBucket.{FoundBucket}
 use Rattle.bucket_index.specs.Private.Searching.{exact_from}
 use Rattle.bucket_index.proofs.PassedShelves.{exact-behind}
 use Rattle.bucket_index.proofs.searching.exact_by_blocks.Goals as goal
 use Rattle.bucket_index.proofs.searching.exact_by_blocks.Goals.{then-at-behind, else-at-behind+else-is_some}
 
 -- where nothing was found what comes after counts
-none-first : (found later : Option Found) → is_some found ≡ false → or_else found later ≡ later
+none-first : (found later : Option FoundBucket) → is_some found ≡ false → or_else found later ≡ later
 none-first None later h = refl
 none-first (Some found) later h = absurd (cc)
 

@@ -22,7 +22,7 @@ returns-then-widest-most c =
       c.requires.most,
       c.if-widest-most.true,
       c.loop-step.invariant,
-      c.wider-widest.ensures,
+      c.max-widest.ensures,
       c.record_room.ensures,
       widest-at c.args.buckets.now (most_buckets - c.loop-step._step) (most_buckets - (c.loop-step._step + 1)) c.from-number.result c.loop-step.at (Some c.index-buckets-number.result)
           (named c.from-number.result c.bits.result c.loop-step.at c.from-number.ensures c.bits.ensures.link (omega (arith, c.end_of_linked-end.ensures))) (omega arith) (slice_get_read c.args.buckets.now (length c.args.buckets.now) c.from-number.result c.index-buckets-number.result refl (omega arith) c.index-buckets-number.is),
@@ -33,7 +33,7 @@ loop-step-preserved c =
     omega (
       arith,
       c.loop-step.invariant,
-      c.wider-widest.ensures,
+      c.max-widest.ensures,
       c.record_room.ensures,
       widest-at c.args.buckets.now (most_buckets - c.loop-step._step) (most_buckets - (c.loop-step._step + 1)) c.from-number.result c.loop-step.at (Some c.index-buckets-number.result)
           (named c.from-number.result c.bits.result c.loop-step.at c.from-number.ensures c.bits.ensures.link (omega (arith, c.end_of_linked-end.ensures))) (omega arith) (slice_get_read c.args.buckets.now (length c.args.buckets.now) c.from-number.result c.index-buckets-number.result refl (omega arith) c.index-buckets-number.is),

@@ -43,7 +43,7 @@ loop-step-preserved c =
     let own = widest-at buckets left (left - 1) number c.ahead-ahead.result.at (Some bucket) (sym c.number.ensures.value ∙ c.in-Some.is) (omega (arith, c.if-ahead-eq0.false)) here in
     let is = c.ahead-ahead.ensures buckets c.requires.spans in
     record {
-      rest = omega (arith, (passed c.loop-step.widest c.from.result c.loop-step.left c.args.buckets.now c.loop-step.at c.args.first c.ahead-ahead.result c.from.ensures (c.ahead-ahead.ensures c.args.buckets.now c.requires.spans) c.loop-step.invariant.rest), own, c.wider-widest.ensures, c.record_room.ensures);
+      rest = omega (arith, (passed c.loop-step.widest c.from.result c.loop-step.left c.args.buckets.now c.loop-step.at c.args.first c.ahead-ahead.result c.from.ensures (c.ahead-ahead.ensures c.args.buckets.now c.requires.spans) c.loop-step.invariant.rest), own, c.max-widest.ensures, c.record_room.ensures);
       few = omega (arith, c.loop-step.invariant.few, is.passed, c.if-ahead-eq0.false);
     }
 

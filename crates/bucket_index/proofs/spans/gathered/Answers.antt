@@ -31,6 +31,6 @@ loop-part-preserved c buckets are known =
     let same : whole_of scale number ≡ whole_of scale c.args.first =
     ap (λ (p : ℕ). p / 8) (sym c.block_of-part.ensures.value) ∙ c.if-part-whole.false ∙ ap (λ (p : ℕ). p / 8) c.block_of-whole.ensures.value in
     let next_known = are (numbered number) next (ap (slice_get c.args.parts.now) (sym c.block_of-part.ensures.value) ∙ at) begun in
-    rw c.wider-widest.ensures
+    rw c.max-widest.ensures
     (span-joined (whole_of scale) (whole_of scale c.args.first) c.span_of-begin.result.first c.loop-part.steps c.loop-part.behind c.loop-part.widest next buckets ends (c.loop-part.invariant buckets are known)
     (known-block (whole_of scale) (whole_of scale number) (whole_of scale c.args.first) next buckets same (λ _. span-part scale number next buckets next_known) begun))

@@ -13,7 +13,7 @@ loop-step-preserved c =
     let here : slice_get buckets number ≡ Some bucket = slice_get_read buckets (length buckets) number bucket refl (omega arith) c.index-buckets-number.is in
     let same : block_of 1 number ≡ block_of 1 c.args.first = omega (arith, c.block_of.ensures.value, c.block_of-block.ensures.value, c.if-block_of-block.false) in
     record {
-      lead = rw (c.wider-widest.ensures, c.record_room.ensures)
+      lead = rw (c.max-widest.ensures, c.record_room.ensures)
           (span-longer (block_of 1) (block_of 1 c.args.first) number c.loop-step.behind c.loop-step.widest c.args.first c.loop-step.steps buckets bucket here same (sym c.number.ensures.value ∙ c.in-Some.is) c.loop-step.invariant.lead);
       some = omega (arith, c.loop-step.invariant.some);
       few = omega (arith, c.loop-step.invariant.few);

@@ -12,7 +12,7 @@ returns-in_err-letter_of-in-None g c =
     let one : words_of line ≡ line ∷ [] = search rules in
     let other : length line ≢ 1 = search rules in
     let none : c.from_residual-in_err-letter_of-in-None.result ≡ None = search rules in
-    none ∙ sym (ap (command_of g.C.Spelled.cleared g.C.Spelled.meaning) one ∙ c.lettered.ensures.letter line [] other)
+    none ∙ sym (ap (command_of g.C.LetteredCommand.cleared g.C.LetteredCommand.meaning) one ∙ c.lettered.ensures.letter line [] other)
 
 pub returns-in_ok-letter_of-in-None : goal.returns-in_ok-letter_of-in-None
 returns-in_ok-letter_of-in-None g c =
@@ -20,4 +20,4 @@ returns-in_ok-letter_of-in-None g c =
     let letter = c.in_ok-letter_of-in-None.field-0 in
     let one : words_of line ≡ line ∷ [] = search rules in
     let is : line ≡ letter ∷ [] = search rules in
-    sym (ap (command_of g.C.Spelled.cleared g.C.Spelled.meaning) (one ∙ ap (λ name. name ∷ []) is) ∙ c.alone.ensures [] refl)
+    sym (ap (command_of g.C.LetteredCommand.cleared g.C.LetteredCommand.meaning) (one ∙ ap (λ name. name ∷ []) is) ∙ c.alone.ensures [] refl)

@@ -4,7 +4,7 @@ use Rattle.shelf_heights.specs.Private.ByHeight.{AreInOrder, put_in, taken_out}
 use Rattle.shelf_notes.specs.Private.Pending.{Notes, listed_as}
 use Rattle.shelf_heights.specs.declared.by_height.BoundedShelf.{BoundedShelf}
 use Rattle.shelf_store.proofs.ByHeight.SettledShelves.{in_use-met, in_use-there, others-order, own-within, put-bounded, put-holds, put-as_listed, put-settled}
-use Rattle.shelf_store.specs.Private.Settling.{AreByHeightButNoted, BeginAsListed, IsBounded, IsSettled}
+use Rattle.shelf_store.specs.Private.Settling.{AreByHeightExceptNoted, BeginAsListed, IsBounded, IsSettled}
 use Rattle.shelf_store.proofs.settling.move_listed.Goals as goal
 use Rattle.shelf_store.proofs.settling.move_listed.Goals.{After-kept-2, After-settle, After-shelves}
 
@@ -48,7 +48,7 @@ after c = listed_as c.args.shelf (read c) c.args.pending.now.notes
 record Follows (c : After-kept-2) : Type 0 where
   order : AreInOrder (after c).kept (taken_out c.args.shelf c.args.by_height.now.items)
   within : c.args.shelf < length (after c).kept
-  holds : AreByHeightButNoted c.args.frame.now c.args.records.now (after c) (put_in (after c).kept (one c) (taken_out c.args.shelf c.args.by_height.now.items))
+  holds : AreByHeightExceptNoted c.args.frame.now c.args.records.now (after c) (put_in (after c).kept (one c) (taken_out c.args.shelf c.args.by_height.now.items))
   bounded : IsBounded c.args.frame.now c.args.records.now c.args.shelf (put_in (after c).kept (one c) (taken_out c.args.shelf c.args.by_height.now.items))
   as_listed : BeginAsListed c.args.records.now.shelves (after c)
   settled : IsSettled c.args.records.now.shelves (after c) c.args.shelf
@@ -100,7 +100,7 @@ returns-clause-moved c =
 pub returns-clause-by_height : goal.returns-clause-by_height
 returns-clause-by_height c =
     let at = goal.at.returns-clause-by_height c in
-    subst (AreByHeightButNoted c.args.frame.now c.args.records.now c.list.new.self.notes) (sym (settled at.After-settle))
+    subst (AreByHeightExceptNoted c.args.frame.now c.args.records.now c.list.new.self.notes) (sym (settled at.After-settle))
     (rw c.list.ensures.notes (followed at.After-kept-2).holds)
 
 pub returns-clause-bounded : goal.returns-clause-bounded

@@ -4,7 +4,7 @@ use Rattle.shelf_heights.specs.Private.ByHeight.{AreInOrder, put_in, taken_out}
 use Rattle.shelf_notes.specs.Private.Pending.{Notes, listed_as, once_where}
 use Rattle.shelf_heights.specs.declared.by_height.BoundedShelf.{BoundedShelf}
 use Rattle.shelf_store.proofs.ByHeight.SettledShelves.{absent-stays, in_use-met, in_use-there, listed-stands, others-order, own-within, put-bounded, put-holds, put-as_listed, put-room, put-settled}
-use Rattle.shelf_store.specs.Private.Settling.{AreByHeightButNoted, IsBounded}
+use Rattle.shelf_store.specs.Private.Settling.{AreByHeightExceptNoted, IsBounded}
 use Rattle.shelf_store.proofs.settling.put_in_new.Goals as goal
 use Rattle.shelf_store.proofs.settling.put_in_new.Goals.{After-kept, After-shelves}
 
@@ -50,7 +50,7 @@ absent c =
 record Follows (c : After-kept) : Type 0 where
   order : AreInOrder (after c).kept c.args.by_height.now.items
   within : c.args.shelf < length (after c).kept
-  holds : AreByHeightButNoted c.args.frame.now c.args.records.now (after c) (put_in (after c).kept (one c) c.args.by_height.now.items)
+  holds : AreByHeightExceptNoted c.args.frame.now c.args.records.now (after c) (put_in (after c).kept (one c) c.args.by_height.now.items)
   bounded : IsBounded c.args.frame.now c.args.records.now c.args.shelf (put_in (after c).kept (one c) c.args.by_height.now.items)
 
 followed : (c : After-kept) → Follows c
@@ -66,7 +66,7 @@ followed c =
           (one c) read c.bounded_by_items-one.ensures.shelf c.requires.in_use c.requires.as_listed c.list.ensures.entries (is_read c));
       within = own-within frame records notes by_height c.requires.kept c.requires.by_height c.args.shelf c.requires.known c.requires.noted
           (one c) read c.bounded_by_items-one.ensures.shelf c.requires.in_use c.requires.as_listed c.list.ensures.entries (is_read c);
-      holds = subst (λ (xs : List BoundedShelf). AreByHeightButNoted frame records (after c) (put_in (after c).kept (one c) xs)) (absent c)
+      holds = subst (λ (xs : List BoundedShelf). AreByHeightExceptNoted frame records (after c) (put_in (after c).kept (one c) xs)) (absent c)
           (put-holds frame records notes by_height c.requires.kept c.requires.by_height c.args.shelf c.requires.known c.requires.noted
           (one c) read c.bounded_by_items-one.ensures.shelf c.requires.in_use c.requires.as_listed c.list.ensures.entries (is_read c));
       bounded = subst (λ (xs : List BoundedShelf). IsBounded frame records c.args.shelf (put_in (after c).kept (one c) xs)) (absent c)

@@ -1,11 +1,11 @@
 use Rattle.std.proofs.Common.{◌≡◌, ◌≤◌, length}
-use Rattle.shelf_store.specs.Private.Settling.{AreByHeightButNoted, BeginAsListed}
+use Rattle.shelf_store.specs.Private.Settling.{AreByHeightExceptNoted, BeginAsListed}
 use Rattle.shelf_store.proofs.settling.settle_each.Given as goal
 
 -- the list holds but for those that have changed, and those that it has begin as listed
 abbrev pub invariant-loop-by_height : goal.invariant-loop-by_height
 invariant-loop-by_height l = record {
-  holds : AreByHeightButNoted l.frame l.records l.pending.notes l.by_height.items;
+  holds : AreByHeightExceptNoted l.frame l.records l.pending.notes l.by_height.items;
   as_listed : BeginAsListed l.records.shelves l.pending.notes;
   room : length l.records.shelves ≤ l.by_height.capacity;
   capacity : l.fn.by_height.capacity ≤ l.by_height.capacity;

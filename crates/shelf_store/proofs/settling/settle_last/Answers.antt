@@ -1,12 +1,12 @@
 use Rattle.std.proofs.Common.{◌-◌, ◌<◌, ℕ, List, ap, arith, get_or, length, sym, ◌∙◌}
 use Rattle.shelf_notes.specs.Private.Pending.{Notes}
 use Rattle.shelf_store.proofs.ByHeight.SettledShelves.{popped-holds}
-use Rattle.shelf_store.specs.Private.Settling.{AreByHeightButNoted, BeginAsListed}
+use Rattle.shelf_store.specs.Private.Settling.{AreByHeightExceptNoted, BeginAsListed}
 use Rattle.shelf_store.proofs.settling.settle_last.Goals as goal
 use Rattle.shelf_store.proofs.settling.settle_last.Goals.{After-pop}
 
 -- what holds once the shelf is noted no more
-popped : (c : After-pop) → AreByHeightButNoted c.args.frame.now c.args.records.now c.pop.new.self.notes c.settle_one.new.by_height.items × BeginAsListed c.args.records.now.shelves c.pop.new.self.notes
+popped : (c : After-pop) → AreByHeightExceptNoted c.args.frame.now c.args.records.now c.pop.new.self.notes c.settle_one.new.by_height.items × BeginAsListed c.args.records.now.shelves c.pop.new.self.notes
 popped c =
     let notes : Notes = c.settle_one.new.pending.notes in
     let same = c.settle_one.ensures.noted in

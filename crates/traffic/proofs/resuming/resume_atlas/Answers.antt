@@ -1,11 +1,11 @@
-use Rattle.std.proofs.Common.{◌≡◌, ℕ, List, length, ap, rules, subst, sym, ◌∙◌}
+use Rattle.std.proofs.Common.{◌≡◌, List, length, ap, rules, subst, sym, ◌∙◌}
 use Rattle.std.specs.Prelude.{vec_len}
 use Rattle.etagere_base.specs.declared.ids.Allocation.{Allocation}
 use Rattle.shelf_model.specs.Callers.{AreTied}
 use Rattle.shelf_model.specs.Places.{allocations}
 use Rattle.shelf_records.specs.Snapshots.{snapshot_records}
 use Rattle.shelf_records.specs.StandsFor.{StandsFor}
-use Rattle.etagere_run.specs.Answers.Live.{Entry, live_allocations}
+use Rattle.etagere_run.specs.Answers.Live.{live_allocations}
 use Rattle.etagere_run.specs.Answers.Private.Tables.{entries_of}
 use Rattle.traffic.specs.Ledgers.{entries_from}
 use Rattle.traffic.specs.Refusals.{atlas_told}

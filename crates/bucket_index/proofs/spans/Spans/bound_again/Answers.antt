@@ -16,14 +16,14 @@ returns c buckets narrow but others =
     let same : (scale block : ℕ) → block ≡ block_of scale one → block ≡ block_of scale last = λ scale block is. is ∙ ap (block_of scale) (sym c.requires.last) in
     record {
       known = record {
-        small = bounded-known one (block_of 1) c.block_of.result self.others.small room c.wider-small.result self.small c.bound_span.new.spans buckets c.bound_span.ensures c.block_of.ensures.value c.wider-small.ensures narrow but.small small;
-        middle = bounded-known one (block_of 8) c.block_of-2.result self.others.middle room c.wider-middle.result self.middle c.bound_span-2.new.spans buckets c.bound_span-2.ensures c.block_of-2.ensures.value c.wider-middle.ensures narrow but.middle
+        small = bounded-known one (block_of 1) c.block_of.result self.others.small room c.max-small.result self.small c.bound_span.new.spans buckets c.bound_span.ensures c.block_of.ensures.value c.max-small.ensures narrow but.small small;
+        middle = bounded-known one (block_of 8) c.block_of-2.result self.others.middle room c.max-middle.result self.middle c.bound_span-2.new.spans buckets c.bound_span-2.ensures c.block_of-2.ensures.value c.max-middle.ensures narrow but.middle
             middle;
-        large = bounded-known one (block_of 64) c.block_of-3.result self.others.large room c.wider-large.result self.large c.bound_span-3.new.spans buckets c.bound_span-3.ensures c.block_of-3.ensures.value c.wider-large.ensures narrow but.large large;
+        large = bounded-known one (block_of 64) c.block_of-3.result self.others.large room c.max-large.result self.large c.bound_span-3.new.spans buckets c.bound_span-3.ensures c.block_of-3.ensures.value c.max-large.ensures narrow but.large large;
       };
       others = λ some. record {
-        small = bound-kept last (block_of 1) c.block_of.result self.others.small c.wider-small.result self.small c.bound_span.new.spans buckets c.bound_span.ensures (same 1 c.block_of.result c.block_of.ensures.value) bounds.small;
-        middle = bound-kept last (block_of 8) c.block_of-2.result self.others.middle c.wider-middle.result self.middle c.bound_span-2.new.spans buckets c.bound_span-2.ensures (same 8 c.block_of-2.result c.block_of-2.ensures.value) bounds.middle;
-        large = bound-kept last (block_of 64) c.block_of-3.result self.others.large c.wider-large.result self.large c.bound_span-3.new.spans buckets c.bound_span-3.ensures (same 64 c.block_of-3.result c.block_of-3.ensures.value) bounds.large;
+        small = bound-kept last (block_of 1) c.block_of.result self.others.small c.max-small.result self.small c.bound_span.new.spans buckets c.bound_span.ensures (same 1 c.block_of.result c.block_of.ensures.value) bounds.small;
+        middle = bound-kept last (block_of 8) c.block_of-2.result self.others.middle c.max-middle.result self.middle c.bound_span-2.new.spans buckets c.bound_span-2.ensures (same 8 c.block_of-2.result c.block_of-2.ensures.value) bounds.middle;
+        large = bound-kept last (block_of 64) c.block_of-3.result self.others.large c.max-large.result self.large c.bound_span-3.new.spans buckets c.bound_span-3.ensures (same 64 c.block_of-3.result c.block_of-3.ensures.value) bounds.large;
       };
     }

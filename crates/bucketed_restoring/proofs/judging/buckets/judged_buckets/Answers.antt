@@ -58,7 +58,7 @@ loop-met-preserved c =
       live = sum-more (spec.live_of buckets) judged.live_items c.from-in-loop-met.result (spec.live_by buckets numbers) (drop i numbers) rest n more
           (field-here (λ (b : LinkedBucket). b.refcount) 0 buckets n r here ∙ sym c.from-in-loop-met.ensures) kept.live;
       widest =
-          ap (λ (m : ℕ). max m (spec.widest_by buckets rest)) c.wider.ensures
+          ap (λ (m : ℕ). max m (spec.widest_by buckets rest)) c.max.ensures
           ∙ widest-more buckets judged.widest_room c.record_room.result (spec.widest_by buckets numbers) (drop i numbers) rest n more
           (field-here record_room 0 buckets n r here ∙ sym c.record_room.ensures) kept.widest;
       within = within.1;

@@ -10,7 +10,7 @@ use Rattle.bucketed_records.specs.StandsFor.{live_of, shelf_of}
 use Rattle.bucketed_records.specs.Private.Store.{Stored}
 use Rattle.bucket_index.specs.Private.Blocks.{AreKnown, AreOthersKnown}
 use Rattle.bucket_index.specs.Private.Filling.{IsFilled}
-use Rattle.bucket_index.specs.Private.Spans.{AreSpans, AreSpansBut}
+use Rattle.bucket_index.specs.Private.Spans.{AreSpans, AreSpansExcept}
 use Rattle.bucket_index.proofs.FilledRows.{filled-changed}
 use Rattle.bucket_index.proofs.KnownBlocks.{AreSome, known-at, known-others}
 use Rattle.bucket_index.proofs.KnownSpans.{spans-changed-room}
@@ -35,7 +35,7 @@ track-requires-clause-others c =
     with_items_is inside.buckets c.return_item.new.buckets (omega (arith, c.return_item.auto.buckets, c.deref_mut-2.ensures.len)) in
     let returned : c.return_item.new.buckets ≡ changed_by (Some number) (returned_record width) inside.buckets.items =
     c.return_item.ensures.buckets ∙ ap (λ (bs : List LinkedBucket). changed_by (Some number) (returned_record width) bs) c.deref_mut-2.ensures.value in
-    subst (AreSpansBut number inside.spans) (sym (c.deref-5.ensures.value ∙ items ∙ returned))
+    subst (AreSpansExcept number inside.spans) (sym (c.deref-5.ensures.value ∙ items ∙ returned))
     (spans-changed-room number (returned_record width) inside.spans inside.buckets.items (links-same width) c.self.invariant.1)
 
 pub follow-requires-clause-before : goal.follow-requires-clause-before

@@ -4,7 +4,7 @@ use Rattle.std.specs.Vec.{with_items}
 use Rattle.etagere_links.specs.Edits.{changed_by}
 use Rattle.bucketed_records.specs.declared.records.LinkedBucket.{LinkedBucket}
 use Rattle.bucket_index.specs.Private.Filling.{IsFilled}
-use Rattle.bucket_index.specs.Private.Spans.{AreSpans, AreSpansBut}
+use Rattle.bucket_index.specs.Private.Spans.{AreSpans, AreSpansExcept}
 use Rattle.bucket_index.proofs.FilledRows.{filled-changed}
 use Rattle.bucket_index.proofs.KnownSpans.{spans-changed-room}
 use Rattle.bucketed_store.specs.Private.StoreEdits.{taken_record}
@@ -20,7 +20,7 @@ track-requires-clause-others c =
     with_items_is inside.buckets c.take_from.new.buckets (omega (arith, c.take_from.auto.buckets, c.deref_mut.ensures.len)) in
     let taken : c.take_from.new.buckets ≡ changed_by (Some bucket) change inside.buckets.items =
     c.take_from.ensures ∙ ap (λ (bs : List LinkedBucket). changed_by (Some bucket) change bs) c.deref_mut.ensures.value in
-    subst (AreSpansBut bucket inside.spans) (sym (c.deref-2.ensures.value ∙ items ∙ taken))
+    subst (AreSpansExcept bucket inside.spans) (sym (c.deref-2.ensures.value ∙ items ∙ taken))
     (spans-changed-room bucket change inside.spans inside.buckets.items (λ b. refl) c.self.invariant.1)
 
 pub invariant_of-self : goal.invariant_of-self

@@ -23,7 +23,7 @@ use Rattle.bucketed_model.proofs.Ledger.EntriesApart.{tied-apart}
 use Rattle.bucketed_records.specs.Private.Store.{Stored, stored_state}
 use Rattle.bucketed_records.specs.Private.Witnessed.{HasTotals, Witnessed}
 use Rattle.bucketed_records.proofs.Spelling.Fresh.{space-small}
-use Rattle.bucket_index.specs.declared.searching.Found.{Found}
+use Rattle.bucket_index.specs.declared.searching.FoundBucket.{FoundBucket}
 use Rattle.bucketed_store.specs.declared.placing.Placement as code
 use Rattle.bucketed_store.specs.Private.Placing.{Placement, kept_placement, placement_seen}
 use Rattle.bucketed_store.specs.Private.StoreEdits.{CanGive, IsShort, end_of, found_of, height_of, live_items_of, stored_ready, stored_taken}
@@ -70,7 +70,7 @@ made inside is size sides result placement asks found some =
     (ap (λ (left : Remaining). kept_placement inside.frame left sides inside.store.shelves inside.store.buckets) (sym (left-is inside is)) ∙ sym found ∙ ap (option_map placement_seen) some)
 
 -- the bucket that is made ready
-allocation : (inside : Inside) → IsConsistent inside → (size : Size) (sides : Sides) (placement : Placement) (after : Stored) (found : Found) → Makes (state_in inside) size sides inside.store placement
+allocation : (inside : Inside) → IsConsistent inside → (size : Size) (sides : Sides) (placement : Placement) (after : Stored) (found : FoundBucket) → Makes (state_in inside) size sides inside.store placement
     → after ≡ stored_ready inside.frame placement inside.store → found_of placement after ≡ Some found → IsAllocation (state_in inside) size sides inside.store placement found
 allocation inside is size sides placement after found makes_ ready h =
     allocation-is (state_in inside) size sides inside.store placement found is.witnessed.valid makes_ (ap (found_of placement) (sym ready) ∙ h)

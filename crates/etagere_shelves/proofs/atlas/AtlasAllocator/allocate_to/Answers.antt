@@ -11,7 +11,7 @@ use Rattle.etagere_shelves.specs.Plain.{allocation_in, rectangle_in}
 use Rattle.etagere_shelves.specs.Private.Consistent.{IsConsistent, state_in}
 use Rattle.etagere_shelves.specs.declared.atlas.AtlasAllocator.TheInside.{Inside}
 use Rattle.shelf_heights.specs.Private.ByHeight.{AreByHeight}
-use Rattle.shelf_store.specs.Private.Settling.{AreByHeightButNoted, AreSettled}
+use Rattle.shelf_store.specs.Private.Settling.{AreByHeightExceptNoted, AreSettled}
 use Rattle.shelf_records.specs.Private.Kept.{state_of}
 use Rattle.shelf_notes.specs.Private.Pending.{Notes}
 use Rattle.shelf_store.specs.Private.PlacementTaken.{placement_taken, taken_notes}
@@ -101,24 +101,24 @@ after c =
     c.self.invariant.kept c.in-Some.ensures.some c.in_ok-id.ensures.ok c.in_ok-id.ensures.id c.rectangle-rectangle.ensures
 
 -- what the fields keep of the shelves by height once these were searched, where the list follows the records, and where not
-searched : (inside : Inside) (by_height new : List BoundedShelf) (notes : Notes) (follows : Bool) → IsConsistent inside → AreByHeightButNoted inside.frame inside.records notes by_height
+searched : (inside : Inside) (by_height new : List BoundedShelf) (notes : Notes) (follows : Bool) → IsConsistent inside → AreByHeightExceptNoted inside.frame inside.records notes by_height
     → (follows ≡ true → AreSettled inside.records notes) → (follows ≡ true → AreByHeight inside.frame inside.records new)
     → (follows ≡ false → by_height ≡ inside.by_height.items) → (follows ≡ false → new ≡ by_height)
-    → AreByHeightButNoted inside.frame inside.records notes new × (inside.frame.columns ≤ length new)
+    → AreByHeightExceptNoted inside.frame inside.records notes new × (inside.frame.columns ≤ length new)
 searched inside by_height new notes true is holds settled are before same =
     (settled-holds inside.frame inside.records notes new is.kept (are refl) (settled refl), columns-by_height inside.frame inside.records new is.kept (are refl))
 searched inside by_height new notes false is holds settled are before same = (
-  subst (AreByHeightButNoted inside.frame inside.records notes) (sym (same refl)) holds,
+  subst (AreByHeightExceptNoted inside.frame inside.records notes) (sym (same refl)) holds,
   subst (λ (bs : List BoundedShelf). inside.frame.columns ≤ length bs) (sym (same refl ∙ before refl)) is.columns,
 )
 
-searched-before : (c : goal.After-of) → AreByHeightButNoted c.self.inside.frame c.self.inside.records c.settle_unless_few-follows.new.pending.notes c.placement_of-found.new.by_height.items × (c.self.inside.frame.columns ≤ length c.placement_of-found.new.by_height.items)
+searched-before : (c : goal.After-of) → AreByHeightExceptNoted c.self.inside.frame c.self.inside.records c.settle_unless_few-follows.new.pending.notes c.placement_of-found.new.by_height.items × (c.self.inside.frame.columns ≤ length c.placement_of-found.new.by_height.items)
 searched-before c =
     searched c.self.inside c.settle_unless_few-follows.new.by_height.items c.placement_of-found.new.by_height.items c.settle_unless_few-follows.new.pending.notes c.settle_unless_few-follows.result c.self.invariant
     c.settle_unless_few-follows.ensures.by_height c.settle_unless_few-follows.ensures.settled c.placement_of-found.ensures.by_height c.settle_unless_few-follows.ensures.same c.placement_of-found.ensures.same
 
 -- and once what was found was taken
-by_height-after : (c : goal.After-of) → AreByHeightButNoted c.self.inside.frame c.take_placement.new.records c.take_placement.new.pending.notes c.take_placement.new.by_height.items
+by_height-after : (c : goal.After-of) → AreByHeightExceptNoted c.self.inside.frame c.take_placement.new.records c.take_placement.new.pending.notes c.take_placement.new.by_height.items
 by_height-after c =
     let inside = c.self.inside in
     let column_width = inside.frame.column_width in
@@ -126,11 +126,11 @@ by_height-after c =
     let notes : Notes = c.settle_unless_few-follows.new.pending.notes in
     let by_height : List BoundedShelf = c.placement_of-found.new.by_height.items in
     let before = searched-before c in
-    let holds : AreByHeightButNoted inside.frame (placement_taken column_width found inside.records) (taken_notes found inside.records notes) by_height =
+    let holds : AreByHeightExceptNoted inside.frame (placement_taken column_width found inside.records) (taken_notes found inside.records notes) by_height =
     found-holds inside.frame inside.records c.args.size found notes by_height c.self.invariant.kept c.in-Some.ensures.some before.0 in
-    subst (AreByHeightButNoted inside.frame c.take_placement.new.records c.take_placement.new.pending.notes) (sym c.in_ok-id.ensures.by_height)
-    (subst (λ (n : Notes). AreByHeightButNoted inside.frame c.take_placement.new.records n by_height) (sym c.in_ok-id.ensures.notes)
-    (subst (λ (r : Records). AreByHeightButNoted inside.frame r (taken_notes found inside.records notes) by_height) (sym c.in_ok-id.ensures.ok) holds))
+    subst (AreByHeightExceptNoted inside.frame c.take_placement.new.records c.take_placement.new.pending.notes) (sym c.in_ok-id.ensures.by_height)
+    (subst (λ (n : Notes). AreByHeightExceptNoted inside.frame c.take_placement.new.records n by_height) (sym c.in_ok-id.ensures.notes)
+    (subst (λ (r : Records). AreByHeightExceptNoted inside.frame r (taken_notes found inside.records notes) by_height) (sym c.in_ok-id.ensures.ok) holds))
 
 pub invariant_of-self : goal.invariant_of-self
 invariant_of-self c =
@@ -154,8 +154,8 @@ invariant_of-self-in_err-id c =
     rw c.in_err-id.ensures.err
     (record {
       kept = c.self.invariant.kept;
-      by_height = subst (AreByHeightButNoted inside.frame inside.records c.take_placement.new.pending.notes) (sym c.in_err-id.ensures.by_height)
-          (subst (λ (n : Notes). AreByHeightButNoted inside.frame inside.records n c.placement_of-found.new.by_height.items) (sym c.in_err-id.ensures.notes_err) same.0);
+      by_height = subst (AreByHeightExceptNoted inside.frame inside.records c.take_placement.new.pending.notes) (sym c.in_err-id.ensures.by_height)
+          (subst (λ (n : Notes). AreByHeightExceptNoted inside.frame inside.records n c.placement_of-found.new.by_height.items) (sym c.in_err-id.ensures.notes_err) same.0);
       columns = subst (λ (bs : List BoundedShelf). inside.frame.columns ≤ length bs) (sym c.in_err-id.ensures.by_height) same.1;
       room = subst (λ (r : Records). length r.shelves ≤ c.take_placement.new.by_height.capacity) c.in_err-id.ensures.err c.in_err-id.ensures.room;
       room_to_note = subst (λ (r : Records). length r.shelves ≤ c.take_placement.new.pending.room) c.in_err-id.ensures.err c.in_err-id.ensures.room_to_note;

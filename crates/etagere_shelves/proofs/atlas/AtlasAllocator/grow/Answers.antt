@@ -9,7 +9,7 @@ use Rattle.shelf_model.specs.Atlas.{KeepsPromises}
 use Rattle.shelf_model.specs.Growing.{atlas_grown, grow_fault, grown_frame, records_needed, size_fault}
 use Rattle.shelf_model.specs.Places.{allocations}
 use Rattle.shelf_heights.specs.Private.ByHeight.{AreByHeight}
-use Rattle.shelf_store.specs.Private.Settling.{AreByHeightButNoted, AreSettled}
+use Rattle.shelf_store.specs.Private.Settling.{AreByHeightExceptNoted, AreSettled}
 use Rattle.shelf_store.proofs.ByHeight.NewByHeight.{columns-by_height}
 use Rattle.shelf_store.proofs.ByHeight.SplitByHeight.{settled-holds}
 use Rattle.etagere_shelves.specs.Private.Consistent.{IsConsistent, state_in}
@@ -122,7 +122,7 @@ invariant_of-self c =
     subst (AreByHeight inside.frame inside.records) (sym by_height) c.settle_shelves.ensures.by_height in
     record {
       kept = subst (AreKept inside.frame) same c.self.invariant.kept;
-      by_height = subst (λ (r : Records). AreByHeightButNoted inside.frame r c.grow_shelves-done.new.pending.notes c.grow_shelves-done.new.by_height.items) same
+      by_height = subst (λ (r : Records). AreByHeightExceptNoted inside.frame r c.grow_shelves-done.new.pending.notes c.grow_shelves-done.new.by_height.items) same
           (settled-holds inside.frame inside.records c.grow_shelves-done.new.pending.notes c.grow_shelves-done.new.by_height.items c.self.invariant.kept are
           (subst (AreSettled inside.records) (sym notes) c.settle_shelves.ensures.settled));
       columns = columns-by_height inside.frame inside.records c.grow_shelves-done.new.by_height.items c.self.invariant.kept are;

@@ -4,7 +4,7 @@ use Rattle.std.proofs.lemmas.Int.{to_z-of_z}
 use Rattle.etagere_base.specs.Sides.{side}
 use Rattle.shelf_records.specs.AtlasRecords.{AtlasRecords, state_spelled}
 use Rattle.shelf_model.specs.Atlas.{KeepsPromises}
-use Rattle.shelf_store.specs.Private.Settling.{AreByHeightButNoted}
+use Rattle.shelf_store.specs.Private.Settling.{AreByHeightExceptNoted}
 use Rattle.shelf_store.proofs.ByHeight.NewByHeight.{columns-by_height}
 use Rattle.shelf_store.proofs.ByHeight.SplitByHeight.{settled-holds}
 use Rattle.shelf_records.specs.Private.Kept.{AreKept}
@@ -21,7 +21,7 @@ invariant_of-result c =
     let sum : ℕ = c.args.items_in_use in
     record {
       kept = subst (λ (atlas : AtlasRecords). AreKept atlas.frame atlas.records) same c.requires.kept;
-      by_height = subst (λ (atlas : AtlasRecords). AreByHeightButNoted atlas.frame atlas.records c.args.pending.notes c.args.by_height.items) same
+      by_height = subst (λ (atlas : AtlasRecords). AreByHeightExceptNoted atlas.frame atlas.records c.args.pending.notes c.args.by_height.items) same
           (settled-holds c.args.atlas.frame c.args.atlas.records c.args.pending.notes c.args.by_height.items c.requires.kept c.requires.by_height c.requires.settled);
       columns = subst (λ (atlas : AtlasRecords). atlas.frame.columns ≤ length c.args.by_height.items) same
           (columns-by_height c.args.atlas.frame c.args.atlas.records c.args.by_height.items c.requires.kept c.requires.by_height);
