@@ -156,9 +156,17 @@ pub fn program<'a>(alloc: Global) -> Result<Command<'a>, AllocError> {
         "Looks into traffic that was recorded as a script, or at a saved atlas",
     );
     for entry in &ENTRIES {
-        program = program.subcommand(subcommand(alloc, entry)?)?;
+        program = with_subcommand(alloc, program, entry)?;
     }
     Ok(program)
+}
+
+fn with_subcommand<'a>(
+    alloc: Global,
+    program: Command<'a>,
+    entry: &Entry,
+) -> Result<Command<'a>, AllocError> {
+    program.subcommand(subcommand(alloc, entry)?)
 }
 
 fn subcommand<'a>(alloc: Global, entry: &Entry) -> Result<Command<'a>, AllocError> {

@@ -25,6 +25,7 @@ use crate::saving::save;
 use atlas_pages::PageOptions;
 use clap::error::ErrorKind;
 use clap::{ArgMatches, Error};
+use etagere::AtlasSnapshot;
 use run_scripts::faults::ReplayFault;
 use std::alloc::Global;
 use std::env;
@@ -65,23 +66,41 @@ fn run(
 ) -> Result<ExitCode, Failure> {
     let alloc = rt.alloc();
     let words: Vec<String> = env::args(rt)?.collect(alloc)?;
-    let matches = match program(alloc)?.try_get_matches_from(words.as_slice()) {
-        Ok(matches) => matches,
-        Err(error) => return unparsed(rt, &error),
-    };
+    match program(alloc)?.try_get_matches_from(words.as_slice()) {
+        Ok(matches) => run_matched(rt, host, &matches),
+        Err(error) => unparsed(rt, &error),
+    }
+}
+
+/// Runs the subcommand.
+fn run_matched(
+    rt: &(impl Files + Clock + Input + Eprint + Print + AllocGlobal),
+    host: Host,
+    matches: &ArgMatches<'_>,
+) -> Result<ExitCode, Failure> {
     let Some((name, given)) = matches.subcommand() else {
         return Err(Failure::Misused("usage: etagere COMMAND (etagere --help lists them)"));
     };
-    let mut progress = Progress::new(rt, host.is_terminal);
-    let answer = answered(rt, name, given, &mut progress);
-    progress.end();
-    let answer = answer?;
+    let answer = answered_in_progress(rt, host, name, given)?;
     let target = Target {
         path: given.get_str("output"),
         process: host.process,
     };
     write_to(rt, target, answer.bytes.as_slice())?;
     Ok(ExitCode::from(answer.status))
+}
+
+/// What the subcommand answers, while its progress is shown.
+fn answered_in_progress(
+    rt: &(impl Files + Clock + Input + Eprint + AllocGlobal),
+    host: Host,
+    name: &str,
+    given: &ArgMatches<'_>,
+) -> Result<Answer, Failure> {
+    let mut progress = Progress::new(rt, host.is_terminal);
+    let answer = answered(rt, name, given, &mut progress);
+    progress.end();
+    answer
 }
 
 /// Prints help, or what is wrong with the arguments.
@@ -116,24 +135,53 @@ fn answered<R: Clock + Eprint>(
     given: &ArgMatches<'_>,
     progress: &mut Progress<'_, R>,
 ) -> Result<Answer, Failure> {
-    let alloc = rt.alloc();
     match name {
-        "resume" => {
-            let saved = read_named(rt, given, "SNAPSHOT", progress)?;
-            let snapshot = snapshot_of(alloc, saved.as_slice())?;
-            let input = read_named(rt, given, "FILE", progress)?;
-            resume(alloc, snapshot, input.as_slice(), given.get_flag("live"))
-        }
-        "pack" => {
-            let options = pages_of(given)?;
-            let input = read_named(rt, given, "FILE", progress)?;
-            pack_list(alloc, &options, input.as_slice(), given.get_flag("json"))
-        }
+        "resume" => resumed(rt, given, progress),
+        "pack" => packed(rt, given, progress),
         _ => {
             let input = read_named(rt, given, "FILE", progress)?;
-            told(alloc, name, given, input.as_slice())
+            told(rt.alloc(), name, given, input.as_slice())
         }
     }
+}
+
+fn resumed<R: Clock + Eprint>(
+    rt: &(impl Files + Input + AllocGlobal),
+    given: &ArgMatches<'_>,
+    progress: &mut Progress<'_, R>,
+) -> Result<Answer, Failure> {
+    let snapshot = named_snapshot(rt, given, progress)?;
+    let input = read_named(rt, given, "FILE", progress)?;
+    resume(
+        rt.alloc(),
+        snapshot,
+        input.as_slice(),
+        given.get_flag("live"),
+    )
+}
+
+fn named_snapshot<R: Clock + Eprint>(
+    rt: &(impl Files + Input + AllocGlobal),
+    given: &ArgMatches<'_>,
+    progress: &mut Progress<'_, R>,
+) -> Result<AtlasSnapshot, Failure> {
+    let saved = read_named(rt, given, "SNAPSHOT", progress)?;
+    snapshot_of(rt.alloc(), saved.as_slice())
+}
+
+fn packed<R: Clock + Eprint>(
+    rt: &(impl Files + Input + AllocGlobal),
+    given: &ArgMatches<'_>,
+    progress: &mut Progress<'_, R>,
+) -> Result<Answer, Failure> {
+    let options = pages_of(given)?;
+    let input = read_named(rt, given, "FILE", progress)?;
+    pack_list(
+        rt.alloc(),
+        &options,
+        input.as_slice(),
+        given.get_flag("json"),
+    )
 }
 
 /// The pages that the arguments ask for.

@@ -14,9 +14,9 @@ pub fn say_moved(
     rt: &(impl Print + AllocGlobal),
     words: &str,
 ) -> io::Result<()> {
-    match moved(rt.alloc(), cache, size_of(words)) {
-        Ok(done) => say_keys(rt, &done),
-        Err(fault) => say_refused(rt, fault),
+    match &moved(rt.alloc(), cache, size_of(words)) {
+        Ok(done) => say_keys(rt, done),
+        Err(fault) => say_refused(rt, *fault),
     }
 }
 
@@ -41,13 +41,23 @@ fn put(cache: &mut GlyphCache, done: RearrangedCache) {
 }
 
 fn say_keys(rt: &impl Print, done: &RearrangedCache) -> io::Result<()> {
-    for key_move in &done.moves {
+    say_moves(rt, done.moves.as_slice())?;
+    say_left(rt, done.unplaced.as_slice())?;
+    say(rt, "end")
+}
+
+fn say_moves(rt: &impl Print, moves: &[KeyMove]) -> io::Result<()> {
+    for key_move in moves {
         say_move(rt, key_move)?;
     }
-    for unplaced in &done.unplaced {
-        say_unplaced(rt, unplaced)?;
+    Ok(())
+}
+
+fn say_left(rt: &impl Print, unplaced: &[UnplacedKey]) -> io::Result<()> {
+    for key in unplaced {
+        say_unplaced(rt, key)?;
     }
-    say(rt, "end")
+    Ok(())
 }
 
 fn say_move(rt: &impl Print, key_move: &KeyMove) -> io::Result<()> {

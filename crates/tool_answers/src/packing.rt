@@ -22,15 +22,42 @@ pub fn pack_list(
     is_json: bool,
 ) -> Result<Answer, Failure> {
     let wanted = list_in(alloc, input)?;
-    let sizes: Vec<Size> = wanted.iter().map(|one| one.size).collect(alloc)?;
-    let replies = replies_of(alloc, options, sizes.as_slice())?;
-    let (wanted, replies) = (wanted.as_slice(), replies.as_slice());
-    let unplaced = unplaced_text(alloc, options, wanted, replies)?;
+    pack_wanted(alloc, options, wanted.as_slice(), is_json)
+}
+
+fn pack_wanted(
+    alloc: Global,
+    options: &PageOptions,
+    wanted: &[Wanted<'_>],
+    is_json: bool,
+) -> Result<Answer, Failure> {
+    let replies = replies_to(alloc, options, wanted)?;
+    let unplaced = unplaced_text(alloc, options, wanted, replies.as_slice())?;
     if !unplaced.is_empty() {
         return Err(Failure::Unplaced(unplaced));
     }
+    answer_of(alloc, options.size, wanted, replies.as_slice(), is_json)
+}
+
+fn replies_to(
+    alloc: Global,
+    options: &PageOptions,
+    wanted: &[Wanted<'_>],
+) -> Result<Vec<PageReply>, Failure> {
+    let sizes: Vec<Size> = wanted.iter().map(|one| one.size).collect(alloc)?;
+    replies_of(alloc, options, sizes.as_slice())
+}
+
+/// The places, where all that is wanted has one.
+fn answer_of(
+    alloc: Global,
+    size: Size,
+    wanted: &[Wanted<'_>],
+    replies: &[PageReply],
+    is_json: bool,
+) -> Result<Answer, Failure> {
     let text = if is_json {
-        json_text(alloc, options.size, wanted, replies)?
+        json_text(alloc, size, wanted, replies)?
     } else {
         plain_text(alloc, wanted, replies)?
     };

@@ -19,23 +19,36 @@ pub struct Wanted<'a> {
 /// the end of a line.
 pub fn wanted_in(alloc: Global, list: &[u8]) -> Result<Vec<Wanted<'_>>, ScriptFault> {
     let mut wanted = Vec::new(alloc);
-    let mut rest = match list {
-        [0xef, 0xbb, 0xbf, rest @ ..] => rest,
-        _ => list,
-    };
+    let mut rest = without_mark(list);
     for before in 0..list.len() {
         if rest.is_empty() {
             break;
         }
         let (line, after) = first_line(rest);
+        push_wanted(&mut wanted, before as u64 + 1, line)?;
         rest = after;
-        let number = before as u64 + 1;
-        if let Some(text) = text_of(line) {
-            let one = wanted_on(number, text).ok_or(ScriptFault::BadLine(number))?;
-            wanted.push(one).map_err(|_| ScriptFault::Memory)?;
-        }
     }
     Ok(wanted)
+}
+
+fn without_mark(list: &[u8]) -> &[u8] {
+    match list {
+        [0xef, 0xbb, 0xbf, rest @ ..] => rest,
+        _ => list,
+    }
+}
+
+/// Adds what is wanted on a line, unless that is empty.
+fn push_wanted<'a>(
+    wanted: &mut Vec<Wanted<'a>>,
+    number: u64,
+    line: &'a [u8],
+) -> Result<(), ScriptFault> {
+    let Some(text) = text_of(line) else {
+        return Ok(());
+    };
+    let one = wanted_on(number, text).ok_or(ScriptFault::BadLine(number))?;
+    wanted.push(one).map_err(|_| ScriptFault::Memory)
 }
 
 /// A line without a carriage return at its end; none where it is empty.
