@@ -9,22 +9,20 @@
 #![tactic(auto)]
 
 mod keyed;
-mod padded_pages;
 mod paged_caches;
-mod pages;
 mod runs;
 
 use crate::keyed::CalledKeys;
-use crate::padded_pages::CalledPaddedPages;
 use crate::paged_caches::CalledPagedCache;
-use crate::pages::CalledPages;
 use anyhow::{Context, Result, bail};
 use row_atlases::buckets::CalledBucketedAtlas;
-use row_atlases::shelves::CalledAtlas;
 use row_caches::caches::CalledCache;
 use row_caches::maps::CalledMap;
 use row_caches::padded_caches::CalledPaddedCache;
 use row_calls::slots::{Called, Slots, answer};
+use row_shelves::padded_pages::CalledPaddedPages;
+use row_shelves::pages::CalledPages;
+use row_shelves::shelves::CalledAtlas;
 use std::env;
 use std::io::{BufRead, BufReader};
 

@@ -1,6 +1,5 @@
 //! Calls of a cache over several pages.
 
-use crate::pages::options_of;
 use atlas_pages::{PageOptions, PagedAllocation};
 use paged_cache::runs::{PagedCall, PagedReply, answer_on_cache};
 use paged_cache::{NewCacheFault, PagedCache, PlacedKey, PlacingFault};
@@ -10,6 +9,7 @@ use row_calls::lines::{
     say_number,
 };
 use row_calls::slots::{Called, NotMade};
+use row_shelves::pages::options_of;
 use std::alloc::Global;
 use std::io;
 use std::num::NonZeroUsize;

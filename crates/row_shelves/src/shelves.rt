@@ -1,13 +1,13 @@
 //! Calls of a shelf atlas.
 
-use crate::atlases;
-use crate::kinds::Atlas;
 use etagere::laws::Walk;
 use etagere::{
     AllocId, AtlasAllocator, AtlasSnapshot, OptionsFault, Rectangle, Refusal, RestoreFault, Size,
     Usage, laws,
 };
 use moves::atlases::{Move, Rearranged, rearranged};
+use row_atlases::atlases;
+use row_atlases::kinds::Atlas;
 use row_calls::lines::{
     id_of, say, say_each, say_fault, say_given, say_number, say_rectangle, say_size, size_of,
 };
@@ -53,9 +53,9 @@ impl Called for CalledAtlas {
             "iter" => list(rt, atlas),
             "refusal" => say_refusal(rt, refusal_of(atlas, size_of(words))),
             "usage" => say_usage(rt, &usage_of(atlas)),
-            "walk" => say_walk(rt, &walked(rt.alloc(), words)),
-            "moved" => say_moved(rt, &moved(rt.alloc(), atlas, size_of(words)), true),
-            "moves" => say_moved(rt, &moved(rt.alloc(), atlas, size_of(words)), false),
+            "walk" => walk(rt, words),
+            "moved" => rearrange(rt, atlas, words, true),
+            "moves" => rearrange(rt, atlas, words, false),
             _ => atlases::answer(atlas, rt, call, words),
         }
     }
@@ -138,11 +138,15 @@ fn say_usage(rt: &impl Print, usage: &Usage) -> io::Result<()> {
     say_size(rt, usage.largest_free)
 }
 
-/// Writes what a walk met, its end and its steps.
-fn say_walk(rt: &impl Print, walk: &Result<Walk, AllocError>) -> io::Result<()> {
-    let Ok(walk) = walk else {
-        return say(rt, "no memory");
-    };
+/// Makes a walk, and writes what it met, its end and its steps.
+fn walk(rt: &(impl Print + AllocGlobal), words: &str) -> io::Result<()> {
+    match walked(rt.alloc(), words) {
+        Ok(walk) => say_walk(rt, &walk),
+        Err(AllocError) => say(rt, "no memory"),
+    }
+}
+
+fn say_walk(rt: &impl Print, walk: &Walk) -> io::Result<()> {
     rt.print("met ")?;
     for number in &walk.met {
         print!(rt; "{number} ")?;
@@ -150,7 +154,18 @@ fn say_walk(rt: &impl Print, walk: &Result<Walk, AllocError>) -> io::Result<()> 
     println!(rt; "end {} steps {}", walk.end, walk.steps)
 }
 
-/// Writes what moves into a new atlas: with `is_whole` a line for each rectangle, else how many they are, and the last.
+/// Moves what is live into a new atlas of these sides, and writes that: with `is_whole` a line for each rectangle, else how
+/// many they are, and the last.
+fn rearrange(
+    rt: &(impl Print + AllocGlobal),
+    atlas: &AtlasAllocator,
+    words: &str,
+    is_whole: bool,
+) -> io::Result<()> {
+    let moved = moved(rt.alloc(), atlas, size_of(words));
+    say_moved(rt, &moved, is_whole)
+}
+
 fn say_moved(
     rt: &impl Print,
     moved: &Result<Rearranged, OptionsFault>,
