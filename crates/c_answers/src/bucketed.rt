@@ -15,6 +15,7 @@ ghost use Rattle.etagere_shelves.specs.Plain.{allocation_in};
 ghost use Rattle.c_answers.specs.Crossing.{options_in, size_in};
 ghost use Rattle.c_answers.specs.Statuses as statuses;
 
+use crate::boxes::boxed;
 use crate::geometry::{EtagereAllocation, EtagereOptions, EtagereSize};
 use crate::statuses::{MEMORY, NO_ROOM, OK};
 use etagere::{BucketedAtlasAllocator, OptionsFault};
@@ -34,10 +35,7 @@ pub fn made(
     ensures memory { IfErr result (λ fault. options_fault longest_bucketed_side (size_in size) (options_in options.now) ≡ None → fault ≡ faults.Memory) }
 {
     let atlas = BucketedAtlasAllocator::with_options(alloc, size.size(), &options.options())?;
-    match Box::new(alloc, atlas) {
-        Ok(boxed) => Ok(boxed),
-        Err(_) => Err(OptionsFault::Memory),
-    }
+    boxed(alloc, atlas)
 }
 
 /// Allocates a size, and says by a status how that went.

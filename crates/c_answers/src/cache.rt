@@ -15,6 +15,7 @@ ghost use Rattle.etagere_shelves.specs.Plain.{rectangle_in};
 ghost use Rattle.c_answers.specs.Crossing.{options_in, size_in};
 ghost use Rattle.c_answers.specs.Statuses as statuses;
 
+use crate::boxes::boxed;
 use crate::buffers::write_keys;
 use crate::geometry::{EtagereOptions, EtagereRectangle, EtagereSize};
 use crate::statuses::{OK, cache_refused};
@@ -38,10 +39,7 @@ pub fn made(
     ensures memory { IfErr result (λ fault. options_fault longest_side (size_in size) (options_in options.now) ≡ None → fault ≡ faults.Memory) }
 {
     let cache = GlyphCache::new(alloc, size.size(), &options.options(), capacity)?;
-    match Box::new(alloc, cache) {
-        Ok(boxed) => Ok(boxed),
-        Err(_) => Err(OptionsFault::Memory),
-    }
+    boxed(alloc, cache)
 }
 
 /// Writes what a placing gave, and says by a status how it went.

@@ -10,6 +10,7 @@
 pub mod atlas;
 mod atlas_handle;
 pub mod batches;
+mod boxes;
 pub mod bucketed;
 mod bucketed_handle;
 pub mod buffers;

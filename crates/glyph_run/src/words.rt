@@ -47,6 +47,30 @@ fn cache_in(words: &[u8]) -> Option<Header>
     let (alignment_height, words) = split_word(words)?;
     let (columns, words) = split_word(words)?;
     let (direction, capacity) = split_word(words)?;
+    cache_of(
+        width,
+        height,
+        alignment_width,
+        alignment_height,
+        columns,
+        direction,
+        capacity,
+    )
+}
+
+/// The cache of these words.
+fn cache_of(
+    width: &[u8],
+    height: &[u8],
+    alignment_width: &[u8],
+    alignment_height: &[u8],
+    columns: &[u8],
+    direction: &[u8],
+    capacity: &[u8],
+) -> Option<Header>
+    ensures { option_map setup_in result ≡ spec.cache_of width.now height.now alignment_width.now alignment_height.now
+        columns.now direction.now capacity.now }
+{
     Some(Header {
         size: size_of(width, height)?,
         options: AllocatorOptions {

@@ -65,12 +65,23 @@ impl Called for CalledCache {
             "get" => say_rectangle(rt, look(cache, key_of(words))),
             "remove" => say_rectangle(rt, remove(cache, key_of(words))),
             "retain" => retain(cache, rt, words),
-            "clear" => clear(cache, rt),
-            "frame" => begin_frame(cache, rt),
-            "moved" => moved_caches::say_moved(cache, rt, words),
-            "rearrange" => moved_caches::rearrange(cache, rt, words),
-            _ => say_state(cache, rt, call),
+            _ => answer_without_key(cache, rt, call, words),
         }
+    }
+}
+
+fn answer_without_key(
+    cache: &mut GlyphCache,
+    rt: &(impl Print + AllocGlobal),
+    call: &str,
+    words: &str,
+) -> io::Result<()> {
+    match call {
+        "clear" => clear(cache, rt),
+        "frame" => begin_frame(cache, rt),
+        "moved" => moved_caches::say_moved(cache, rt, words),
+        "rearrange" => moved_caches::rearrange(cache, rt, words),
+        _ => say_state(cache, rt, call),
     }
 }
 

@@ -3,7 +3,7 @@
 use etagere::{OptionsFault, Rectangle, Size};
 use glyph_shelf::GlyphCache;
 use moves::caches::{KeyMove, RearrangedCache, UnplacedKey, rearranged_cache};
-use row_calls::lines::{say, say_bracketed, say_fault, size_of};
+use row_calls::lines::{say, say_bracketed, say_fault, say_rectangle, size_of};
 use std::alloc::Global;
 use std::io;
 
@@ -14,7 +14,11 @@ pub fn say_moved(
     rt: &(impl Print + AllocGlobal),
     words: &str,
 ) -> io::Result<()> {
-    match &moved(rt.alloc(), cache, size_of(words)) {
+    say_answer(rt, &moved(rt.alloc(), cache, size_of(words)))
+}
+
+fn say_answer(rt: &impl Print, answer: &Result<RearrangedCache, OptionsFault>) -> io::Result<()> {
+    match answer {
         Ok(done) => say_keys(rt, done),
         Err(fault) => say_refused(rt, *fault),
     }
@@ -64,14 +68,12 @@ fn say_move(rt: &impl Print, key_move: &KeyMove) -> io::Result<()> {
     print!(rt; "{} from ", key_move.key)?;
     say_bracketed(rt, &key_move.before)?;
     rt.print(" to ")?;
-    say_bracketed(rt, &key_move.after)?;
-    say(rt, "")
+    say_rectangle(rt, Some(key_move.after))
 }
 
 fn say_unplaced(rt: &impl Print, unplaced: &UnplacedKey) -> io::Result<()> {
     print!(rt; "left {} ", unplaced.key)?;
-    say_bracketed(rt, &unplaced.rectangle)?;
-    say(rt, "")
+    say_rectangle(rt, Some(unplaced.rectangle))
 }
 
 fn say_refused(rt: &impl Print, fault: OptionsFault) -> io::Result<()> {

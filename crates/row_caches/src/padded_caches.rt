@@ -50,11 +50,15 @@ impl Called for CalledPaddedCache {
             "retain" => retain(cache, rt, words),
             "iter" => list(cache, rt),
             "len" => say_number(rt, len(cache)),
-            _ => match call_of(call, words) {
-                Some(call) => say_reply(rt, &answered(cache, call)),
-                None => say(rt, "no such call"),
-            },
+            _ => change(cache, rt, call, words),
         }
+    }
+}
+
+fn change(cache: &mut PaddedCache, rt: &impl Print, call: &str, words: &str) -> io::Result<()> {
+    match call_of(call, words) {
+        Some(call) => say_reply(rt, &answered(cache, call)),
+        None => say(rt, "no such call"),
     }
 }
 
