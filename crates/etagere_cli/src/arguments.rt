@@ -152,21 +152,28 @@ const ENTRIES: [Entry; 6] = [
 
 /// The whole program.
 pub fn program<'a>(alloc: Global) -> Result<Command<'a>, AllocError> {
-    let mut program = Command::new(alloc, "etagere").about(
-        "Looks into traffic that was recorded as a script, or at a saved atlas",
-    );
-    for entry in &ENTRIES {
-        program = with_subcommand(alloc, program, entry)?;
-    }
-    Ok(program)
+    let subcommands = subcommands(alloc)?;
+    Command::new(alloc, "etagere")
+        .about("Looks into traffic that was recorded as a script, or at a saved atlas")
+        .subcommands(subcommands)
 }
 
-fn with_subcommand<'a>(
+fn subcommands<'a>(alloc: Global) -> Result<Vec<Command<'a>>, AllocError> {
+    let mut subcommands = Vec::new(alloc);
+    for entry in &ENTRIES {
+        push_subcommand(alloc, &mut subcommands, entry)?;
+    }
+    Ok(subcommands)
+}
+
+fn push_subcommand<'a>(
     alloc: Global,
-    program: Command<'a>,
+    subcommands: &mut Vec<Command<'a>>,
     entry: &Entry,
-) -> Result<Command<'a>, AllocError> {
-    program.subcommand(subcommand(alloc, entry)?)
+) -> Result<(), AllocError> {
+    let subcommand = subcommand(alloc, entry)?;
+    subcommands.push(subcommand)?;
+    Ok(())
 }
 
 fn subcommand<'a>(alloc: Global, entry: &Entry) -> Result<Command<'a>, AllocError> {
@@ -189,7 +196,8 @@ fn with_argument<'a>(
     command: Command<'a>,
     argument: &Argument,
 ) -> Result<Command<'a>, AllocError> {
-    command.arg(given(alloc, argument))
+    let arg = given(alloc, argument);
+    command.arg(arg)
 }
 
 fn given<'a>(alloc: Global, argument: &Argument) -> Arg<'a> {

@@ -102,38 +102,62 @@ fn push_reason(
 }
 
 fn explain_snapshot(alloc: Global, text: &[u8]) -> Result<Answer, Failure> {
-    let restored = match read_saved(alloc, text) {
-        Ok(Saved::Atlas(snapshot)) => AtlasAllocator::restore(alloc, snapshot).map(|_| ()),
-        Ok(Saved::Bucketed(snapshot)) => {
-            BucketedAtlasAllocator::restore(alloc, snapshot).map(|_| ())
-        }
-        Err(ReadFault::Unreadable) => {
-            return Err(Failure::Misused("unreadable: the JSON text of one snapshot is expected"));
-        }
-        Err(ReadFault::Memory) => return Err(Failure::Fault(ReplayFault::Memory)),
-    };
-    match restored {
+    let saved = saved_in(alloc, text)?;
+    match restored(alloc, saved) {
         Ok(()) => Ok(Answer::done("the snapshot keeps all rules\n".to_string(alloc)?)),
         Err(RestoreFault::Memory) => Err(Failure::Fault(ReplayFault::Memory)),
         Err(fault) => Ok(Answer::told(1, broken_text(alloc, text, fault)?)),
     }
 }
 
+fn saved_in(alloc: Global, text: &[u8]) -> Result<Saved, Failure> {
+    match read_saved(alloc, text) {
+        Ok(saved) => Ok(saved),
+        Err(ReadFault::Unreadable) => {
+            Err(Failure::Misused("unreadable: the JSON text of one snapshot is expected"))
+        }
+        Err(ReadFault::Memory) => Err(Failure::Fault(ReplayFault::Memory)),
+    }
+}
+
+fn restored(alloc: Global, saved: Saved) -> Result<(), RestoreFault> {
+    match saved {
+        Saved::Atlas(snapshot) => AtlasAllocator::restore(alloc, snapshot).map(|_| ()),
+        Saved::Bucketed(snapshot) => BucketedAtlasAllocator::restore(alloc, snapshot).map(|_| ()),
+    }
+}
+
 /// Which rule a snapshot breaks, and at which record, where that can be said. It is read again, since restoring consumed
 /// it.
 fn broken_text(alloc: Global, text: &[u8], fault: RestoreFault) -> Result<String, Failure> {
+    let saved = read_saved(alloc, text)?;
+    let (rule, breach) = broken_rule(alloc, &saved, fault)?;
+    Ok(broken_line(alloc, fault.number(), rule, breach)?)
+}
+
+fn broken_rule(
+    alloc: Global,
+    saved: &Saved,
+    fault: RestoreFault,
+) -> Result<(&'static str, Option<Breach>), AllocError> {
     let number = fault.number();
-    let (words, found) = match read_saved(alloc, text)? {
-        Saved::Atlas(snapshot) => (shelf_rule(number), breach_of(alloc, &snapshot, fault)?),
-        Saved::Bucketed(snapshot) => {
-            (
-                bucket_rule(number),
-                breach_of_buckets(alloc, &snapshot, fault)?,
-            )
-        }
-    };
-    let mut line = format!(in alloc; "broken {number}: {words}")?;
-    if let Some(breach) = found {
+    match saved {
+        Saved::Atlas(snapshot) => Ok((shelf_rule(number), breach_of(alloc, snapshot, fault)?)),
+        Saved::Bucketed(snapshot) => Ok((
+            bucket_rule(number),
+            breach_of_buckets(alloc, snapshot, fault)?,
+        )),
+    }
+}
+
+fn broken_line(
+    alloc: Global,
+    number: u32,
+    rule: &str,
+    breach: Option<Breach>,
+) -> Result<String, AllocError> {
+    let mut line = format!(in alloc; "broken {number}: {rule}")?;
+    if let Some(breach) = breach {
         push_breach(&mut line, breach)?;
     }
     line.push_str("\n")?;

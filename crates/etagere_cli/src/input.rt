@@ -2,9 +2,9 @@
 
 use crate::progress::Progress;
 use clap::ArgMatches;
-use std::alloc::Global;
+use std::alloc::{AllocError, Global};
 use std::fs;
-use std::io::Read;
+use std::io::{self, Read};
 use std::rt::{Clock, Files};
 use tool_answers::ending::Failure;
 
@@ -18,14 +18,27 @@ pub fn read_named<R: Clock + Eprint>(
     name: &str,
     progress: &mut Progress<'_, R>,
 ) -> Result<Vec<u8>, Failure> {
-    let alloc = rt.alloc();
     match matches.get_str(name) {
-        None | Some("-") => read_all(alloc, &mut rt.reader(), progress),
-        Some(path) => match fs::open(rt, path) {
-            Ok(mut file) => read_all(alloc, &mut file, progress),
-            Err(why) => Err(Failure::File(format!(in alloc; "{path}: can't be opened: {why}")?)),
-        },
+        None | Some("-") => read_all(rt.alloc(), &mut rt.reader(), progress),
+        Some(path) => read_file(rt, path, progress),
     }
+}
+
+fn read_file<R: Clock + Eprint>(
+    rt: &(impl Files + AllocGlobal),
+    path: &str,
+    progress: &mut Progress<'_, R>,
+) -> Result<Vec<u8>, Failure> {
+    match fs::open(rt, path) {
+        Ok(mut file) => read_all(rt.alloc(), &mut file, progress),
+        Err(why) => Err(unopened(rt.alloc(), path, why)?),
+    }
+}
+
+/// Why there is no answer, where a file can't be opened.
+fn unopened(alloc: Global, path: &str, why: io::Error) -> Result<Failure, AllocError> {
+    let text = format!(in alloc; "{path}: can't be opened: {why}")?;
+    Ok(Failure::File(text))
 }
 
 /// All that a reader has.

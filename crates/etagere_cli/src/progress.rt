@@ -46,20 +46,24 @@ impl<'a, R: Clock + Eprint> Progress<'a, R> {
         };
         let lines = bytes.iter().filter(|byte| **byte == b'\n').count();
         self.lines = self.lines.saturating_add(lines as u64);
-        let Ok(elapsed) = start.elapsed(self.rt) else {
-            return;
-        };
-        let now = elapsed.as_millis();
-        if now.saturating_sub(self.told) >= PAUSE {
-            self.told = now;
-            let (lines, rate) = (
-                self.lines,
-                u128::from(self.lines).saturating_mul(1000) / now.max(1),
-            );
-            let _ = self
-                .rt
-                .eprint(format_args!("\r{lines} lines read, {rate} a second "));
+        if let Ok(elapsed) = start.elapsed(self.rt) {
+            self.tell(elapsed.as_millis());
         }
+    }
+
+    /// Tells of the lines, unless that was done just before.
+    fn tell(&mut self, now: u128) {
+        if now.saturating_sub(self.told) < PAUSE {
+            return;
+        }
+        self.told = now;
+        let (lines, rate) = (
+            self.lines,
+            u128::from(self.lines).saturating_mul(1000) / now.max(1),
+        );
+        let _ = self
+            .rt
+            .eprint(format_args!("\r{lines} lines read, {rate} a second "));
     }
 
     /// Tells that the commands run that were read, where these are many.

@@ -1,6 +1,6 @@
 //! `etagere stats`: what a script asks for, and how full it leaves the atlas; or how full a saved one is.
 
-use crate::counting::{json_text, plain_text, report_of_saved, report_of_script};
+use crate::counting::{Report, json_text, plain_text, report_of_saved, report_of_script};
 use crate::input::snapshot_text;
 use clap::ArgMatches;
 use run_scripts::script::Script;
@@ -34,17 +34,21 @@ fn plot_of(alloc: Global, script: &Script) -> Result<String, Failure> {
 }
 
 fn counts(alloc: Global, input: &[u8], is_json: bool) -> Result<String, Failure> {
-    let report = match snapshot_text(input) {
-        Some(text) => report_of_saved(alloc, read_saved(alloc, text)?)?,
-        None => {
-            let script = script_in(alloc, input)?;
-            report_of_script(alloc, &script)?
-        }
-    };
+    let report = report_of(alloc, input)?;
     let text = if is_json {
         json_text(alloc, &report)?
     } else {
         plain_text(alloc, &report)?
     };
     Ok(text)
+}
+
+fn report_of(alloc: Global, input: &[u8]) -> Result<Report, Failure> {
+    match snapshot_text(input) {
+        Some(text) => report_of_saved(alloc, read_saved(alloc, text)?),
+        None => {
+            let script = script_in(alloc, input)?;
+            report_of_script(alloc, &script)
+        }
+    }
 }

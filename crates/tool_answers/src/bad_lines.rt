@@ -76,16 +76,27 @@ fn expected_command(line: &[u8], header: &[u8]) -> &'static str {
     if matches!(line, [.., b'\r']) {
         return "a line ends with a line feed alone, without a carriage return";
     }
+    expected_by_letter(line, is_of_shelves(header))
+}
+
+fn expected_by_letter(line: &[u8], is_of_shelves: bool) -> &'static str {
     match line {
         [b'a' | b'g', b' ', words @ ..] => expected_size(words),
         [b'r', b' ', words @ ..] => expected_position(words),
-        [b'l', b' ', words @ ..] if is_of_shelves(header) => expected_position(words),
-        [b'l', ..] if !is_of_shelves(header) => "an atlas of buckets knows no l",
+        [b'l', b' ', words @ ..] if is_of_shelves => expected_position(words),
+        _ => expected_letter(line, is_of_shelves),
+    }
+}
+
+/// What was expected on a line that isn't a letter with the words that it takes.
+fn expected_letter(line: &[u8], is_of_shelves: bool) -> &'static str {
+    match line {
+        [b'l', ..] if !is_of_shelves => "an atlas of buckets knows no l",
         [b'a' | b'g'] => "a width and a height are expected behind a or g",
         [b'r' | b'l'] => "the position of a command is expected behind r or l",
         [b'c', ..] => "c, which clears, stands alone",
         [b' ', ..] => "a line doesn't begin with a space",
-        _ if is_of_shelves(header) => "a W H, r K, l K, g W H or c is expected",
+        _ if is_of_shelves => "a W H, r K, l K, g W H or c is expected",
         _ => "a W H, r K, g W H or c is expected",
     }
 }

@@ -79,18 +79,27 @@ fn list_in(alloc: Global, input: &[u8]) -> Result<Vec<Wanted<'_>>, Failure> {
 /// The pages of these sides, at most so many, or any number where none is named; none where one of the words isn't a
 /// number.
 pub fn asked_pages(width: &str, height: &str, most: Option<&str>) -> Option<PageOptions> {
-    let width = number_of(width.as_bytes())?;
-    let height = number_of(height.as_bytes())?;
-    let most_pages = match most {
-        Some(number) => u32::try_from(position_of(number.as_bytes())?).ok()?,
-        None => u32::MAX,
-    };
+    let size = asked_size(width, height)?;
+    let most_pages = asked_most(most)?;
     Some(PageOptions {
-        size: size2(width, height),
+        size,
         atlas: DEFAULT_OPTIONS,
         most_pages,
         choice: PageChoice::FirstFit,
     })
+}
+
+fn asked_size(width: &str, height: &str) -> Option<Size> {
+    let width = number_of(width.as_bytes())?;
+    let height = number_of(height.as_bytes())?;
+    Some(size2(width, height))
+}
+
+fn asked_most(most: Option<&str>) -> Option<u32> {
+    match most {
+        Some(number) => u32::try_from(position_of(number.as_bytes())?).ok(),
+        None => Some(u32::MAX),
+    }
 }
 
 /// A line for each size without a place, each but the last with a line feed: what an empty page says of it, or that no

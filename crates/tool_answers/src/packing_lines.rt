@@ -82,11 +82,16 @@ fn wanted_of<'a>(line: u64, name: &'a [u8], width: &[u8], height: &[u8]) -> Opti
 
 /// The bytes before the last separator and those after it, if there is one.
 fn split_last(bytes: &[u8], separator: u8) -> Option<(&[u8], &[u8])> {
-    let after = bytes
+    let after = count_after(bytes, separator);
+    let position = bytes.len().checked_sub(after)?.checked_sub(1)?;
+    Some((&bytes[..position], &bytes[position + 1..]))
+}
+
+/// How many bytes are after the last separator; all where there is none.
+fn count_after(bytes: &[u8], separator: u8) -> usize {
+    bytes
         .iter()
         .rev()
         .take_while(|byte| **byte != separator)
-        .count();
-    let position = bytes.len().checked_sub(after)?.checked_sub(1)?;
-    Some((&bytes[..position], &bytes[position + 1..]))
+        .count()
 }

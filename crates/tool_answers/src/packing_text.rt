@@ -58,26 +58,50 @@ pub fn json_text(
     replies: &[PageReply],
 ) -> Result<String, AllocError> {
     let mut text = String::new(alloc);
+    push_head(&mut text, page, count_pages(replies))?;
+    push_places(&mut text, wanted, replies)?;
+    text.push_str("]}\n")?;
+    Ok(text)
+}
+
+fn push_head(text: &mut String, page: Size, pages: u64) -> Result<(), AllocError> {
     push_pieces(
-        &mut text,
+        text,
         &[
             Words("{\"width\":"),
             Number(page.width),
             Words(",\"height\":"),
             Number(page.height),
             Words(",\"pages\":"),
-            Count(u128::from(count_pages(replies))),
+            Count(u128::from(pages)),
             Words(",\"places\":["),
         ],
-    )?;
+    )
+}
+
+fn push_places(
+    text: &mut String,
+    wanted: &[Wanted<'_>],
+    replies: &[PageReply],
+) -> Result<(), AllocError> {
     for (index, (one, reply)) in wanted.iter().zip(replies).enumerate() {
-        if let PageReply::Placed(paged) = reply {
-            text.push_str(if index == 0 { "{" } else { ",{" })?;
-            push_object(&mut text, one, paged)?;
-        }
+        push_place(text, index, one, reply)?;
     }
-    text.push_str("]}\n")?;
-    Ok(text)
+    Ok(())
+}
+
+/// Adds the place at an index, where there is one.
+fn push_place(
+    text: &mut String,
+    index: usize,
+    one: &Wanted<'_>,
+    reply: &PageReply,
+) -> Result<(), AllocError> {
+    let PageReply::Placed(paged) = reply else {
+        return Ok(());
+    };
+    text.push_str(if index == 0 { "{" } else { ",{" })?;
+    push_object(text, one, paged)
 }
 
 fn count_pages(replies: &[PageReply]) -> u64 {
@@ -122,12 +146,16 @@ fn push_object(
 /// The characters of a name within a string of JSON.
 fn push_escaped(text: &mut String, name: &str) -> Result<(), AllocError> {
     for letter in name.chars() {
-        match letter {
-            '"' => text.push_str("\\\"")?,
-            '\\' => text.push_str("\\\\")?,
-            '\0'..='\x1f' => write!(text, "\\u{:04x}", letter as u32)?,
-            _ => text.push(letter)?,
-        }
+        push_letter(text, letter)?;
     }
     Ok(())
+}
+
+fn push_letter(text: &mut String, letter: char) -> Result<(), AllocError> {
+    match letter {
+        '"' => text.push_str("\\\""),
+        '\\' => text.push_str("\\\\"),
+        '\0'..='\x1f' => write!(text, "\\u{:04x}", letter as u32),
+        _ => text.push(letter),
+    }
 }

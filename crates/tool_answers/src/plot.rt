@@ -60,18 +60,21 @@ pub fn plot_text(alloc: Global, moments: &[Moment]) -> Result<String, AllocError
     let mut text = String::new(alloc);
     text.push_str(HEAD)?;
     for curve in [Curve::Fill, Curve::Live, Curve::Refused] {
-        push_caption(&mut text, moments, curve)?;
-        push_curve(&mut text, moments, curve)?;
+        push_group(&mut text, moments, curve)?;
     }
+    push_foot(&mut text, last(moments).commands)?;
+    Ok(text)
+}
+
+fn push_foot(text: &mut String, commands: usize) -> Result<(), AllocError> {
     push_pieces(
-        &mut text,
+        text,
         &[
             Words("<text y=\"400\">0</text>\n<text x=\"1000\" y=\"400\" text-anchor=\"end\">"),
-            Count(last(moments).commands as u128),
+            Count(commands as u128),
             Words(" commands</text>\n</svg>\n"),
         ],
-    )?;
-    Ok(text)
+    )
 }
 
 const HEAD: &str =
@@ -100,32 +103,40 @@ fn last(moments: &[Moment]) -> Moment {
     }
 }
 
+fn push_group(text: &mut String, moments: &[Moment], curve: Curve) -> Result<(), AllocError> {
+    push_caption(text, moments, curve)?;
+    push_curve(text, moments, curve)
+}
+
 /// The beginning of the group of a curve, with what is said above it.
 fn push_caption(text: &mut String, moments: &[Moment], curve: Curve) -> Result<(), AllocError> {
     let value = curve.value(&last(moments));
-    let (tenth, unit, top) = match curve {
-        Curve::Fill => (Some(value % 10), " %", 100),
-        _ => (None, "", curve.top(moments)),
-    };
     text.push_str(curve.opening())?;
-    match tenth {
-        Some(tenth) => push_pieces(
-            text,
-            &[
-                Count(u128::from(value / 10)),
-                Words("."),
-                Count(u128::from(tenth)),
-            ],
-        )?,
-        None => push_pieces(text, &[Count(u128::from(value))])?,
+    match curve {
+        Curve::Fill => push_thousandths(text, value),
+        _ => push_values(text, value, curve.top(moments)),
     }
+}
+
+fn push_thousandths(text: &mut String, value: u64) -> Result<(), AllocError> {
     push_pieces(
         text,
         &[
-            Words(unit),
+            Count(u128::from(value / 10)),
+            Words("."),
+            Count(u128::from(value % 10)),
+            Words(" % at the end, 100 % at the top</text>\n"),
+        ],
+    )
+}
+
+fn push_values(text: &mut String, value: u64, top: u64) -> Result<(), AllocError> {
+    push_pieces(
+        text,
+        &[
+            Count(u128::from(value)),
             Words(" at the end, "),
             Count(u128::from(top)),
-            Words(unit),
             Words(" at the top</text>\n"),
         ],
     )
@@ -139,17 +150,23 @@ fn push_curve(text: &mut String, moments: &[Moment], curve: Curve) -> Result<(),
     for (index, moment) in moments.iter().enumerate() {
         let x = scaled(moment.commands as u64, commands, WIDTH);
         let y = HEIGHT.saturating_sub(scaled(curve.value(moment), top, HEIGHT));
-        push_pieces(
-            text,
-            &[
-                Words(if index == 0 { "M" } else { "L" }),
-                Count(u128::from(x)),
-                Words(" "),
-                Count(u128::from(y)),
-            ],
-        )?;
+        let letter = if index == 0 { "M" } else { "L" };
+        push_point(text, letter, x, y)?;
     }
     text.push_str("\"/>\n</g>\n")
+}
+
+/// A point, behind the letter that moves or draws to it.
+fn push_point(text: &mut String, letter: &str, x: u64, y: u64) -> Result<(), AllocError> {
+    push_pieces(
+        text,
+        &[
+            Words(letter),
+            Count(u128::from(x)),
+            Words(" "),
+            Count(u128::from(y)),
+        ],
+    )
 }
 
 /// A part of a whole, at this scale.

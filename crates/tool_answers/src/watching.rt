@@ -28,10 +28,14 @@ pub fn watch(alloc: Global, script: &[u8]) -> Result<Answer, Failure> {
 /// The bytes of the whole page.
 fn page(alloc: Global, script: &[u8], replies: &[u8]) -> Result<Vec<u8>, AllocError> {
     let mut bytes = Vec::new(alloc);
-    bytes.extend_from_slice(HEAD.as_bytes())?;
-    bytes.extend_from_slice(script)?;
-    bytes.extend_from_slice(MIDDLE.as_bytes())?;
-    bytes.extend_from_slice(replies)?;
-    bytes.extend_from_slice(TAIL.as_bytes())?;
+    for part in [
+        HEAD.as_bytes(),
+        script,
+        MIDDLE.as_bytes(),
+        replies,
+        TAIL.as_bytes(),
+    ] {
+        bytes.extend_from_slice(part)?;
+    }
     Ok(bytes)
 }

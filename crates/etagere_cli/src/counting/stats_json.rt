@@ -1,5 +1,6 @@
 //! What is told, as JSON for programs: one object on one line.
 
+use crate::counting::heights::SameHeight;
 use crate::counting::report::{Asked, Fullness, Report};
 use crate::counting::stats_text::natural;
 use std::alloc::{AllocError, Global};
@@ -86,16 +87,21 @@ fn push_fullness(text: &mut String, fullness: &Fullness) -> Result<(), AllocErro
 fn push_heights(text: &mut String, report: &Report) -> Result<(), AllocError> {
     text.push_str("\"heights\":[")?;
     for (index, same) in report.heights.iter().enumerate() {
-        push_pieces(
-            text,
-            &[
-                Words(if index == 0 { "[" } else { ",[" }),
-                Count(u128::from(same.height)),
-                Words(","),
-                Count(same.shelves as u128),
-                Words("]"),
-            ],
-        )?;
+        let opening = if index == 0 { "[" } else { ",[" };
+        push_height(text, opening, *same)?;
     }
     text.push_str("]")
+}
+
+fn push_height(text: &mut String, opening: &str, same: SameHeight) -> Result<(), AllocError> {
+    push_pieces(
+        text,
+        &[
+            Words(opening),
+            Count(u128::from(same.height)),
+            Words(","),
+            Count(same.shelves as u128),
+            Words("]"),
+        ],
+    )
 }

@@ -113,7 +113,11 @@ fn push_shelves(text: &mut String, report: &Report) -> Result<(), AllocError> {
             Words(" are empty\n"),
         ],
     )?;
-    for same in report.heights.as_slice() {
+    push_heights(text, report.heights.as_slice())
+}
+
+fn push_heights(text: &mut String, heights: &[SameHeight]) -> Result<(), AllocError> {
+    for same in heights {
         push_height(text, *same)?;
     }
     Ok(())
