@@ -1,19 +1,19 @@
 # Runs the commands given, each a line of words, side by side. What one says is told whole, in their order; the status is 0
-# where that of each is.
+# where that of each is. A command may be a function of the script, so no name of a variable is one that scripts use.
 side_by_side() (
-    room=$(mktemp -d) || exit
-    trap 'rm -rf -- "$room"' EXIT
-    status=0
+    said_in=$(mktemp -d) || exit
+    trap 'rm -rf -- "$said_in"' EXIT
+    of_all=0
     begun=()
-    for command in "$@"; do
+    for line in "$@"; do
         # A command may have arguments.
         # shellcheck disable=SC2086
-        $command > "$room/${#begun[@]}" 2>&1 &
+        $line > "$said_in/${#begun[@]}" 2>&1 &
         begun+=("$!")
     done
     for at in "${!begun[@]}"; do
-        wait "${begun[at]}" || status=$?
-        cat -- "$room/$at"
+        wait "${begun[at]}" || of_all=$?
+        cat -- "$said_in/$at"
     done
-    exit "$status"
+    exit "$of_all"
 )
