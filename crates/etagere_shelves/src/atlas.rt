@@ -4,7 +4,7 @@
 //! fields keep. The clauses stay as they are: callers prove by them. Fields may change, with `state_in`
 //! and `IsConsistent`.
 
-ghost use Rattle.std.specs.Prelude.{◌≡◌, ◌↔◌, ◌*◌, ◌-◌, ◌+ℤ◌, [], Err, None, Some, true, false, ◌≤◌, pos, IfOk, IfErr, IfSome, IfNone, OnOk, OnErr, IsErr, IsTrue, is_some, length, map, option_map};
+ghost use Rattle.std.specs.Prelude.{◌≡◌, ℕ, ◌↔◌, ◌*◌, ◌-◌, ◌+ℤ◌, [], Err, None, Some, true, false, ◌≤◌, pos, IfOk, IfErr, IfSome, IfNone, OnOk, OnErr, IsErr, IsTrue, is_some, length, map, option_map};
 ghost use Rattle.std.specs.Io.KnownBytes.{Appends};
 ghost use Rattle.etagere_base.specs.Frames as frames;
 ghost use Rattle.etagere_base.specs.Frames.{IsAccepted, longest_side, options_fault};
@@ -25,6 +25,7 @@ ghost use Rattle.shelf_model.specs.Places.{allocations, is_allocated};
 ghost use Rattle.etagere_base.specs.Rectangles.{IsLarge};
 ghost use Rattle.shelf_heights.specs.Private.ByHeight.{AreByHeight};
 ghost use Rattle.shelf_records.specs.Private.Kept.{AreKept};
+ghost use Rattle.shelf_notes.specs.Private.SecondWidths.{second_at};
 ghost use Rattle.shelf_store.specs.Private.Settling.{AreSettled};
 ghost use Rattle.shelf_model.specs.Returning.{returned};
 ghost use Rattle.shelf_records.specs.AtlasRecords.{state_spelled};
@@ -48,6 +49,7 @@ use shelf_heights::by_height::ShelvesByHeight;
 use shelf_model::faults::{AtlasGrowFault, Refusal};
 use shelf_model::usage::Usage;
 use shelf_notes::pending::PendingShelves;
+use shelf_notes::second_widths::SecondWidths;
 use shelf_records::Records;
 use shelf_records::snapshots::snapshot_of;
 use shelf_restoring::loaded_atlas::LoadedAtlas;
@@ -59,9 +61,11 @@ use shelf_search::tallying::{largest_free, usage};
 use shelf_store::growing::counting::needed_for;
 use shelf_store::growing::{grow_shelves, size_fault};
 use shelf_store::returning::return_item;
-use shelf_store::settling::{settle_notes, settle_shelves, settle_unless_few, settled_notes};
+use shelf_store::settling::{
+    settle_notes, settle_shelves, settle_unless_few, settled_notes, unknown_seconds,
+};
 use shelf_store::starting::{fresh_by_height, fresh_records, reset_by_height, reset_records};
-use shelf_store::taking::take_placement;
+use shelf_store::taking::take_found;
 use snapshot_records::shelves::AtlasSnapshot;
 use std::alloc::{AllocError, Global};
 use std::io::{self, Write};
@@ -85,6 +89,7 @@ pub struct AtlasAllocator {
     records: Records,
     by_height: ShelvesByHeight,
     pending: PendingShelves,
+    seconds: SecondWidths,
     items_in_use: u32,
     allocated_space: u32,
 }
@@ -152,11 +157,15 @@ impl AtlasAllocator {
         let Ok(pending) = settled_notes(alloc, &records, &by_height) else {
             return Err(OptionsFault::Memory);
         };
+        let Ok(seconds) = unknown_seconds(alloc, &records) else {
+            return Err(OptionsFault::Memory);
+        };
         Ok(AtlasAllocator {
             frame,
             records,
             by_height,
             pending,
+            seconds,
             items_in_use: frame.columns,
             allocated_space: 0,
         })
@@ -183,11 +192,13 @@ impl AtlasAllocator {
         atlas: LoadedAtlas,
         by_height: ShelvesByHeight,
         pending: PendingShelves,
+        seconds: SecondWidths,
         items_in_use: u32,
     ) -> AtlasAllocator
         requires kept { AreKept atlas.frame atlas.records }
         requires by_height { AreByHeight atlas.frame atlas.records by_height.items }
         requires settled { AreSettled atlas.records pending.notes }
+        requires seconds { (k : ℕ) → second_at seconds k ≡ 65535 }
         requires room { length atlas.records.shelves ≤ by_height.capacity }
         requires room_to_note { length atlas.records.shelves ≤ pending.room }
         requires space { atlas.allocated_space ≡ pos (space.space_in (state_spelled atlas).shelves) }
@@ -201,6 +212,7 @@ impl AtlasAllocator {
             records: atlas.records,
             by_height,
             pending,
+            seconds,
             items_in_use,
             allocated_space,
         }
@@ -316,10 +328,11 @@ impl AtlasAllocator {
         };
         let rectangle = placement.rectangle(&self.frame);
         let column_width = self.frame.column_width as u16;
-        let id = take_placement(
+        let id = take_found(
             &mut self.records,
             &mut self.by_height,
             &mut self.pending,
+            &mut self.seconds,
             &placement,
             column_width,
         )?;
@@ -397,6 +410,7 @@ impl AtlasAllocator {
             &mut self.records,
             &mut self.by_height,
             &mut self.pending,
+            &mut self.seconds,
             shelf,
             number,
         );
@@ -483,6 +497,7 @@ impl AtlasAllocator {
             &mut self.records,
             &mut self.by_height,
             &mut self.pending,
+            &mut self.seconds,
             &self.frame,
             &grown,
             needed,
@@ -506,6 +521,7 @@ impl AtlasAllocator {
         reset_records(&self.frame, &mut self.records);
         reset_by_height(&self.frame, &mut self.by_height);
         settle_notes(&self.records, &self.by_height, &mut self.pending);
+        self.seconds.restart(self.frame.columns as usize);
         self.items_in_use = self.frame.columns;
         self.allocated_space = 0;
     }
@@ -596,11 +612,13 @@ impl Clone for AtlasAllocator {
         let records = self.records.clone()?;
         let by_height = self.by_height.copied(records.shelves().len())?;
         let pending = self.pending.copied(records.shelves().len())?;
+        let seconds = self.seconds.copied()?;
         Ok(AtlasAllocator {
             frame: self.frame,
             records,
             by_height,
             pending,
+            seconds,
             items_in_use: self.items_in_use,
             allocated_space: self.allocated_space,
         })

@@ -24,7 +24,7 @@ use shelf_restoring::loaded_atlas::LoadedAtlas;
 use shelf_restoring::rules::judge_rules;
 use shelf_restoring::walked_lists::walked_shelves;
 use shelf_restoring::walking::{WalkedRecords, walk_records};
-use shelf_store::settling::settled_notes;
+use shelf_store::settling::{settled_notes, unknown_seconds};
 use shelf_store::starting::newly_bounded;
 use snapshot_records::shelves::AtlasSnapshot;
 use std::alloc::{AllocError, Global};
@@ -135,6 +135,9 @@ pub fn restore_atlas(
     let Ok(pending) = settled_notes(alloc, &atlas.records, &by_height) else {
         return Err(RestoreFault::Memory);
     };
+    let Ok(seconds) = unknown_seconds(alloc, &atlas.records) else {
+        return Err(RestoreFault::Memory);
+    };
     let items_in_use = walked.items.met.len() as u32;
-    Ok(AtlasAllocator::of_judged(atlas, by_height, pending, items_in_use))
+    Ok(AtlasAllocator::of_judged(atlas, by_height, pending, seconds, items_in_use))
 }

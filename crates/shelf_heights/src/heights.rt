@@ -471,29 +471,53 @@ fn move_to(by_height: &mut ShelvesByHeight, shelf: usize, from: usize, to: usize
     by_height.keep_position(shelf, to);
 }
 
-/// Raises the bound of a shelf to this width, where it is less.
-pub fn raise(shelves: &[LinkedShelf], by_height: &mut ShelvesByHeight, shelf: usize, width: u16)
+/// Raises the bound of a shelf to this width, where it is less, and gives what it was.
+pub fn raise(
+    shelves: &[LinkedShelf],
+    by_height: &mut ShelvesByHeight,
+    shelf: usize,
+    width: u16,
+) -> u16
     requires order { AreInOrder shelves.now by_height.old.items }
     requires stands { 1 ≤ times shelf (spec.numbers_by_height by_height.old.items) }
     ensures by_height { by_height.new.items ≡ spec.raised shelf width by_height.old.items }
+    ensures bound { result ≡ spec.bound_of shelf by_height.old.items }
     ensures capacity { by_height.old.capacity ≤ by_height.new.capacity }
 {
     let index = position_of(shelves, by_height, shelf);
-    raise_at(by_height, index, width);
+    raise_at(by_height, index, width)
 }
 
-/// Raises the bound of the shelf at this position to this width, where it is less.
-fn raise_at(by_height: &mut ShelvesByHeight, index: usize, width: u16)
+/// Raises the bound of the shelf at this position to this width, where it is less, and gives what it was.
+fn raise_at(by_height: &mut ShelvesByHeight, index: usize, width: u16) -> u16
     requires index { index < length by_height.old.items }
     requires once { times (spec.bounded_at by_height.old.items index).shelf
         (spec.numbers_by_height by_height.old.items) ≤ 1 }
     ensures by_height { by_height.new.items
         ≡ spec.raised (spec.bounded_at by_height.old.items index).shelf width by_height.old.items }
+    ensures bound { result
+        ≡ spec.bound_of (spec.bounded_at by_height.old.items index).shelf by_height.old.items }
     ensures capacity { by_height.old.capacity ≤ by_height.new.capacity }
 {
     let mut one = by_height.get(index);
-    if one.widest < width {
+    let bound = one.widest;
+    if bound < width {
         one.widest = width;
         by_height.set(index, one);
     }
+    bound
+}
+
+/// Gives a shelf another bound. Never inlined, so that what takes an item beside wider ones is short.
+#[inline(never)]
+pub fn rebound(shelves: &[LinkedShelf], by_height: &mut ShelvesByHeight, shelf: usize, width: u16)
+    requires order { AreInOrder shelves.now by_height.old.items }
+    requires stands { 1 ≤ times shelf (spec.numbers_by_height by_height.old.items) }
+    ensures by_height { by_height.new.items ≡ spec.rebounded shelf width by_height.old.items }
+    ensures capacity { by_height.old.capacity ≤ by_height.new.capacity }
+{
+    let position = position_of(shelves, by_height, shelf);
+    let mut one = by_height.get(position);
+    one.widest = width;
+    by_height.set(position, one);
 }

@@ -5,3 +5,4 @@ pub mod PlacementTaken
 pub mod ReturnedNotes
 pub mod RecordsGrown
 pub mod Settling
+pub mod SecondWidths

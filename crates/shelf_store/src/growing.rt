@@ -10,6 +10,7 @@ ghost use Rattle.shelf_model.specs.Growing as growing;
 ghost use Rattle.shelf_records.specs.Private.Kept.{AreKept};
 ghost use Rattle.shelf_store.specs.Private.Settling.{AreSettled};
 ghost use Rattle.shelf_store.specs.Private.RecordsGrown as spec;
+ghost use Rattle.shelf_store.specs.Private.SecondWidths.{AreSeconds};
 ghost use Rattle.shelf_store.specs.Private.RecordsGrown.{CanGrow};
 
 pub mod appending;
@@ -27,6 +28,7 @@ use etagere_base::{Frame, LONGEST_SIDE, ResizeFault, Size, resize_fault};
 use shelf_heights::by_height::ShelvesByHeight;
 use shelf_model::faults::AtlasGrowFault;
 use shelf_notes::pending::PendingShelves;
+use shelf_notes::second_widths::SecondWidths;
 use shelf_records::Records;
 use std::alloc::AllocError;
 
@@ -61,6 +63,7 @@ pub fn grow_shelves(
     records: &mut Records,
     by_height: &mut ShelvesByHeight,
     pending: &mut PendingShelves,
+    seconds: &mut SecondWidths,
     frame: &Frame,
     grown: &Frame,
     needed: Needed,
@@ -78,6 +81,7 @@ pub fn grow_shelves(
         (records.new ≡ (spec.records_grown frame.now grown.now needed records.old).records) }
     ensures by_height { OnOk result (AreByHeight grown.now records.new by_height.new.items) }
     ensures settled { OnOk result (AreSettled records.new pending.new.notes) }
+    ensures seconds { AreSeconds records.old seconds.old → AreSeconds records.new seconds.new }
     ensures err { OnErr result (records.new ≡ records.old) }
     ensures same { OnErr result (by_height.new.items ≡ by_height.old.items) }
     ensures same_notes { OnErr result (pending.new.notes ≡ pending.old.notes) }
@@ -85,14 +89,16 @@ pub fn grow_shelves(
     ensures room_to_note { length records.new.shelves ≤ pending.new.room }
     ensures some { OnErr result (0 < needed.items) }
 {
-    reserve_shelves(records, by_height, pending, needed.shelves)?;
+    reserve_shelves(records, by_height, pending, seconds, needed.shelves)?;
     grow_records(records, frame, grown, needed)?;
     if needed.shelves > 0 {
         sort_shelves(grown, records, by_height);
         settle_notes(records, by_height, pending);
+        seconds.restart(records.shelves().len());
     } else if is_extended(frame, grown) {
         reorder_shelves(grown, records, by_height);
         settle_notes(records, by_height, pending);
+        seconds.restart(records.shelves().len());
     }
     Ok(())
 }

@@ -12,7 +12,8 @@ ghost use Rattle.shelf_store.specs.Private.ItemReturned.{CanMergeItem, CanMergeS
 ghost use Rattle.shelf_heights.specs.Private.ByHeight.{AreInOrder, numbers_by_height};
 ghost use Rattle.shelf_notes.specs.Private.Pending.{is_noted};
 ghost use Rattle.shelf_store.specs.Private.ReturnedNotes as noting;
-ghost use Rattle.shelf_store.specs.Private.ReturnedNotes.{CanMergeAllNotes, CanMergeNamedNotes, CanMergeNotes, CanReturnByHeight};
+ghost use Rattle.shelf_store.specs.Private.SecondWidths.{returned_seconds, seconds_after};
+ghost use Rattle.shelf_store.specs.Private.ReturnedNotes.{freed_width, CanMergeAllNotes, CanMergeNamedNotes, CanMergeNotes, CanReturnByHeight};
 ghost use Rattle.etagere_links.specs.Edits.{link_at};
 ghost use Rattle.etagere_links.specs.Links.{no_link};
 ghost use Rattle.shelf_records.specs.Neighbours.{HasNeighbours, NamesOneOf};
@@ -22,6 +23,7 @@ use etagere_links::Link;
 use shelf_heights::by_height::ShelvesByHeight;
 use shelf_heights::heights::raise;
 use shelf_notes::pending::PendingShelves;
+use shelf_notes::second_widths::SecondWidths;
 use shelf_records::{LinkedItem, LinkedShelf, Records};
 
 /// The bits of a link that names no record, as a number.
@@ -40,6 +42,7 @@ pub fn return_item(
     records: &mut Records,
     by_height: &mut ShelvesByHeight,
     pending: &mut PendingShelves,
+    seconds: &mut SecondWidths,
     shelf: usize,
     number: usize,
 ) -> u32
@@ -52,9 +55,12 @@ pub fn return_item(
     ensures by_height { by_height.new.items
         ≡ noting.returned_by_height number records.old pending.old.notes by_height.old.items }
     ensures notes { pending.new.notes ≡ noting.returned_notes number records.old pending.old.notes }
+    ensures seconds { seconds.new
+        ≡ returned_seconds number records.old pending.old.notes by_height.old.items seconds.old }
     ensures room { pending.new.room ≡ pending.old.room }
     ensures made_unused { result ≡ returned.unused_by number records.old }
     ensures few { result < 5 }
+    ensures narrow { freed_width records.old.items number ≤ 65535 }
     ensures capacity { by_height.old.capacity ≤ by_height.new.capacity }
 {
     let merged = merge_item(records, shelf, number);
@@ -63,19 +69,20 @@ pub fn return_item(
     if is_alone(items, merged.item) {
         records.set_empty_present(shelf, true);
         let made_unused = merge_shelves(records, pending, shelf);
-        raise_unless_noted(by_height, pending, shelf, width);
+        raise_unless_noted(by_height, pending, seconds, shelf, width);
         merged.made_unused + made_unused
     } else {
-        raise_unless_noted(by_height, pending, shelf, width);
+        raise_unless_noted(by_height, pending, seconds, shelf, width);
         merged.made_unused
     }
 }
 
-/// Raises the bound of a shelf to this width, where it is less. One that has changed is put in anew, with a bound of its
-/// own.
+/// Raises the bound of a shelf to this width, where it is less, and the width that no more than one free item passes, where
+/// two may. One that has changed is put in anew, with a bound of its own.
 fn raise_unless_noted(
     by_height: &mut ShelvesByHeight,
     pending: &PendingShelves,
+    seconds: &mut SecondWidths,
     shelf: usize,
     width: u16,
 )
@@ -85,11 +92,17 @@ fn raise_unless_noted(
         → 1 ≤ times shelf (numbers_by_height by_height.old.items) }
     ensures by_height { by_height.new.items
         ≡ noting.raised_unless (is_noted pending.now.notes shelf) shelf width by_height.old.items }
+    ensures seconds { seconds.new
+        ≡ seconds_after (is_noted pending.now.notes shelf) shelf width by_height.old.items seconds.old }
     ensures capacity { by_height.old.capacity ≤ by_height.new.capacity }
 {
-    if !pending.is_noted(shelf) {
-        raise(pending.kept(), by_height, shelf, width);
+    let second = seconds.second(shelf).max(width);
+    if pending.is_noted(shelf) {
+        seconds.keep(shelf, second);
+        return;
     }
+    let bound = raise(pending.kept(), by_height, shelf, width);
+    seconds.keep(shelf, if bound < width { bound } else { second });
 }
 
 /// Whether an item stands alone in its shelf.

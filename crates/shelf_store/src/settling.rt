@@ -14,6 +14,7 @@ ghost use Rattle.etagere_base.specs.Lists.{times};
 ghost use Rattle.etagere_base.specs.declared.frames.Frame.{Frame};
 ghost use Rattle.etagere_links.specs.Links.{no_link};
 ghost use Rattle.shelf_notes.specs.Private.Pending.{is_in_use, is_listed, is_noted};
+ghost use Rattle.shelf_notes.specs.Private.SecondWidths.{second_at};
 ghost use Rattle.shelf_records.specs.Private.Kept.{AreKept, bare};
 ghost use Rattle.shelf_store.specs.Private.Settling as spec;
 ghost use Rattle.shelf_store.specs.Private.Settling.{AreByHeightExceptNoted, AreSettled, BeginAsListed, BeginsAsListed, Follows, IsBoundIn, IsBounded, IsListExceptNoted, IsListOf, IsSettled, bounded_anew};
@@ -24,6 +25,7 @@ use etagere_links::Link;
 use shelf_heights::by_height::{BoundedShelf, ShelvesByHeight};
 use shelf_heights::heights::{bounded, chain_order_of, position_of, put_in, settle, take_out};
 use shelf_notes::pending::{IN_USE, MOST_SEARCHES, PendingShelves, UNKNOWN};
+use shelf_notes::second_widths::SecondWidths;
 use shelf_records::{LinkedShelf, Records};
 use std::alloc::{AllocError, Global};
 
@@ -48,6 +50,7 @@ pub fn reserve_shelves(
     records: &Records,
     by_height: &mut ShelvesByHeight,
     pending: &mut PendingShelves,
+    seconds: &mut SecondWidths,
     wanted: u32,
 ) -> Result<(), AllocError>
     requires room { length records.now.shelves ≤ by_height.old.capacity }
@@ -64,6 +67,7 @@ pub fn reserve_shelves(
         ≤ pending.new.room) }
     ensures capacity { by_height.old.capacity ≤ by_height.new.capacity }
     ensures more_room { pending.old.room ≤ pending.new.room }
+    ensures seconds { (k : ℕ) → second_at seconds.new k ≡ second_at seconds.old k }
     ensures short { OnErr result
         (0 < missing shelf_chain wanted records.now.unused_shelves records.now.shelves) }
 {
@@ -71,7 +75,8 @@ pub fn reserve_shelves(
     if missing == 0 {
         return Ok(());
     }
-    reserve_room(by_height, pending, records.shelves().len() + missing)
+    let room = records.shelves().len() + missing;
+    reserve_room(by_height, pending, seconds, room)
 }
 
 /// Makes room for so many shelves, and for notes of them. Never inlined, so that where no record is missing no call is
@@ -80,6 +85,7 @@ pub fn reserve_shelves(
 fn reserve_room(
     by_height: &mut ShelvesByHeight,
     pending: &mut PendingShelves,
+    seconds: &mut SecondWidths,
     room: usize,
 ) -> Result<(), AllocError>
     ensures items { by_height.new.items ≡ by_height.old.items }
@@ -88,7 +94,9 @@ fn reserve_room(
     ensures room_to_note { OnOk result (room ≤ pending.new.room) }
     ensures capacity { by_height.old.capacity ≤ by_height.new.capacity }
     ensures more_room { pending.old.room ≤ pending.new.room }
+    ensures seconds { (k : ℕ) → second_at seconds.new k ≡ second_at seconds.old k }
 {
+    seconds.reserve(room)?;
     pending.reserve(room)?;
     by_height.reserve(room)
 }
@@ -107,6 +115,13 @@ pub fn settled_notes(
     let mut pending = PendingShelves::with_room(alloc, room)?;
     settle_notes(records, by_height, &mut pending);
     Ok(pending)
+}
+
+/// Second widths of the shelves of these records, of which nothing is known.
+pub fn unknown_seconds(alloc: Global, records: &Records) -> Result<SecondWidths, AllocError>
+    ensures { IfOk result (λ seconds. (k : ℕ) → second_at seconds k ≡ 65535) }
+{
+    SecondWidths::with_room(alloc, records.shelves().len().max(FIRST_ROOM))
 }
 
 /// Makes the notes those of a list that follows these records. There is room for them.

@@ -4,29 +4,79 @@
 //! the first change, so an `Err` changes nothing; this has to stay so. In the list by height no shelf is moved: that they
 //! have changed is noted.
 
-ghost use Rattle.std.specs.Prelude.{◌≡◌, ◌+◌, ◌<◌, ◌≤◌, Some, IfOk, OnOk, OnErr, IfSome, length};
+ghost use Rattle.std.specs.Prelude.{◌≡◌, ℕ, ◌+◌, ◌<◌, ◌≤◌, Some, IfOk, OnOk, OnErr, IfSome, false, length};
 ghost use Rattle.etagere_base.specs.Frames.{longest_side};
 ghost use Rattle.etagere_links.specs.Links.{no_link};
+ghost use Rattle.shelf_notes.specs.Private.SecondWidths.{second_at};
 ghost use Rattle.shelf_records.specs.RecordUses.{rests_missing};
 ghost use Rattle.shelf_model.specs.Choice.{splits};
 ghost use Rattle.shelf_store.specs.Private.PlacementTaken as spec;
+ghost use Rattle.shelf_store.specs.Private.SecondWidths.{FollowsTaking, IsBoundLeft};
+ghost use Rattle.etagere_base.specs.Lists.{times};
+ghost use Rattle.shelf_heights.specs.Private.ByHeight.{AreInOrder, numbers_by_height};
+ghost use Rattle.shelf_notes.specs.Private.Pending.{is_noted};
 ghost use Rattle.shelf_store.specs.Private.PlacementTaken.{AreRestsThere, CanTakeFrom, IsItemSplittable, IsItemThere, IsShelfSplittable, placement_taken, taken_notes};
 
 use crate::settling::reserve_shelves;
 use etagere_base::{AllocId, INDEX_MODULUS};
 use etagere_links::Link;
 use shelf_heights::by_height::ShelvesByHeight;
+use shelf_heights::heights::rebound;
 use shelf_model::placements::Placement;
 use shelf_notes::pending::PendingShelves;
+use shelf_notes::second_widths::SecondWidths;
 use shelf_records::{LinkedItem, LinkedShelf, Records};
 use std::alloc::AllocError;
 
-/// Takes a placement, which names its shelf and its item by their records' numbers, and gives the id. An
-/// `Err`, which comes only where something is split and records are missing for that, changes nothing.
-pub fn take_placement(
+/// Takes a placement as `take_placement` does, and lowers the bound of its shelf where its item alone was so wide.
+pub fn take_found(
     records: &mut Records,
     by_height: &mut ShelvesByHeight,
     pending: &mut PendingShelves,
+    seconds: &mut SecondWidths,
+    found: &Placement,
+    column_width: u16,
+) -> Result<AllocId, AllocError>
+    requires takes { CanTakeFrom column_width found.now records.old }
+    requires there { found.now.shelf < length records.old.shelves }
+    requires known { length records.old.shelves ≤ length pending.old.notes.standing }
+    requires order { AreInOrder pending.old.notes.kept by_height.old.items }
+    requires stands { is_noted pending.old.notes found.now.shelf ≡ false
+        → 1 ≤ times found.now.shelf (numbers_by_height by_height.old.items) }
+    requires room { length records.old.shelves ≤ by_height.old.capacity }
+    requires room_to_note { length records.old.shelves ≤ pending.old.room }
+    ensures ok { OnOk result (records.new ≡ placement_taken column_width found.now records.old) }
+    ensures id { IfOk result (λ id. id ≡ spec.id_of records.old.items found.now.item) }
+    ensures err { OnErr result (records.new ≡ records.old) }
+    ensures by_height { OnOk result
+        (FollowsTaking records.old.items pending.old.notes seconds.old found.now by_height.old.items
+        by_height.new.items) }
+    ensures by_height_err { OnErr result (by_height.new.items ≡ by_height.old.items) }
+    ensures notes { OnOk result
+        (pending.new.notes ≡ taken_notes found.now records.old pending.old.notes) }
+    ensures notes_err { OnErr result (pending.new.notes ≡ pending.old.notes) }
+    ensures room { length records.new.shelves ≤ by_height.new.capacity }
+    ensures room_to_note { length records.new.shelves ≤ pending.new.room }
+    ensures seconds { (k : ℕ) → second_at seconds.new k ≡ second_at seconds.old k }
+    ensures split { OnErr result (0 < splits found.now) }
+    ensures short { OnErr result
+        (0 < rests_missing found.now.splits_shelf found.now.splits_item records.old) }
+{
+    let left = bound_left(records, pending, seconds, found);
+    let id = take_placement(records, by_height, pending, seconds, found, column_width)?;
+    if let Some(bound) = left {
+        rebound(pending.kept(), by_height, found.shelf, bound);
+    }
+    Ok(id)
+}
+
+/// Takes a placement, which names its shelf and its item by their records' numbers, and gives the id. An
+/// `Err`, which comes only where something is split and records are missing for that, changes nothing.
+fn take_placement(
+    records: &mut Records,
+    by_height: &mut ShelvesByHeight,
+    pending: &mut PendingShelves,
+    seconds: &mut SecondWidths,
     found: &Placement,
     column_width: u16,
 ) -> Result<AllocId, AllocError>
@@ -44,13 +94,14 @@ pub fn take_placement(
     ensures notes_err { OnErr result (pending.new.notes ≡ pending.old.notes) }
     ensures room { length records.new.shelves ≤ by_height.new.capacity }
     ensures room_to_note { length records.new.shelves ≤ pending.new.room }
+    ensures seconds { (k : ℕ) → second_at seconds.new k ≡ second_at seconds.old k }
     ensures split { OnErr result (0 < splits found.now) }
     ensures short { OnErr result
         (0 < rests_missing found.now.splits_shelf found.now.splits_item records.old) }
 {
     let id = id_of(records.items(), found.item);
     if found.splits_shelf {
-        reserve_shelves(records, by_height, pending, 1)?;
+        reserve_shelves(records, by_height, pending, seconds, 1)?;
     }
     let rests = records.use_rests(found.splits_shelf, found.splits_item)?;
     make_shelf_rest(
@@ -64,6 +115,32 @@ pub fn take_placement(
     give_item(records, found, rests.item);
     records.set_empty_present(found.shelf, false);
     Ok(id)
+}
+
+/// The bound of a placement's shelf once the placement is taken, where its item alone passes the width that is kept of the
+/// shelf. None where the list isn't to follow: another one may be as wide, or there is no other one, or the shelf has
+/// changed.
+fn bound_left(
+    records: &Records,
+    pending: &PendingShelves,
+    seconds: &SecondWidths,
+    found: &Placement,
+) -> Option<u16>
+    requires item { found.now.item < length records.now.items }
+    requires known { found.now.shelf < length pending.now.notes.standing }
+    ensures { IfSome result
+        (IsBoundLeft records.now.items pending.now.notes seconds.now found.now) }
+{
+    let item = &records.items()[found.item];
+    if item.prev_unallocated.number().is_none() && item.next_unallocated.number().is_none() {
+        return None;
+    }
+    let second = seconds.second(found.shelf);
+    if item.width <= second || found.splits_shelf || pending.is_noted(found.shelf) {
+        return None;
+    }
+    let rest = u32::from(item.width).saturating_sub(found.width);
+    Some(second.max(rest as u16))
 }
 
 /// Splits the shelf of a placement, where these are the numbers of the records of the rest and of its item.

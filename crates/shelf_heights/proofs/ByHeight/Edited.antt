@@ -1,4 +1,4 @@
--- What the list of shelves by height keeps when a shelf is taken out of it, put in or its bound raised.
+-- What the list of shelves by height keeps when a shelf is taken out of it, put in or gets another bound.
 use Rattle.std.proofs.Common.{◌≡◌, ◌≢◌, ℕ, zero, suc, ◌+◌, ◌<◌, ◌≤◌, Bool, true, false, cond, List, [], ◌∷◌, ◌++◌, length, map, refl, ap, arith, sym, subst}
 use Rattle.std.specs.Prelude.{not, nat_lt, ◌==◌}
 use Rattle.etagere_base.proofs.EachLemmas.{Each-filter}
@@ -12,7 +12,7 @@ use Rattle.shelf_records.proofs.Spelled.RecordValues.{map-agrees}
 use Rattle.etagere_base.specs.declared.frames.Frame.{Frame}
 use Rattle.shelf_records.specs.declared.records.LinkedShelf.{LinkedShelf}
 use Rattle.shelf_records.specs.RecordLists.{Records, shelf_numbers, walked_lists}
-use Rattle.shelf_heights.specs.Private.ByHeight.{AreInOrder, AreByHeight, order_of, put_in, raised, numbers_by_height, taken_out}
+use Rattle.shelf_heights.specs.Private.ByHeight.{AreInOrder, AreByHeight, order_of, put_in, raised, rebounded, numbers_by_height, taken_out}
 use Rattle.shelf_records.specs.Private.Kept.{AreKept}
 use Rattle.shelf_heights.specs.declared.by_height.BoundedShelf.{BoundedShelf}
 use Rattle.shelf_records.proofs.Spelled.StandsKept.{witnesses}
@@ -56,6 +56,17 @@ numbers-raised shelf width (one ∷ others) = by_tests (one.shelf == shelf) (nat
     by_tests true false rest = ap (λ (ns : List ℕ). one.shelf ∷ ns) rest
     by_tests false c rest = ap (λ (ns : List ℕ). one.shelf ∷ ns) rest
 
+-- nor do they when a shelf gets another bound
+pub numbers-rebounded : (shelf width : ℕ) (by_height : List BoundedShelf)
+    → numbers_by_height (rebounded shelf width by_height) ≡ numbers_by_height by_height
+numbers-rebounded shelf width [] = refl
+numbers-rebounded shelf width (one ∷ others) = by_test (one.shelf == shelf) (numbers-rebounded shelf width others)
+  where
+    by_test : (b : Bool) → numbers_by_height (rebounded shelf width others) ≡ numbers_by_height others
+        → numbers_by_height (cond b (record one { widest = width }) one ∷ rebounded shelf width others) ≡ one.shelf ∷ numbers_by_height others
+    by_test true rest = ap (λ (ns : List ℕ). one.shelf ∷ ns) rest
+    by_test false rest = ap (λ (ns : List ℕ). one.shelf ∷ ns) rest
+
 -- what holds of each shelf holds of the others, with another number, once it was taken out
 pub Each-taken_out : (P Q : BoundedShelf → Type 0) (shelf : ℕ) (by_height : List BoundedShelf)
     → ((one : BoundedShelf) → one.shelf ≢ shelf → P one → Q one)
@@ -95,6 +106,19 @@ Each-raised P Q shelf width (one ∷ more) others own each =
         let same : one.shelf ≡ shelf = grind arith in
         (own one same each.0 one.widest (omega arith) (grind arith), rest)
     by_tests false c e less rest = let other : one.shelf ≢ shelf = grind arith in (others one other each.0, rest)
+
+-- what holds of each shelf once one got another bound
+pub Each-rebounded : (P Q : BoundedShelf → Type 0) (shelf width : ℕ) (by_height : List BoundedShelf)
+    → ((one : BoundedShelf) → one.shelf ≢ shelf → P one → Q one)
+    → ((one : BoundedShelf) → one.shelf ≡ shelf → P one → Q (bounded_as one.shelf width))
+    → AllByRecursion P by_height → AllByRecursion Q (rebounded shelf width by_height)
+Each-rebounded P Q shelf width [] others own each = tt
+Each-rebounded P Q shelf width (one ∷ more) others own each = by_test (one.shelf == shelf) refl (Each-rebounded P Q shelf width more others own each.1)
+  where
+    by_test : (b : Bool) → (one.shelf == shelf) ≡ b → AllByRecursion Q (rebounded shelf width more)
+        → AllByRecursion Q (cond b (record one { widest = width }) one ∷ rebounded shelf width more)
+    by_test true e rest = let same : one.shelf ≡ shelf = grind arith in (own one same each.0, rest)
+    by_test false e rest = let other : one.shelf ≢ shelf = grind arith in (others one other each.0, rest)
 
 -- numbers that rise from a number on rise from one below it
 pub rise-lower : (low from : ℕ) (numbers : List ℕ) → low ≤ from → RiseFrom from numbers → RiseFrom low numbers
@@ -228,4 +252,13 @@ in_order-raised shelves shelf width by_height order =
     record {
       within = subst (AllByRecursion (λ k. k < length shelves)) (sym (numbers-raised shelf width by_height)) order.within;
       rising = subst (λ (ns : List ℕ). RiseFrom 0 (map (order_of shelves) ns)) (sym (numbers-raised shelf width by_height)) order.rising;
+    }
+
+-- and once it got another one
+pub in_order-rebounded : (shelves : List LinkedShelf) (shelf width : ℕ) (by_height : List BoundedShelf)
+    → AreInOrder shelves by_height → AreInOrder shelves (rebounded shelf width by_height)
+in_order-rebounded shelves shelf width by_height order =
+    record {
+      within = subst (AllByRecursion (λ k. k < length shelves)) (sym (numbers-rebounded shelf width by_height)) order.within;
+      rising = subst (λ (ns : List ℕ). RiseFrom 0 (map (order_of shelves) ns)) (sym (numbers-rebounded shelf width by_height)) order.rising;
     }

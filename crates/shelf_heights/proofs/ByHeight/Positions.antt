@@ -9,7 +9,7 @@ use Rattle.etagere_base.specs.Lists.{times}
 use Rattle.etagere_links.proofs.ListEnds.{times-other}
 use Rattle.shelf_records.specs.declared.records.LinkedShelf.{LinkedShelf}
 use Rattle.shelf_model.specs.Listing.{RiseFrom}
-use Rattle.shelf_heights.specs.Private.ByHeight.{AreInOrder, IsStart, bound_of, order_at, order_of, put_in, raised, bounded_at, numbers_by_height, taken_out}
+use Rattle.shelf_heights.specs.Private.ByHeight.{AreInOrder, IsStart, bound_of, order_at, order_of, put_in, raised, rebounded, bounded_at, numbers_by_height, taken_out}
 use Rattle.shelf_heights.specs.declared.by_height.BoundedShelf.{BoundedShelf}
 use Rattle.shelf_records.proofs.Recorded.Members.{Each-member}
 use Rattle.shelf_records.proofs.Recorded.RecordsOfIds.{field_at-read}
@@ -90,6 +90,13 @@ absent-raised shelf width (one ∷ others) none =
     let rest : raised shelf width others ≡ others = absent-raised shelf width others (omega (arith, none)) in
     rw (other, rest) refl
 
+absent-rebounded : (shelf width : ℕ) (by_height : List BoundedShelf) → times shelf (numbers_by_height by_height) ≡ 0 → rebounded shelf width by_height ≡ by_height
+absent-rebounded shelf width [] none = refl
+absent-rebounded shelf width (one ∷ others) none =
+    let other : (one.shelf == shelf) ≡ false = grind arith in
+    let rest : rebounded shelf width others ≡ others = absent-rebounded shelf width others (omega (arith, none)) in
+    rw (other, rest) refl
+
 -- a shelf that is put in where it was taken out leaves the list as it was
 pub put-back : (index : ℕ) (by_height : List BoundedShelf) (other : BoundedShelf) → index < length by_height → by_height ≡ insert (remove by_height index) index (get_or by_height index other)
 put-back index [] other within = absurd (omega (arith, within))
@@ -103,6 +110,7 @@ pub record StandsAt (shelf index : ℕ) (by_height : List BoundedShelf) : Type 0
   pub taken : remove by_height index ≡ taken_out shelf by_height
   pub higher : (width : ℕ) → nat_lt (bound_of shelf by_height) width ≡ true → set by_height index (bounded_as shelf width) ≡ raised shelf width by_height
   pub same : (width : ℕ) → nat_lt (bound_of shelf by_height) width ≡ false → raised shelf width by_height ≡ by_height
+  pub another : (width : ℕ) → set by_height index (bounded_as shelf width) ≡ rebounded shelf width by_height
 
 -- the first shelf stands there, and no other of its number
 stands-first : (shelf : ℕ) (one : BoundedShelf) (others : List BoundedShelf) → one.shelf ≡ shelf → times shelf (numbers_by_height others) ≡ 0 → StandsAt shelf 0 (one ∷ others)
@@ -118,6 +126,7 @@ stands-first shelf one others own none =
       same = λ width less.
           let high : nat_lt one.widest width ≡ false = rw is at less in
           rw (is, high, absent-raised shelf width others none) refl;
+      another = λ width. rw (is, absent-rebounded shelf width others none) (ap (λ (n : ℕ). bounded_as n width ∷ others) (sym own));
     }
 
 -- a shelf stands one further behind another
@@ -130,6 +139,7 @@ stands-behind shelf index one others other at =
       taken = rw is (ap (λ (l : List BoundedShelf). one ∷ l) at.taken);
       higher = λ width less. rw is (ap (λ (l : List BoundedShelf). one ∷ l) (at.higher width (rw is at less)));
       same = λ width less. rw is (ap (λ (l : List BoundedShelf). one ∷ l) (at.same width (rw is at less)));
+      another = λ width. rw is (ap (λ (l : List BoundedShelf). one ∷ l) (at.another width));
     }
 
 -- a shelf stands where those begin that don't come before its order

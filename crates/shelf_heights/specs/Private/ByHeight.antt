@@ -89,6 +89,11 @@ raised shelf width by_height =
     else one)
     by_height
 
+-- the list with another bound of a shelf
+abbrev pub rebounded : ℕ → ℕ → List BoundedShelf → List BoundedShelf
+rebounded shelf width by_height =
+    map (λ (one : BoundedShelf). if one.shelf == shelf then record one { widest = width } else one) by_height
+
 -- the bound of a shelf; 0 where it doesn't stand there
 abbrev pub bound_of : ℕ → List BoundedShelf → ℕ
 bound_of shelf [] = 0

@@ -97,7 +97,7 @@ previous-within items width widest rest =
             (Each-append (IsWithin widest) (map (item_at items) xs) (free_item (width_of items last + width) ∷ rest) front ((λ _. wide), after))
 
 -- how wide an item of a shelf is with its free neighbours, by where it stands
-freed_width-is : (atlas : AtlasRecords) (shelf number : ℕ) (front back free : List ℕ) → IsEntry atlas.records (entry_of shelf (front ++ number ∷ back) free) → freed_width atlas.records.items number ≡ width_of atlas.records.items number + named_width atlas.records.items (free_named atlas.records.items (first_or None back)) + named_width atlas.records.items (free_named atlas.records.items (last_or None front))
+pub freed_width-is : (atlas : AtlasRecords) (shelf number : ℕ) (front back free : List ℕ) → IsEntry atlas.records (entry_of shelf (front ++ number ∷ back) free) → freed_width atlas.records.items number ≡ width_of atlas.records.items number + named_width atlas.records.items (free_named atlas.records.items (first_or None back)) + named_width atlas.records.items (free_named atlas.records.items (last_or None front))
 freed_width-is atlas shelf number front back free is =
     let items : List LinkedItem = atlas.records.items in
     let next : link_at item_chain.next items number ≡ first_or None back = next-is (link_at item_chain.next items) front back number (first_item_of atlas.records.shelves shelf) None is.items.forward in

@@ -39,7 +39,7 @@ use Rattle.shelf_records.proofs.Spelled.Witnesses.{Each-unmap}
 use Rattle.shelf_records.proofs.Spelled.StandsKept.{witnesses}
 
 -- items that are no wider altogether are no wider each
-widths-within : (width : ℕ) (items : List Item) → total_width items ≤ width → AllByRecursion (λ item. is_free item ≡ true → item.width ≤ width) items
+pub widths-within : (width : ℕ) (items : List Item) → total_width items ≤ width → AllByRecursion (λ item. is_free item ≡ true → item.width ≤ width) items
 widths-within width [] low = tt
 widths-within width (item ∷ items) low = (λ _. omega (arith, low), widths-within width items (omega (arith, low)))
 

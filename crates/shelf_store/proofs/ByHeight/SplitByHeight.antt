@@ -21,7 +21,7 @@ use Rattle.shelf_heights.proofs.ByHeight.Edited.{by_height-in_order, in_order-am
 use Rattle.shelf_heights.proofs.ByHeight.Positions.{stands-within}
 use Rattle.shelf_notes.proofs.Noted.{in_use-within, once-true}
 use Rattle.shelf_notes.proofs.NotedShelves.{entry-known, entry-longer, entry-standing, noted-in_use, noted-known, noted-listed, noted-other, unnoted-before, unnoted-differs}
-use Rattle.shelf_store.proofs.ByHeight.NumberedBounds.{BoundsIn, IsBoundOf, bounds-numbered, bounds-split, numbered-bounds}
+use Rattle.shelf_store.proofs.ByHeight.NumberedShelves.{BoundsAs, HoldIn, IsBoundOf, hold-numbered, hold-split, numbered-hold}
 use Rattle.shelf_store.proofs.ByHeight.SplitOrders.{StandsSame, order-stands}
 use Rattle.shelf_records.proofs.Spelled.StandsKept.{witnesses}
 
@@ -273,15 +273,15 @@ module _ (frame : Frame) (records new : Records) (notes : Notes) (by_height : Li
       New : BoundedShelf → Type 0
       New bounded = is_noted three bounded.shelf ≡ false → IsBoundOf (bare frame new) (walked_lists new).entries bounded
 
-      old : (bounded : BoundedShelf) → Old bounded → BoundsIn bounded (front ++ shelf ∷ back) (fronts ++ whole ∷ backs)
+      old : (bounded : BoundedShelf) → Old bounded → HoldIn (BoundsAs bounded) (front ++ shelf ∷ back) (fronts ++ whole ∷ backs)
       old bounded bounds =
-          subst (λ (ns : List ℕ). BoundsIn bounded ns (fronts ++ whole ∷ backs)) is.numbers
-          (subst (λ (ss : List Shelf). BoundsIn bounded (shelf_numbers (walked_lists records).entries) ss) shelves
-          (bounds-numbered (bare frame records) (walked_lists records).entries bounded bounds))
+          subst (λ (ns : List ℕ). HoldIn (BoundsAs bounded) ns (fronts ++ whole ∷ backs)) is.numbers
+          (subst (λ (ss : List Shelf). HoldIn (BoundsAs bounded) (shelf_numbers (walked_lists records).entries) ss) shelves
+          (hold-numbered (BoundsAs bounded) (bare frame records) (walked_lists records).entries bounds))
 
       after : (bounded : BoundedShelf) → Old bounded → bounded.shelf ≢ rest → IsBoundOf (bare frame new) (walked_lists new).entries bounded
       after bounded bounds other =
-          numbered-bounds (bare frame new) (walked_lists new).entries bounded
-          (subst (λ (ns : List ℕ). BoundsIn bounded ns (map (spelled_shelf (bare frame new)) (walked_lists new).entries)) (sym is.new_numbers)
-          (subst (λ (ss : List Shelf). BoundsIn bounded (front ++ shelf ∷ rest ∷ back) ss) (sym new_shelves)
-          (bounds-split bounded shelf rest front back fronts backs whole taken added long (λ same. change bounded.widest) (λ same. absurd (other (sym same))) (old bounded bounds))))
+          numbered-hold (BoundsAs bounded) (bare frame new) (walked_lists new).entries
+          (subst (λ (ns : List ℕ). HoldIn (BoundsAs bounded) ns (map (spelled_shelf (bare frame new)) (walked_lists new).entries)) (sym is.new_numbers)
+          (subst (λ (ss : List Shelf). HoldIn (BoundsAs bounded) (front ++ shelf ∷ rest ∷ back) ss) (sym new_shelves)
+          (hold-split (BoundsAs bounded) shelf rest front back fronts backs whole taken added long (λ bounds same. change bounded.widest (bounds same)) (λ same. absurd (other (sym same))) (old bounded bounds))))

@@ -17,7 +17,7 @@ use Rattle.shelf_store.specs.Private.Settling.{AreByHeightExceptNoted}
 use Rattle.shelf_model.specs.State.{Shelf, empty_shelf}
 use Rattle.shelf_model.specs.Taking.{taken_shelf}
 use Rattle.shelf_heights.specs.declared.by_height.BoundedShelf.{BoundedShelf}
-use Rattle.shelf_store.proofs.ByHeight.NumberedBounds.{BoundsIn, IsBoundOf, bounds-changed, bounds-numbered, numbered-bounds}
+use Rattle.shelf_store.proofs.ByHeight.NumberedShelves.{BoundsAs, HoldIn, IsBoundOf, hold-changed, hold-numbered, numbered-hold}
 use Rattle.shelf_store.proofs.ByHeight.SplitOrders.{StandsSame, length-split, length-taken, same-split, same-used, stands-same, stands-taken, stands-then}
 use Rattle.shelf_store.proofs.ByHeight.SplitByHeight.{IsSplitByHeight, split-holds}
 use Rattle.shelf_store.proofs.ByHeight.TakenBounds.{bound-taken}
@@ -55,14 +55,14 @@ unsplit-holds frame records new notes by_height shelf front back fronts backs wh
 
     after : (one : BoundedShelf) → Old one → New one
     after one bounds =
-        let old : BoundsIn one (front ++ shelf ∷ back) (fronts ++ whole ∷ backs) =
-        subst (λ (ns : List ℕ). BoundsIn one ns (fronts ++ whole ∷ backs)) numbers
-        (subst (λ (ss : List Shelf). BoundsIn one (shelf_numbers (walked_lists records).entries) ss) shelves
-        (bounds-numbered (bare frame records) (walked_lists records).entries one bounds)) in
-        numbered-bounds (bare frame new) (walked_lists new).entries one
-        (subst (λ (ns : List ℕ). BoundsIn one ns (map (spelled_shelf (bare frame new)) (walked_lists new).entries)) (sym new_numbers)
-        (subst (λ (ss : List Shelf). BoundsIn one (front ++ shelf ∷ back) ss) (sym new_shelves)
-        (bounds-changed one shelf front back fronts backs whole taken long (λ same. change one.widest) old)))
+        let old : HoldIn (BoundsAs one) (front ++ shelf ∷ back) (fronts ++ whole ∷ backs) =
+        subst (λ (ns : List ℕ). HoldIn (BoundsAs one) ns (fronts ++ whole ∷ backs)) numbers
+        (subst (λ (ss : List Shelf). HoldIn (BoundsAs one) (shelf_numbers (walked_lists records).entries) ss) shelves
+        (hold-numbered (BoundsAs one) (bare frame records) (walked_lists records).entries bounds)) in
+        numbered-hold (BoundsAs one) (bare frame new) (walked_lists new).entries
+        (subst (λ (ns : List ℕ). HoldIn (BoundsAs one) ns (map (spelled_shelf (bare frame new)) (walked_lists new).entries)) (sym new_numbers)
+        (subst (λ (ss : List Shelf). HoldIn (BoundsAs one) (front ++ shelf ∷ back) ss) (sym new_shelves)
+        (hold-changed (BoundsAs one) shelf front back fronts backs whole taken long (λ bounds same. change one.widest (bounds same)) old)))
 
 -- the record of a rest is the last, or there are no more
 rest-last : (unused : Option ℕ) (shelves : List LinkedShelf) (rest : ℕ) → number_used true unused shelves ≡ Some rest → length (shelves_used true unused shelves) ≤ max (length shelves) (rest + 1)

@@ -1,18 +1,27 @@
 -- What a return leaves of an atlas: the state that its records spell, and what is counted beside them.
-use Rattle.std.proofs.Common.{◌≡◌, ℕ, ◌+◌, ◌<◌, Bool, true, false, cond, None, Some, List, refl, ap, sym, subst, ◌∙◌, arith}
+use Rattle.std.proofs.Common.{◌≡◌, ◌≢◌, ℕ, ◌+◌, ◌<◌, ◌≤◌, Bool, true, false, cond, None, Some, List, [], ◌∷◌, refl, ap, sym, subst, ◌∙◌, arith}
 use Rattle.std.proofs.lemmas.Bool.{eqb-true}
-use Rattle.std.specs.Prelude.{◌%◌}
+use Rattle.std.specs.Prelude.{◌%◌, ◌==◌}
+use Rattle.std.specs.List.{AllByRecursion}
+use Rattle.etagere_base.proofs.EachLemmas.{Each-weaken}
+use Rattle.etagere_base.specs.Lists.{times}
 use Rattle.etagere_base.specs.declared.frames.Frame.{Frame}
 use Rattle.shelf_records.specs.declared.records.LinkedItem.{LinkedItem}
-use Rattle.shelf_records.specs.RecordLists.{Records}
+use Rattle.etagere_links.proofs.ListEnds.{times-other}
+use Rattle.shelf_records.specs.RecordLists.{Records, walked_lists}
+use Rattle.shelf_heights.proofs.ByHeight.Edited.{bounded_as}
+use Rattle.shelf_heights.specs.Private.ByHeight.{bound_of, numbers_by_height}
 use Rattle.shelf_model.specs.Atlas.{KeepsPromises, without_id}
 use Rattle.shelf_model.specs.Places.{allocations}
 use Rattle.shelf_records.specs.AtlasRecords.{is_allocated_at, item_at, shelf_of}
 use Rattle.shelf_store.specs.Private.Settling.{AreByHeightExceptNoted}
-use Rattle.shelf_notes.specs.Private.Pending.{Notes}
+use Rattle.shelf_notes.specs.Private.Pending.{Notes, is_noted}
 use Rattle.shelf_store.specs.Private.ItemReturned.{CanReturn, item_returned, unused_by}
-use Rattle.shelf_records.specs.Private.Kept.{AreKept, state_of}
-use Rattle.shelf_store.specs.Private.ReturnedNotes.{CanReturnByHeight, returned_by_height, returned_notes}
+use Rattle.shelf_records.specs.Private.Kept.{AreKept, bare, state_of}
+use Rattle.shelf_store.specs.Private.ReturnedNotes.{CanReturnByHeight, freed_width, returned_by_height, returned_notes}
+use Rattle.shelf_store.specs.Private.SecondWidths.{AreSeconds, returned_seconds}
+use Rattle.shelf_store.proofs.ByHeight.LaterNotes.{returned-later}
+use Rattle.shelf_store.proofs.ByHeight.NumberedShelves.{IsBoundOf}
 use Rattle.shelf_records.specs.Private.Reading.{record_of, recorded_area}
 use Rattle.shelf_model.specs.Returning.{has_id, returned}
 use Rattle.shelf_model.specs.Space.{allocated_space}
@@ -86,3 +95,30 @@ can-return frame records notes by_height id number kept are named =
     let marked : is_allocated_at records.items number ≡ true = (record-marked records.items id number named).0 in
     let returns : ReturnsItem frame records number = returns-item frame records number kept marked in
     (omega (arith, marked-within records.items number marked, (witnesses kept).counts.items.1), returns.can, returns.can_by_height notes by_height are)
+
+-- the bound that a list has of a shelf is one of those that hold of it
+bound-read : (P : ℕ → Type 0) (shelf : ℕ) (by_height : List BoundedShelf) → 1 ≤ times shelf (numbers_by_height by_height) → AllByRecursion (λ (one : BoundedShelf). one.shelf ≡ shelf → P one.widest) by_height → P (bound_of shelf by_height)
+bound-read P shelf [] stands each = absurd (omega (arith, stands))
+bound-read P shelf (one ∷ others) stands each = by_test (one.shelf == shelf) refl (λ later. bound-read P shelf others later each.1)
+  where
+    by_test : (b : Bool) → (one.shelf == shelf) ≡ b → (1 ≤ times shelf (numbers_by_height others) → P (bound_of shelf others)) → P (cond b one.widest (bound_of shelf others))
+    by_test true e rest = each.0 (grind arith)
+    by_test false e rest =
+        let other : one.shelf ≢ shelf = grind arith in
+        rest (omega (arith, stands, times-other shelf one.shelf (numbers_by_height others) other))
+
+-- no more than one free item of each shelf passes the width that is kept of it after a return
+pub seconds-after-return : (frame : Frame) (records : Records) (notes : Notes) (by_height : List BoundedShelf) (seconds : List ℕ) (id number : ℕ) → AreKept frame records → AreByHeightExceptNoted frame records notes by_height → record_of records.items id ≡ Some number
+    → freed_width records.items number ≤ 65535 → AreSeconds records seconds → AreSeconds (item_returned number records) (returned_seconds number records notes by_height seconds)
+seconds-after-return frame records notes by_height seconds id number kept are named narrow few =
+    let returns : ReturnsItem frame records number = returns-item frame records number kept (record-marked records.items id number named).0 in
+    let shelf : ℕ = shelf_of records.items number in
+    let can = returns.can_by_height notes by_height are in
+    returns.seconds seconds (is_noted (returned_notes number records notes) shelf) (bound_of shelf by_height)
+    (λ later.
+    let unnoted : is_noted notes shelf ≡ false = (returned-later number records notes).before shelf later in
+    bound-read (λ (bound : ℕ). IsBoundOf (bare frame records) (walked_lists records).entries (bounded_as shelf bound)) shelf by_height (can.stands unnoted)
+    (Each-weaken (λ (one : BoundedShelf). is_noted notes one.shelf ≡ false → IsBoundOf (bare frame records) (walked_lists records).entries one)
+    (λ (one : BoundedShelf). one.shelf ≡ shelf → IsBoundOf (bare frame records) (walked_lists records).entries (bounded_as shelf one.widest)) by_height
+    (λ one bounds same. subst (λ (n : ℕ). IsBoundOf (bare frame records) (walked_lists records).entries (bounded_as n one.widest)) same (bounds (subst (λ (n : ℕ). is_noted notes n ≡ false) (sym same) unnoted))) are.bounds))
+    narrow few

@@ -1,15 +1,20 @@
 -- What an allocation leaves of an atlas: the state that its records spell, and what is counted beside them.
-use Rattle.std.proofs.Common.{◌≡◌, ℕ, ◌+◌, ◌<◌, ◌≤◌, List, ◌∷◌, length, ap, sym, subst, ◌∙◌, arith}
+use Rattle.std.proofs.Common.{◌≡◌, ℕ, ◌+◌, ◌<◌, ◌≤◌, false, Option, None, Some, IfSome, List, ◌∷◌, length, refl, ap, sym, subst, ◌∙◌, arith}
+use Rattle.std.proofs.lemmas.List.{length-map}
 use Rattle.std.specs.Prelude.{◌^◌}
+use Rattle.std.specs.Option.{option_map_or}
 use Rattle.etagere_base.specs.declared.frames.Frame.{Frame}
 use Rattle.etagere_base.specs.declared.geometry.Rectangle.{Rectangle}
 use Rattle.etagere_base.specs.declared.geometry.Size.{Size}
 use Rattle.etagere_base.specs.declared.ids.Allocation.{Allocation}
-use Rattle.shelf_records.specs.RecordLists.{Records}
+use Rattle.shelf_heights.specs.Private.ByHeight.{numbers_by_height, rebounded}
+use Rattle.shelf_records.specs.RecordLists.{Records, shelf_numbers, walked_lists}
 use Rattle.shelf_model.specs.Choice.{Placement, area, rectangle_of_placement, splits}
-use Rattle.shelf_notes.specs.Private.Pending.{Notes}
-use Rattle.shelf_records.specs.Private.Kept.{AreKept, Finds, state_of}
+use Rattle.shelf_notes.specs.Private.Pending.{Notes, is_noted, once_where}
+use Rattle.shelf_notes.specs.Private.SecondWidths.{second_at}
+use Rattle.shelf_records.specs.Private.Kept.{AreKept, Finds, bare, state_of}
 use Rattle.shelf_store.specs.Private.PlacementTaken.{CanTakeFrom, id_of, placement_taken, taken_notes}
+use Rattle.shelf_store.specs.Private.SecondWidths.{AreSeconds, FollowsTaking, IsBoundLeft}
 use Rattle.shelf_store.specs.Private.Settling.{AreByHeightExceptNoted}
 use Rattle.shelf_model.specs.Space.{allocated_space}
 use Rattle.shelf_model.specs.State.{AtlasState, items_in_use}
@@ -17,9 +22,11 @@ use Rattle.shelf_model.specs.Taking.{taken}
 use Rattle.shelf_heights.specs.declared.by_height.BoundedShelf.{BoundedShelf}
 use Rattle.etagere_base.proofs.TimesLemmas.{times-append, times-here}
 use Rattle.etagere_base.specs.Lists.{times}
+use Rattle.shelf_store.proofs.ByHeight.KeptSeconds.{seconds-equal}
 use Rattle.shelf_store.proofs.ByHeight.RoomByHeight.{rest-next}
 use Rattle.shelf_store.proofs.ByHeight.SplitByHeight.{used-once}
 use Rattle.shelf_store.proofs.ByHeight.TakenByHeight.{taken-holds}
+use Rattle.shelf_store.proofs.ByHeight.TakenSeconds.{rebounded-holds, taken-bound, taken-seconds}
 use Rattle.shelf_store.proofs.Spelled.TakenPremises.{can-take}
 use Rattle.shelf_model.proofs.Spaces.SpaceSmall.{space-taken-small}
 use Rattle.shelf_store.proofs.Spelled.TakenKept.{KeepsTaken, placement-kept}
@@ -62,12 +69,53 @@ found-holds frame records size found notes by_height kept finds holds =
     (ap (λ (p : Placement). p.splits_shelf) finds.located.same) holds
     (λ rest names. rest-next found records rest names can.rests.shelf)
 
--- its shelf is there
-pub found-there : (frame : Frame) (records : Records) (size : Size) (found : Placement) → AreKept frame records → (finds : Finds frame records size found) → found.shelf < length records.shelves
-found-there frame records size found kept finds =
+-- no more than one free item of each shelf passes the width that is kept of it then
+pub found-seconds : (frame : Frame) (records : Records) (size : Size) (found : Placement) (seconds after : List ℕ) → AreKept frame records → Finds frame records size found → AreSeconds records seconds → ((k : ℕ) → second_at after k ≡ second_at seconds k)
+    → AreSeconds (placement_taken frame.column_width found records) after
+found-seconds frame records size found seconds after kept finds are same =
+    seconds-equal (placement_taken frame.column_width found records) seconds after same
+    (taken-seconds frame records finds.placement found seconds (placement-kept frame records size finds.placement found kept finds.placed finds.located) are)
+
+-- what it leaves of the shelves by height, where its shelf may get another bound
+pub found-follows : (frame : Frame) (records : Records) (size : Size) (found : Placement) (notes : Notes) (seconds : List ℕ) (by_height new : List BoundedShelf) → AreKept frame records → Finds frame records size found → AreSeconds records seconds
+    → AreByHeightExceptNoted frame records notes by_height → FollowsTaking records.items notes seconds found by_height new
+    → AreByHeightExceptNoted frame (placement_taken frame.column_width found records) (taken_notes found records notes) new × (length new ≡ length by_height)
+found-follows frame records size found notes seconds by_height new kept finds are holds follows = by_bound follows.left follows.bounds follows.list
+  where
+    taken : Records
+    taken = placement_taken frame.column_width found records
+
+    Follows : List BoundedShelf → Type 0
+    Follows list = AreByHeightExceptNoted frame taken (taken_notes found records notes) list × (length list ≡ length by_height)
+
+    before : AreByHeightExceptNoted frame taken (taken_notes found records notes) by_height
+    before = found-holds frame records size found notes by_height kept finds holds
+
+    by_bound : (o : Option ℕ) → IfSome o (IsBoundLeft records.items notes seconds found) → new ≡ option_map_or (λ (bound : ℕ). rebounded found.shelf bound by_height) o by_height → Follows new
+    by_bound None bounds list = subst Follows (sym list) (before, refl)
+    by_bound (Some bound) bounds list =
+        subst Follows (sym list) (
+          rebounded-holds (bare frame taken) (walked_lists taken).entries (taken_notes found records notes) by_height found.shelf bound
+              (taken-bound frame records finds.placement found seconds (placement-kept frame records size finds.placement found kept finds.placed finds.located) are notes bound bounds
+              (ap (λ (p : Placement). p.splits_shelf) finds.located.same) (ap (λ (p : Placement). p.width) finds.located.same)) before,
+          length-map by_height _,
+        )
+
+-- its shelf is in use
+found-in_use : (frame : Frame) (records : Records) (size : Size) (found : Placement) → AreKept frame records → (finds : Finds frame records size found) → 1 ≤ times found.shelf (shelf_numbers (walked_lists records).entries)
+found-in_use frame records size found kept finds =
     let made : KeepsTaken frame records finds.placement found = placement-kept frame records size finds.placement found kept finds.placed finds.located in
-    (used-once frame records kept).within found.shelf
-    (omega (arith, ap (times found.shelf) made.spells.numbers, times-append found.shelf made.spells.front (found.shelf ∷ made.spells.back), times-here found.shelf made.spells.back))
+    omega (arith, ap (times found.shelf) made.spells.numbers, times-append found.shelf made.spells.front (found.shelf ∷ made.spells.back), times-here found.shelf made.spells.back)
+
+-- it is there
+pub found-there : (frame : Frame) (records : Records) (size : Size) (found : Placement) → AreKept frame records → (finds : Finds frame records size found) → found.shelf < length records.shelves
+found-there frame records size found kept finds = (used-once frame records kept).within found.shelf (found-in_use frame records size found kept finds)
+
+-- and stands in the list of shelves by height, where it has not changed
+pub found-stands : (frame : Frame) (records : Records) (size : Size) (found : Placement) (notes : Notes) (by_height : List BoundedShelf) → AreKept frame records → Finds frame records size found → AreByHeightExceptNoted frame records notes by_height
+    → is_noted notes found.shelf ≡ false → 1 ≤ times found.shelf (numbers_by_height by_height)
+found-stands frame records size found notes by_height kept finds holds unnoted =
+    omega (arith, holds.listed found.shelf, holds.in_use found.shelf, found-in_use frame records size found kept finds, ap once_where (holds.settled found.shelf unnoted).listed)
 
 -- what holds after what was found for a size was taken, of the records and of the id
 pub record AfterTaking (frame : Frame) (records : Records) (size : Size) (found : Placement) (allocation : Allocation) (new : Records) : Type 0 where

@@ -1,6 +1,6 @@
 -- A return on records that keep every rule: they keep every rule again, and spell the state after the return.
 use Rattle.shelf_records.proofs.AllLists.LinkedEdits.{Around, around_of, with_entry}
-use Rattle.std.proofs.Common.{◌≡◌, ◌≢◌, ℕ, zero, suc, Bool, ◌*◌, ◌+◌, ◌≤◌, true, false, None, Some, List, [], ◌∷◌, ◌++◌, length, map, refl, ap, subst, arith, sym, ◌∙◌}
+use Rattle.std.proofs.Common.{◌≡◌, ◌≢◌, ℕ, zero, suc, Bool, ◌*◌, ◌+◌, ◌≤◌, true, false, set, None, Some, List, [], ◌∷◌, ◌++◌, length, map, refl, ap, subst, arith, sym, ◌∙◌}
 use Rattle.std.proofs.lemmas.List.{length-map, map-append}
 use Rattle.std.specs.Prelude.{nat_lt}
 use Rattle.etagere_base.specs.declared.frames.Frame.{Frame}
@@ -22,8 +22,12 @@ use Rattle.shelf_records.specs.AtlasRecords.{AtlasRecords, is_allocated_at, item
 use Rattle.shelf_model.specs.Merging.{both_empty, combined_shelves, merged_shelf}
 use Rattle.shelf_model.specs.Places.{column_height}
 use Rattle.shelf_store.specs.Private.ItemReturned.{CanMergeItem, CanMergeShelves, CanReturn, IsLinkedBack, IsRemaining, Step, emptiness_said, item_merged, item_returned, merged_width, unused_by, shelves_merged}
+use Rattle.shelf_store.specs.Private.SecondWidths.{AreSecondsOf, second_after}
 use Rattle.shelf_store.specs.Private.Settling.{AreByHeightExceptNoted, HoldsExceptNoted}
+use Rattle.shelf_heights.proofs.ByHeight.Edited.{bounded_as}
+use Rattle.shelf_heights.specs.Private.ByHeight.{IsBound}
 use Rattle.shelf_notes.specs.Private.Pending.{Notes, is_in_use, is_noted, once_where}
+use Rattle.shelf_notes.specs.Private.SecondWidths.{second_at}
 use Rattle.shelf_records.specs.Private.Kept.{AreKept, atlas_of, bare, state_of}
 use Rattle.shelf_records.proofs.Spelled.Witnessed.{HasFlag, IsPlaced}
 use Rattle.shelf_store.specs.Private.ReturnedNotes.{CanReturnByHeight, freed_width, raised_unless, returned_by_height, returned_notes, shelves_merged_notes}
@@ -32,8 +36,9 @@ use Rattle.shelf_model.specs.State.{Shelf, AtlasState, items_in_use}
 use Rattle.shelf_records.specs.StandsFor.{HasCounts}
 use Rattle.shelf_model.specs.Valid.{IsShelf, IsValid}
 use Rattle.shelf_heights.specs.declared.by_height.BoundedShelf.{BoundedShelf}
-use Rattle.shelf_store.proofs.ByHeight.FreedByHeight.{FreesByHeight, frees-by_height}
+use Rattle.shelf_store.proofs.ByHeight.FreedByHeight.{FreesByHeight, FreesSeconds, frees-by_height, frees-seconds}
 use Rattle.shelf_store.proofs.ByHeight.LaterNotes.{merged_all-later, raised-later}
+use Rattle.shelf_store.proofs.ByHeight.NumberedShelves.{IsBoundOf}
 use Rattle.shelf_notes.proofs.Noted.{in_use-within, once-true}
 use Rattle.shelf_model.proofs.Places.Heights.{column_height-append, column_height-none}
 use Rattle.shelf_model.proofs.Returned.ReturnedValid.{returned-valid}
@@ -60,6 +65,7 @@ record IsFreed (atlas : AtlasRecords) (records : Records) (made_unused : ℕ) (a
       map (spelled_shelf (with_records atlas records)) (around.before ++ entry_of shelf numbers free_list ∷ around.after)
       ≡ map (spelled_shelf atlas) around.before ++ merged_shelf (freed_shelf atlas.frame (length front) (spelled_shelf atlas (entry_of shelf (front ++ number ∷ back) free))) ∷ map (spelled_shelf atlas) around.after
   counted : length left_unused ≡ made_unused + length around.unused_items
+  frees_seconds : FreesSeconds atlas (with_records atlas records) (around.before ++ entry_of shelf (front ++ number ∷ back) free ∷ around.after) (around.before ++ entry_of shelf numbers free_list ∷ around.after) (entry_of shelf (front ++ number ∷ back) free) (freed_width atlas.records.items number)
   frees : FreesByHeight atlas (with_records atlas records) (around.before ++ entry_of shelf (front ++ number ∷ back) free ∷ around.after) (around.before ++ entry_of shelf numbers free_list ∷ around.after) shelf (freed_width atlas.records.items number)
 
 -- an item was freed and merged, and its shelf says whether it is empty
@@ -86,6 +92,7 @@ freed-flagged {atlas} around shelf number front back free valid allocated flagge
           ∙ ap (λ (s : Shelf). map (spelled_shelf atlas) around.before ++ s ∷ map (spelled_shelf middle) around.after) merges.returned
           ∙ ap (λ (ss : List Shelf). map (spelled_shelf atlas) around.before ++ merged_shelf (freed_shelf atlas.frame (length front) (spelled_shelf atlas entry)) ∷ ss) merges.after_same;
       counted = merges.counted;
+      frees_seconds = frees-seconds atlas around shelf number front back free valid flagged.spelled merges said.1;
       frees = frees-by_height atlas around shelf number front back free valid flagged.spelled merges said.1;
     }
 
@@ -99,6 +106,13 @@ low-valid state valid column = by_test (nat_lt column state.frame.columns) refl
         let past : state.frame.columns ≤ column = grind arith in
         omega (arith, column_height-none column state.shelves (Each-weaken (IsShelf state.frame) (λ (s : Shelf). s.column ≢ column) state.shelves (λ (s : Shelf) (is : IsShelf state.frame s) same. omega (arith, is.column, past, same)) valid.shelves))
 
+-- the widths that are kept of shelves after an item of this width became free in one of them, which has this bound unless it
+-- has changed
+abbrev pub ReturnsSeconds : Frame → Records → List Entry → Records → List Entry → ℕ → ℕ → Type 0
+ReturnsSeconds frame records entries new edited shelf width =
+    (seconds : List ℕ) (changed : Bool) (bound : ℕ) → (changed ≡ false → IsBoundOf (bare frame records) entries (bounded_as shelf bound)) → width ≤ 65535 → AreSecondsOf records.items entries seconds
+    → AreSecondsOf new.items edited (set seconds shelf (second_after changed width bound (second_at seconds shelf)))
+
 -- what is known of records after the item of a number was returned
 pub record ReturnsItem (frame : Frame) (records : Records) (number : ℕ) : Type 0 where
   pub can : CanReturn number records
@@ -110,6 +124,7 @@ pub record ReturnsItem (frame : Frame) (records : Records) (number : ℕ) : Type
       (notes : Notes) (by_height : List BoundedShelf) → AreByHeightExceptNoted frame records notes by_height
       → AreByHeightExceptNoted frame (item_returned number records) (returned_notes number records notes)
       (returned_by_height number records notes by_height)
+  pub seconds : ReturnsSeconds frame records (walked_lists records).entries (item_returned number records) (walked_lists (item_returned number records)).entries (shelf_of records.items number) (freed_width records.items number)
 
 -- records after a return, by the lists that they spell
 record IsReturned (atlas : AtlasRecords) (step : Step) (old : List Entry) (change : Notes → Notes) (shelf width : ℕ) (state : AtlasState) (unused : List ℕ) : Type 0 where
@@ -120,6 +135,7 @@ record IsReturned (atlas : AtlasRecords) (step : Step) (old : List Entry) (chang
   holds :
       (notes : Notes) (by_height : List BoundedShelf) → HoldsExceptNoted atlas old notes by_height
       → HoldsExceptNoted (with_records atlas step.records) lists.entries (change notes) (raised_unless (is_noted (change notes) shelf) shelf width by_height)
+  seconds : ReturnsSeconds atlas.frame atlas.records old step.records lists.entries shelf width
 
 -- what holds of kept records holds of the atlas that they are of, and back
 holds-kept : (frame : Frame) (records : Records) (notes : Notes) (by_height : List BoundedShelf) → AreByHeightExceptNoted frame records notes by_height → HoldsExceptNoted (atlas_of frame records) (walked_lists records).entries notes by_height
@@ -133,6 +149,7 @@ holds-walked frame records new lists notes by_height walked holds =
 
 -- records that spell lists keep every rule again where what they spell is valid
 kept-again : (frame : Frame) (records new : Records) (id left_unused : ℕ) (change : Notes → Notes) (shelf width : ℕ) → AreKept frame records → SameLengths records new → IsReturned (atlas_of frame records) (record { records = new; made_unused = left_unused }) (walked_lists records).entries change shelf width (returned (state_of frame records) id) (walked_lists records).unused_items → (AreKept frame new × (state_of frame new ≡ returned (state_of frame records) id)) × (items_in_use (state_of frame new).shelves + left_unused ≡ items_in_use (state_of frame records).shelves) × ((notes : Notes) (by_height : List BoundedShelf) → AreByHeightExceptNoted frame records notes by_height → AreByHeightExceptNoted frame new (change notes) (raised_unless (is_noted (change notes) shelf) shelf width by_height))
+    × ReturnsSeconds frame records (walked_lists records).entries new (walked_lists new).entries shelf width
 kept-again frame records new id left_unused change shelf width kept lengths is =
     let lists : Lists = is.lists in
     let linked : IsLinked new lists = is.flagged.spelled.linked in
@@ -165,6 +182,7 @@ kept-again frame records new id left_unused change shelf width kept lengths is =
       ),
       omega (arith, in_use, old_count, new_count, is.counted, lengths.items),
       λ notes by_height holds. holds-walked frame records new lists (change notes) (raised_unless (is_noted (change notes) shelf) shelf width by_height) walked (is.holds notes by_height (holds-kept frame records notes by_height holds)),
+      λ seconds changed bound bounds narrow are. subst (λ (l : Lists). AreSecondsOf new.items l.entries (set seconds shelf (second_after changed width bound (second_at seconds shelf)))) (sym walked) (is.seconds seconds changed bound bounds narrow are),
     )
 
 -- the id of an allocated item
@@ -239,6 +257,11 @@ returned-there frame records number has kept allocated flagged =
             counted = omega (arith, merges.counted, freed.counted);
             holds = λ notes by_height holds. raised-later (with_records atlas two.records) merges.entries notes (shelves_merged_notes shelf three notes) shelf (freed_width records.items number) by_height (merged_all-later shelf three notes)
                 (merges.holds notes (raised_unless (is_noted notes shelf) shelf (freed_width records.items number) by_height) (freed.frees notes by_height (start notes by_height holds)));
+            seconds = λ seconds changed bound bounds narrow are.
+                merges.seconds (set seconds shelf (second_after changed (freed_width records.items number) bound (second_at seconds shelf)))
+                (freed.frees_seconds seconds changed bound
+                (λ unchanged. Each-middle (λ (e : Entry). e.number ≡ shelf → IsBound bound (spelled_shelf atlas e)) has.before entry has.after (subst (λ (es : List Entry). AllByRecursion (λ (e : Entry). e.number ≡ shelf → IsBound bound (spelled_shelf atlas e)) es) has.whole (bounds unchanged)) refl)
+                narrow (subst (λ (es : List Entry). AreSecondsOf records.items es seconds) has.whole are));
           };
       remains = remaining.0;
       can_item = can-merge-item (around_of has.before has.after unused gone) shelf number has.front has.back has.free (witnesses kept).valid.frame valid allocated flagged.spelled;
@@ -286,4 +309,5 @@ returns-item frame records number kept allocated =
       counted = again.1;
       can_by_height = there.can_by_height;
       by_height = again.2;
+      seconds = again.3;
     }

@@ -22,6 +22,7 @@ use Rattle.shelf_store.specs.Private.ItemReturned.{Step, CanMergeShelves, Height
 use Rattle.shelf_store.specs.Private.ReturnedNotes.{CanMergeAllNotes, CanMergeNamedNotes, CanMergeNotes, named_shelf_merged_notes, shelf_merged_notes, shelves_merged_notes}
 use Rattle.shelf_model.specs.State.{Shelf}
 use Rattle.shelf_heights.specs.declared.by_height.BoundedShelf.{BoundedShelf}
+use Rattle.shelf_store.specs.Private.SecondWidths.{AreSecondsOf}
 use Rattle.shelf_store.specs.Private.Settling.{HoldsExceptNoted}
 use Rattle.shelf_notes.specs.Private.Pending.{Notes}
 use Rattle.shelf_model.proofs.Places.Heights.{column_height-merged_at, heights-le}
@@ -43,6 +44,7 @@ pub record MergesShelves (atlas : AtlasRecords) (step : Step) (change : Notes �
       (merged_at both_empty combined_shelves (length around.before) (map (spelled_shelf atlas) (around.before ++ entry ∷ around.after)))
   pub counted : length left_unused ≡ step.made_unused + length around.unused_items
   pub holds : (notes : Notes) (by_height : List BoundedShelf) → HoldsExceptNoted atlas (around.before ++ entry ∷ around.after) notes by_height → HoldsExceptNoted (with_records atlas step.records) entries (change notes) by_height
+  pub seconds : (seconds : List ℕ) → AreSecondsOf atlas.records.items (around.before ++ entry ∷ around.after) seconds → AreSecondsOf step.records.items entries seconds
 
 -- one more than the elements of a front
 one-more : {X : Type 0} (front : List X) (x : X) → length (front ++ x ∷ []) ≡ suc (length front)
@@ -80,7 +82,7 @@ merges-shelves {atlas} around entry flagged =
     first merges =
         let none : link ≡ None = previous-link (around_of [] merges.rest merges.left_unused merges.gone) entry merges.flagged.spelled in
         subst (λ (o : Option ℕ). MergesShelves atlas (whole o) (change o) (record around { before = [] }) entry) (sym none)
-        (record { entries = entry ∷ merges.rest; left_unused = merges.left_unused; gone = merges.gone; flagged = merges.flagged; merged = merges.merged; counted = omega (arith, merges.counted); holds = merges.holds })
+        (record { entries = entry ∷ merges.rest; left_unused = merges.left_unused; gone = merges.gone; flagged = merges.flagged; merged = merges.merged; counted = omega (arith, merges.counted); holds = merges.holds; seconds = merges.seconds })
 
     some : (xs : List Entry) (last : Entry) → MergesShelf atlas one (shelf_merged_notes entry.number atlas.records) (record around { before = xs ++ last ∷ [] }) entry → MergesShelves atlas (whole link) (change link) (record around { before = xs ++ last ∷ [] }) entry
     some xs last merges =
@@ -102,10 +104,11 @@ merges-shelves {atlas} around entry flagged =
           counted = omega (arith, two.counted, merges.counted);
           holds = λ notes by_height holds. two.holds (shelf_merged_notes entry.number atlas.records notes) by_height
               (subst (λ (es : List Entry). HoldsExceptNoted middle es (shelf_merged_notes entry.number atlas.records notes) by_height) regrouped (merges.holds notes by_height holds));
+          seconds = λ seconds are. two.seconds seconds (subst (λ (es : List Entry). AreSecondsOf one.records.items es seconds) regrouped (merges.seconds seconds are));
         })
 
 -- two neighbours, read by their numbers
-get-here : {X Y : Type 0} (f : X → Y) (front : List X) (x : X) (back : List X) → slice_get (map f (front ++ x ∷ back)) (length front) ≡ Some (f x)
+pub get-here : {X Y : Type 0} (f : X → Y) (front : List X) (x : X) (back : List X) → slice_get (map f (front ++ x ∷ back)) (length front) ≡ Some (f x)
 get-here f [] x back = refl
 get-here f (y ∷ front) x back = get-here f front x back
 

@@ -26,8 +26,10 @@ use Rattle.shelf_records.proofs.Spelled.Witnessed.{HasFlag, IsPlaced}
 use Rattle.shelf_store.specs.Private.ReturnedNotes.{next_absorbed_notes, shelf_merged_notes, shelf_of_item_absorbed_notes}
 use Rattle.shelf_model.specs.State.{Shelf, is_empty, is_free, is_one_free}
 use Rattle.shelf_heights.specs.declared.by_height.BoundedShelf.{BoundedShelf}
+use Rattle.shelf_store.specs.Private.SecondWidths.{AreSecondsOf}
 use Rattle.shelf_store.specs.Private.Settling.{HoldsExceptNoted}
 use Rattle.shelf_notes.specs.Private.Pending.{Notes}
+use Rattle.shelf_store.proofs.ByHeight.KeptSeconds.{seconds-absorbed}
 use Rattle.shelf_store.proofs.ByHeight.MergedByHeight.{absorbed-holds}
 use Rattle.shelf_store.proofs.Spelled.EmptinessSaid.{IsFlagged, flags-same, shelf-is}
 use Rattle.shelf_store.proofs.Spelled.ItemsAround.{free-item}
@@ -62,6 +64,7 @@ pub record MergesShelf (atlas : AtlasRecords) (step : Step) (change : Notes → 
       ≡ merged_at both_empty combined_shelves (length around.before) (map (spelled_shelf atlas) (around.before ++ entry ∷ around.after))
   pub counted : length left_unused ≡ step.made_unused + length around.unused_items
   pub holds : (notes : Notes) (by_height : List BoundedShelf) → HoldsExceptNoted atlas (around.before ++ entry ∷ around.after) notes by_height → HoldsExceptNoted (with_records atlas step.records) (around.before ++ entry ∷ rest) (change notes) by_height
+  pub seconds : (seconds : List ℕ) → AreSecondsOf atlas.records.items (around.before ++ entry ∷ around.after) seconds → AreSecondsOf step.records.items (around.before ++ entry ∷ rest) seconds
 
 -- nothing is merged
 shelf-kept : {atlas : AtlasRecords} (around : Around) (entry : Entry) → merged_at both_empty combined_shelves (length around.before) (map (spelled_shelf atlas) around.before ++ map (spelled_shelf atlas) (entry ∷ around.after)) ≡ map (spelled_shelf atlas) around.before ++ map (spelled_shelf atlas) (entry ∷ around.after) → IsFlagged atlas (with_entry around entry) → MergesShelf atlas (record { records = atlas.records; made_unused = 0 }) (λ notes. notes) around entry
@@ -75,6 +78,7 @@ shelf-kept {atlas} around entry stays flagged =
       merged = whole ∙ sym stays ∙ ap (merged_at both_empty combined_shelves (length around.before)) (sym whole);
       counted = omega arith;
       holds = λ notes by_height holds. holds;
+      seconds = λ seconds are. are;
     }
 
 -- two shelves stand in one column where they begin at one place
@@ -145,6 +149,7 @@ shelf-taken {atlas} around entry next item free touch column is_free flagged =
           ∙ ap (merged_at both_empty combined_shelves (length around.before)) (sym (map-append (spelled_shelf atlas) around.before (entry ∷ gone ∷ around.after)));
       counted = omega arith;
       holds = λ notes by_height holds. absorbed-holds atlas records around.before around.after entry gone height notes by_height taller holds;
+      seconds = λ seconds are. seconds-absorbed items records.items around.before around.after entry gone seconds (λ k. (taller.items k).item) are;
     }
   where
     others-spelled : (atlas : AtlasRecords) (records : Records) (es : List Entry) → ((k : ℕ) → along_of records.shelves k ≡ along_of atlas.records.shelves k) → ((k : ℕ) → 1 ≤ times k (shelf_numbers es) → height_of records.shelves k ≡ height_of atlas.records.shelves k) → ((k : ℕ) → SameItem atlas.records.items records.items k) → map (spelled_shelf (with_records atlas records)) es ≡ map (spelled_shelf atlas) es

@@ -2,7 +2,7 @@
 use Rattle.shelf_records.proofs.AllLists.LinkedEdits.{around_of}
 use Rattle.std.proofs.Common.{◌≡◌, ℕ, zero, suc, ◌+◌, ◌<◌, ◌≤◌, pos, Some, List, [], ◌∷◌, ◌++◌, length, map, refl, ap, arith, ◌∙◌, sym, subst}
 use Rattle.std.proofs.lemmas.List.{length-append, map-append}
-use Rattle.std.specs.Prelude.{max}
+use Rattle.std.specs.Prelude.{max, slice_get}
 use Rattle.etagere_base.proofs.EachLemmas.{Each-back, Each-front, Each-weaken}
 use Rattle.std.specs.List.{AllByRecursion}
 use Rattle.etagere_base.specs.Lists.{replaced_at, times}
@@ -13,7 +13,7 @@ use Rattle.shelf_records.specs.RecordLists.{Records, Entry, Lists, item_numbers,
 use Rattle.shelf_records.specs.RecordUses.{number_used}
 use Rattle.shelf_records.proofs.AllLists.LinkedFrames.{shelf_numbers-append}
 use Rattle.shelf_records.proofs.AllLists.LinkedWalks.{linked-lists, linked-walks}
-use Rattle.shelf_records.specs.AtlasRecords.{AtlasRecords, spelled_shelf}
+use Rattle.shelf_records.specs.AtlasRecords.{AtlasRecords, item_at, spelled_shelf}
 use Rattle.shelf_model.specs.Choice.{Placement, placement_of}
 use Rattle.shelf_model.specs.Places.{allocated_numbers, record_number}
 use Rattle.shelf_records.specs.Private.Kept.{AreKept, Locates, atlas_of, bare, state_of}
@@ -21,10 +21,11 @@ use Rattle.shelf_records.proofs.Spelled.Witnessed.{HasFlag, Witnessed}
 use Rattle.shelf_store.proofs.Spelled.TakenItemSpelled.{free_spot}
 use Rattle.shelf_store.specs.Private.PlacementTaken.{id_of, item_record, placement_taken}
 use Rattle.shelf_model.specs.Space.{space_in}
-use Rattle.shelf_model.specs.State.{Shelf, AtlasState, items_in_use}
+use Rattle.shelf_model.specs.State.{Item, Shelf, AtlasState, items_in_use}
 use Rattle.shelf_model.specs.Taking.{shelf_pieces, taken}
 use Rattle.shelf_model.specs.Valid.{IsValid}
 use Rattle.shelf_store.proofs.Spelled.LocatedPlacements.{IsLocated}
+use Rattle.shelf_store.proofs.Spelled.NeighboursMerged.{get-here}
 use Rattle.shelf_store.proofs.Spelled.SpelledLists.{with_records}
 use Rattle.shelf_records.proofs.Spelled.SpelledNumbers.{items_in_use-spelled, new-number, number-of_record}
 use Rattle.shelf_store.proofs.Spelled.TakenRests.{link_where, list_where}
@@ -62,6 +63,7 @@ pub record SpellsTaken (frame : Frame) (records new : Records) (placement found 
   pub rest_is : number_used placement.splits_shelf records.unused_shelves records.shelves ≡ link_where placement.splits_shelf rest
   pub item_is : number_used placement.splits_shelf records.unused_items records.items ≡ link_where placement.splits_shelf item
   pub takes : IsTaking frame placement whole
+  pub taken_item : takes.found.item ≡ item_at records.items found.item
   pub long : length front ≡ length fronts
   pub numbers : shelf_numbers (walked_lists records).entries ≡ front ++ found.shelf ∷ back
   pub shelves : map (spelled_shelf (bare frame records)) (walked_lists records).entries ≡ fronts ++ whole ∷ backs
@@ -156,6 +158,11 @@ placement-kept frame records size placement found kept h locates =
     } in
     let done = kept-of frame new takes.lists new_state witnessed in
     let met : walked_lists new ≡ takes.lists = linked-lists new takes.lists (linked-walks new takes.lists witnessed.counts.shelves.1 witnessed.counts.items.1 witnessed.linked) in
+    let items : List Item = map (item_at records.items) (is.front ++ number ∷ is.back) in
+    let read : slice_get items (length is.front) ≡ Some (item_at records.items number) = get-here (item_at records.items) is.front number is.back in
+    let place : is.takes.found.number ≡ length is.front = omega (arith, is.takes.item, is.item.at) in
+    let got : slice_get items (length is.front) ≡ Some is.takes.found.item = subst (λ n. slice_get items n ≡ Some is.takes.found.item) place is.takes.found.at.get in
+    let taken_item : is.takes.found.item ≡ item_at records.items number = cc in
     let spells : SpellsTaken frame records new placement numbered =
     record {
       front = shelf_numbers is.before;
@@ -168,6 +175,7 @@ placement-kept frame records size placement found kept h locates =
       rest_is = takes.rest_is;
       item_is = takes.item_is;
       takes = is.takes;
+      taken_item = taken_item;
       long = numbers-spelled atlas is.before;
       numbers = ap shelf_numbers is.entries ∙ shelf_numbers-append is.before (entry ∷ is.after);
       shelves = ap (map (spelled_shelf atlas)) is.entries ∙ map-append (spelled_shelf atlas) is.before (entry ∷ is.after);

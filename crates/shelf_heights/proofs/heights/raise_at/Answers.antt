@@ -26,20 +26,31 @@ at c = stands-there (number c) c.args.index c.args.by_height.now.items c.require
 read : (c : After-get-one) → c.get-one.result ≡ bounded_as (number c) (bound_of (number c) c.args.by_height.now.items)
 read c = c.get-one.ensures ∙ (at c).read c.get-one.result
 
-pub returns-then-one-width-clause-by_height : goal.returns-then-one-width-clause-by_height
-returns-then-one-width-clause-by_height c =
-    let got = (goal.at.returns-then-one-width-clause-by_height c).After-get-one in
+pub returns-then-bound-width-clause-by_height : goal.returns-then-bound-width-clause-by_height
+returns-then-bound-width-clause-by_height c =
+    let got = (goal.at.returns-then-bound-width-clause-by_height c).After-get-one in
     let by_height = c.args.by_height.now.items in
     let less : nat_lt (bound_of (number got) by_height) c.args.width ≡ true =
-    lower c.get-one.result.widest (bound_of (number got) by_height) c.args.width (ap (λ (one : BoundedShelf). one.widest) (read got)) c.if-one-width.true in
+    lower c.get-one.result.widest (bound_of (number got) by_height) c.args.width (ap (λ (one : BoundedShelf). one.widest) (read got)) c.if-bound-width.true in
     c.set.ensures.items
     ∙ ap (λ (one : BoundedShelf). set by_height c.args.index (record one { widest = c.args.width })) (read got)
     ∙ (at got).higher c.args.width less
 
-pub returns-else-one-width-clause-by_height : goal.returns-else-one-width-clause-by_height
-returns-else-one-width-clause-by_height c =
-    let got = (goal.at.returns-else-one-width-clause-by_height c).After-get-one in
+pub returns-else-bound-width-clause-by_height : goal.returns-else-bound-width-clause-by_height
+returns-else-bound-width-clause-by_height c =
+    let got = (goal.at.returns-else-bound-width-clause-by_height c).After-get-one in
     let by_height = c.args.by_height.now.items in
     let enough : nat_lt (bound_of (number got) by_height) c.args.width ≡ false =
-    no_lower c.get-one.result.widest (bound_of (number got) by_height) c.args.width (ap (λ (one : BoundedShelf). one.widest) (read got)) c.if-one-width.false in
+    no_lower c.get-one.result.widest (bound_of (number got) by_height) c.args.width (ap (λ (one : BoundedShelf). one.widest) (read got)) c.if-bound-width.false in
     sym ((at got).same c.args.width enough)
+
+-- what is given is the bound that it had
+pub returns-then-bound-width-clause-bound : goal.returns-then-bound-width-clause-bound
+returns-then-bound-width-clause-bound c =
+    let got = (goal.at.returns-then-bound-width-clause-bound c).After-get-one in
+    ap (λ (one : BoundedShelf). one.widest) (read got)
+
+pub returns-else-bound-width-clause-bound : goal.returns-else-bound-width-clause-bound
+returns-else-bound-width-clause-bound c =
+    let got = (goal.at.returns-else-bound-width-clause-bound c).After-get-one in
+    ap (λ (one : BoundedShelf). one.widest) (read got)

@@ -1,12 +1,14 @@
-use Rattle.std.proofs.Common.{ap, arith, length, subst, sym, ◌∙◌}
+use Rattle.std.proofs.Common.{ap, arith, length, subst, sym, ◌≡◌, ◌∙◌}
 use Rattle.shelf_records.specs.Private.Kept.{AreKept}
 use Rattle.shelf_records.specs.RecordLists.{Records, shelf_walk}
 use Rattle.shelf_records.proofs.AllLists.LinkedWalks.{walked-numbers}
 use Rattle.shelf_store.specs.Private.RecordsGrown.{records_grown}
+use Rattle.shelf_store.proofs.ByHeight.KeptSeconds.{seconds-equal, unknown-seconds}
 use Rattle.shelf_store.proofs.ByHeight.RoomByHeight.{shelves-count}
 use Rattle.shelf_store.proofs.Grown.GrownLengths.{grown-count}
 use Rattle.shelf_store.proofs.Grown.GrownNothing.{nothing-grown, by_height-elsewhere}
 use Rattle.shelf_store.proofs.Grown.SameShelves.{grown-same}
+use Rattle.shelf_store.specs.Private.SecondWidths.{AreSeconds}
 use Rattle.shelf_store.specs.Private.Settling.{AreSettled}
 use Rattle.shelf_store.proofs.growing.grow_shelves.Goals as goal
 
@@ -125,3 +127,23 @@ returns-else-is_extended-clause-settled c =
     subst (λ (r : Records). AreSettled r c.reserve_shelves.new.pending.notes)
     (sym (c.in_ok-grow_records.ensures.ok ∙ nothing-grown frame grown c.args.needed records c.requires.needed (sym c.is_extended.ensures ∙ c.if-is_extended.false)))
     (subst (AreSettled records) (sym c.reserve_shelves.ensures.notes) c.requires.settled)
+
+pub returns-then-needed-gt0-clause-seconds : goal.returns-then-needed-gt0-clause-seconds
+returns-then-needed-gt0-clause-seconds c _ =
+    unknown-seconds c.args.grown.now c.grow_records.new.records c.restart.new.self
+    (subst (AreKept c.args.grown.now) (sym c.in_ok-grow_records.ensures.ok) c.requires.kept) c.restart.ensures
+
+pub returns-then-is_extended-clause-seconds : goal.returns-then-is_extended-clause-seconds
+returns-then-is_extended-clause-seconds c _ =
+    unknown-seconds c.args.grown.now c.grow_records.new.records c.restart-then-is_extended.new.self
+    (subst (AreKept c.args.grown.now) (sym c.in_ok-grow_records.ensures.ok) c.requires.kept) c.restart-then-is_extended.ensures
+
+pub returns-else-is_extended-clause-seconds : goal.returns-else-is_extended-clause-seconds
+returns-else-is_extended-clause-seconds c few =
+    let frame = c.args.frame.now in
+    let grown = c.args.grown.now in
+    let records = c.args.records.now in
+    let same : c.grow_records.new.records ≡ records =
+    c.in_ok-grow_records.ensures.ok ∙ nothing-grown frame grown c.args.needed records c.requires.needed (sym c.is_extended.ensures ∙ c.if-is_extended.false) in
+    subst (λ (r : Records). AreSeconds r c.reserve_shelves.new.seconds) (sym same)
+    (seconds-equal records c.args.seconds.now c.reserve_shelves.new.seconds c.reserve_shelves.ensures.seconds few)

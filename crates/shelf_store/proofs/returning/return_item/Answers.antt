@@ -10,6 +10,7 @@ use Rattle.shelf_notes.specs.Private.Pending.{Notes, is_noted}
 use Rattle.shelf_heights.specs.declared.by_height.BoundedShelf.{BoundedShelf}
 use Rattle.shelf_store.specs.Private.ItemReturned.{emptiness_said, has_one_free, item_merged, merged_width}
 use Rattle.shelf_store.specs.Private.ReturnedNotes.{freed_width, raised_unless, returned_by_height, returned_notes, shelves_merged_notes}
+use Rattle.shelf_store.specs.Private.SecondWidths.{returned_seconds, seconds_after}
 use Rattle.shelf_store.proofs.ByHeight.LaterNotes.{returned-later}
 use Rattle.shelf_store.proofs.Spelled.NotEmptied.{StaysInUse, stays-in-use}
 use Rattle.shelf_store.proofs.Spelled.ReturnedLengths.{merged-lengths}
@@ -52,6 +53,15 @@ rises shelf number width records notes before by_height new raises own wide note
     ∙ ap (λ s. raised_unless (is_noted notes s) s width by_height) own
     ∙ ap (λ w. raised_unless (is_noted notes (shelf_of records.items number)) (shelf_of records.items number) w by_height) wide
     ∙ ap (λ (n : Notes). raised_unless (is_noted n (shelf_of records.items number)) (shelf_of records.items number) (freed_width records.items number) by_height) noted
+
+-- and the width that is kept of it is kept anew for what becomes free
+keeps : (shelf number width : ℕ) (records : Records) (notes before : Notes) (by_height : List BoundedShelf) (seconds new : List ℕ) → new ≡ seconds_after (is_noted notes shelf) shelf width by_height seconds → shelf ≡ shelf_of records.items number → width ≡ freed_width records.items number → notes ≡ returned_notes number records before
+    → new ≡ returned_seconds number records before by_height seconds
+keeps shelf number width records notes before by_height seconds new kept own wide noted =
+    kept
+    ∙ ap (λ s. seconds_after (is_noted notes s) s width by_height seconds) own
+    ∙ ap (λ w. seconds_after (is_noted notes (shelf_of records.items number)) (shelf_of records.items number) w by_height seconds) wide
+    ∙ ap (λ (n : Notes). seconds_after (is_noted n (shelf_of records.items number)) (shelf_of records.items number) (freed_width records.items number) by_height seconds) noted
 
 -- the item that remains stands alone just where its shelf is empty
 emptied : (c : After-is_alone) → (let shelf = shelf_of c.args.records.now.items c.args.number in has_one_free shelf (item_merged shelf c.args.number c.args.records.now).records ≡ c.is_alone.result)
@@ -101,6 +111,13 @@ returns-then-is_alone-clause-by_height c =
     c.raise_unless_noted.ensures.by_height c.requires.shelf (wide at.After-index-items-merged)
     (noted at.After-set_empty_present c.merge_shelves-made_unused.new.pending.notes (emptied at.After-is_alone ∙ c.if-is_alone.true) c.merge_shelves-made_unused.ensures.notes)
 
+pub returns-then-is_alone-clause-seconds : goal.returns-then-is_alone-clause-seconds
+returns-then-is_alone-clause-seconds c =
+    let at = goal.at.returns-then-is_alone-clause-seconds c in
+    keeps c.args.shelf c.args.number (get_or c.items-items.result.now c.merge_item-merged.result.item c.index-items-merged.result).width c.args.records.now c.merge_shelves-made_unused.new.pending.notes c.args.pending.now.notes c.args.by_height.now.items c.args.seconds.now c.raise_unless_noted.new.seconds
+    c.raise_unless_noted.ensures.seconds c.requires.shelf (wide at.After-index-items-merged)
+    (noted at.After-set_empty_present c.merge_shelves-made_unused.new.pending.notes (emptied at.After-is_alone ∙ c.if-is_alone.true) c.merge_shelves-made_unused.ensures.notes)
+
 pub returns-then-is_alone-clause-notes : goal.returns-then-is_alone-clause-notes
 returns-then-is_alone-clause-notes c =
     let at = goal.at.returns-then-is_alone-clause-notes c in
@@ -133,6 +150,13 @@ returns-else-is_alone-clause-by_height c =
     let still = stays at.After-is_alone c.if-is_alone.false in
     rises c.args.shelf c.args.number (get_or c.items-items.result.now c.merge_item-merged.result.item c.index-items-merged.result).width c.args.records.now c.args.pending.now.notes c.args.pending.now.notes c.args.by_height.now.items c.raise_unless_noted-else-is_alone.new.by_height.items
     c.raise_unless_noted-else-is_alone.ensures.by_height c.requires.shelf (wide at.After-index-items-merged) (sym (still.unnoted c.args.pending.now.notes))
+
+pub returns-else-is_alone-clause-seconds : goal.returns-else-is_alone-clause-seconds
+returns-else-is_alone-clause-seconds c =
+    let at = goal.at.returns-else-is_alone-clause-seconds c in
+    let still = stays at.After-is_alone c.if-is_alone.false in
+    keeps c.args.shelf c.args.number (get_or c.items-items.result.now c.merge_item-merged.result.item c.index-items-merged.result).width c.args.records.now c.args.pending.now.notes c.args.pending.now.notes c.args.by_height.now.items c.args.seconds.now c.raise_unless_noted-else-is_alone.new.seconds
+    c.raise_unless_noted-else-is_alone.ensures.seconds c.requires.shelf (wide at.After-index-items-merged) (sym (still.unnoted c.args.pending.now.notes))
 
 pub returns-else-is_alone-clause-notes : goal.returns-else-is_alone-clause-notes
 returns-else-is_alone-clause-notes c =

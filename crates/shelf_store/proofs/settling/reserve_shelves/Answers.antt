@@ -3,8 +3,8 @@ use Rattle.shelf_records.specs.Records.{shelf_chain}
 use Rattle.shelf_records.proofs.MissingRecords.{missing-le}
 use Rattle.shelf_store.proofs.settling.reserve_shelves.Goals as goal
 
-pub overflow_add-shelves : goal.overflow_add-shelves
-overflow_add-shelves c =
+pub overflow_add-room : goal.overflow_add-room
+overflow_add-room c =
     let records = c.args.records.now in
     let few = missing-le shelf_chain c.args.wanted records.unused_shelves records.shelves in
     search (rules, few)

@@ -11,10 +11,12 @@ use Rattle.etagere_shelves.specs.Plain.{allocation_in, rectangle_in}
 use Rattle.etagere_shelves.specs.Private.Consistent.{IsConsistent, state_in}
 use Rattle.etagere_shelves.specs.declared.atlas.AtlasAllocator.TheInside.{Inside}
 use Rattle.shelf_heights.specs.Private.ByHeight.{AreByHeight}
+use Rattle.shelf_store.proofs.ByHeight.KeptSeconds.{seconds-equal}
+use Rattle.shelf_store.specs.Private.SecondWidths.{AreSeconds}
 use Rattle.shelf_store.specs.Private.Settling.{AreByHeightExceptNoted, AreSettled}
 use Rattle.shelf_records.specs.Private.Kept.{state_of}
 use Rattle.shelf_notes.specs.Private.Pending.{Notes}
-use Rattle.shelf_store.specs.Private.PlacementTaken.{placement_taken, taken_notes}
+use Rattle.shelf_store.specs.Private.PlacementTaken.{taken_notes}
 use Rattle.shelf_model.specs.State.{AtlasState}
 use Rattle.shelf_heights.specs.declared.by_height.BoundedShelf.{BoundedShelf}
 use Rattle.shelf_model.proofs.Allocations.SeenById.{added-clear, keeps-rectangles}
@@ -22,7 +24,7 @@ use Rattle.shelf_store.proofs.ByHeight.NewByHeight.{columns-by_height}
 use Rattle.shelf_store.proofs.ByHeight.RoomByHeight.{items-short}
 use Rattle.shelf_store.proofs.ByHeight.SplitByHeight.{settled-holds}
 use Rattle.shelf_model.proofs.Promises.{promises}
-use Rattle.shelf_store.proofs.Recorded.RecordedTaking.{AfterTaking, after-taking, found-as_placed, found-holds, found-there}
+use Rattle.shelf_store.proofs.Recorded.RecordedTaking.{AfterTaking, after-taking, found-as_placed, found-follows, found-seconds, found-stands, found-there}
 use Rattle.shelf_store.proofs.Spelled.TakenPremises.{can-take}
 use Rattle.etagere_base.proofs.FrameSides.{column_width-le, sides_low}
 use Rattle.shelf_records.proofs.Spelled.StandsKept.{witnesses}
@@ -41,22 +43,22 @@ rectangle-rectangle-requires c =
     let as_placed = found-as_placed inside.frame inside.records c.args.size c.in-Some.placement c.self.invariant.kept c.in-Some.ensures.some in
     record { right = as_placed.right; bottom = as_placed.bottom }
 
-pub take_placement-requires-clause-takes : goal.take_placement-requires-clause-takes
-take_placement-requires-clause-takes c =
+pub take_found-requires-clause-takes : goal.take_found-requires-clause-takes
+take_found-requires-clause-takes c =
     let inside = c.self.inside in
     let finds = c.in-Some.ensures.some in
     can-take inside.frame inside.records c.args.size finds.placement c.in-Some.placement c.self.invariant.kept finds.placed finds.located
 
-pub take_placement-requires-clause-there : goal.take_placement-requires-clause-there
-take_placement-requires-clause-there c =
+pub take_found-requires-clause-there : goal.take_found-requires-clause-there
+take_found-requires-clause-there c =
     let inside = c.self.inside in
     found-there inside.frame inside.records c.args.size c.in-Some.placement c.self.invariant.kept c.in-Some.ensures.some
 
-pub take_placement-requires-clause-room : goal.take_placement-requires-clause-room
-take_placement-requires-clause-room c = omega (arith, c.self.invariant.room, c.settle_unless_few-follows.ensures.capacity, c.placement_of-found.ensures.capacity)
+pub take_found-requires-clause-room : goal.take_found-requires-clause-room
+take_found-requires-clause-room c = omega (arith, c.self.invariant.room, c.settle_unless_few-follows.ensures.capacity, c.placement_of-found.ensures.capacity)
 
-pub take_placement-requires-clause-room_to_note : goal.take_placement-requires-clause-room_to_note
-take_placement-requires-clause-room_to_note c = omega (arith, c.self.invariant.room_to_note, c.settle_unless_few-follows.ensures.room)
+pub take_found-requires-clause-room_to_note : goal.take_found-requires-clause-room_to_note
+take_found-requires-clause-room_to_note c = omega (arith, c.self.invariant.room_to_note, c.settle_unless_few-follows.ensures.room)
 
 pub returns-in_err-id-clause-split : goal.returns-in_err-id-clause-split
 returns-in_err-id-clause-split c =
@@ -88,16 +90,16 @@ area-requires c =
 pub overflow_add-self-2 : goal.overflow_add-self-2
 overflow_add-self-2 c =
     let inside = c.self.inside in
-    let done : AfterTaking inside.frame inside.records c.args.size c.in-Some.placement (record { id = c.in_ok-id.id; rectangle = c.rectangle-rectangle.result }) c.take_placement.new.records =
-    after-taking inside.frame inside.records c.take_placement.new.records c.args.size c.in-Some.placement c.in_ok-id.id c.rectangle-rectangle.result
+    let done : AfterTaking inside.frame inside.records c.args.size c.in-Some.placement (record { id = c.in_ok-id.id; rectangle = c.rectangle-rectangle.result }) c.take_found.new.records =
+    after-taking inside.frame inside.records c.take_found.new.records c.args.size c.in-Some.placement c.in_ok-id.id c.rectangle-rectangle.result
     c.self.invariant.kept c.in-Some.ensures.some c.in_ok-id.ensures.ok c.in_ok-id.ensures.id c.rectangle-rectangle.ensures in
     omega (arith, done.small, c.area.ensures, c.self.invariant.space)
 
 -- what is known at the end
-after : (c : goal.After-of) → AfterTaking c.self.inside.frame c.self.inside.records c.args.size c.in-Some.placement (record { id = c.in_ok-id.id; rectangle = c.rectangle-rectangle.result }) c.take_placement.new.records
+after : (c : goal.After-of) → AfterTaking c.self.inside.frame c.self.inside.records c.args.size c.in-Some.placement (record { id = c.in_ok-id.id; rectangle = c.rectangle-rectangle.result }) c.take_found.new.records
 after c =
     let inside = c.self.inside in
-    after-taking inside.frame inside.records c.take_placement.new.records c.args.size c.in-Some.placement c.in_ok-id.id c.rectangle-rectangle.result
+    after-taking inside.frame inside.records c.take_found.new.records c.args.size c.in-Some.placement c.in_ok-id.id c.rectangle-rectangle.result
     c.self.invariant.kept c.in-Some.ensures.some c.in_ok-id.ensures.ok c.in_ok-id.ensures.id c.rectangle-rectangle.ensures
 
 -- what the fields keep of the shelves by height once these were searched, where the list follows the records, and where not
@@ -118,19 +120,33 @@ searched-before c =
     c.settle_unless_few-follows.ensures.by_height c.settle_unless_few-follows.ensures.settled c.placement_of-found.ensures.by_height c.settle_unless_few-follows.ensures.same c.placement_of-found.ensures.same
 
 -- and once what was found was taken
-by_height-after : (c : goal.After-of) → AreByHeightExceptNoted c.self.inside.frame c.take_placement.new.records c.take_placement.new.pending.notes c.take_placement.new.by_height.items
+by_height-after : (c : goal.After-of) → AreByHeightExceptNoted c.self.inside.frame c.take_found.new.records c.take_found.new.pending.notes c.take_found.new.by_height.items × (length c.take_found.new.by_height.items ≡ length c.placement_of-found.new.by_height.items)
 by_height-after c =
     let inside = c.self.inside in
     let column_width = inside.frame.column_width in
     let found = c.in-Some.placement in
     let notes : Notes = c.settle_unless_few-follows.new.pending.notes in
     let by_height : List BoundedShelf = c.placement_of-found.new.by_height.items in
-    let before = searched-before c in
-    let holds : AreByHeightExceptNoted inside.frame (placement_taken column_width found inside.records) (taken_notes found inside.records notes) by_height =
-    found-holds inside.frame inside.records c.args.size found notes by_height c.self.invariant.kept c.in-Some.ensures.some before.0 in
-    subst (AreByHeightExceptNoted inside.frame c.take_placement.new.records c.take_placement.new.pending.notes) (sym c.in_ok-id.ensures.by_height)
-    (subst (λ (n : Notes). AreByHeightExceptNoted inside.frame c.take_placement.new.records n by_height) (sym c.in_ok-id.ensures.notes)
-    (subst (λ (r : Records). AreByHeightExceptNoted inside.frame r (taken_notes found inside.records notes) by_height) (sym c.in_ok-id.ensures.ok) holds))
+    let new : List BoundedShelf = c.take_found.new.by_height.items in
+    let follows = found-follows inside.frame inside.records c.args.size found notes inside.seconds by_height new c.self.invariant.kept c.in-Some.ensures.some c.self.invariant.seconds (searched-before c).0 c.in_ok-id.ensures.by_height in (
+      subst (λ (n : Notes). AreByHeightExceptNoted inside.frame c.take_found.new.records n new) (sym c.in_ok-id.ensures.notes)
+          (subst (λ (r : Records). AreByHeightExceptNoted inside.frame r (taken_notes found inside.records notes) new) (sym c.in_ok-id.ensures.ok) follows.0),
+      follows.1,
+    )
+
+-- what taking asks of the list: its order, and that it has the shelf, if that has not changed
+pub take_found-requires-clause-order : goal.take_found-requires-clause-order
+take_found-requires-clause-order c =
+    let same = searched c.self.inside c.settle_unless_few-follows.new.by_height.items c.placement_of-found.new.by_height.items c.settle_unless_few-follows.new.pending.notes c.settle_unless_few-follows.result c.self.invariant
+    c.settle_unless_few-follows.ensures.by_height c.settle_unless_few-follows.ensures.settled c.placement_of-found.ensures.by_height c.settle_unless_few-follows.ensures.same c.placement_of-found.ensures.same in
+    same.0.order
+
+pub take_found-requires-clause-stands : goal.take_found-requires-clause-stands
+take_found-requires-clause-stands c unnoted =
+    let inside = c.self.inside in
+    let same = searched c.self.inside c.settle_unless_few-follows.new.by_height.items c.placement_of-found.new.by_height.items c.settle_unless_few-follows.new.pending.notes c.settle_unless_few-follows.result c.self.invariant
+    c.settle_unless_few-follows.ensures.by_height c.settle_unless_few-follows.ensures.settled c.placement_of-found.ensures.by_height c.settle_unless_few-follows.ensures.same c.placement_of-found.ensures.same in
+    found-stands inside.frame inside.records c.args.size c.in-Some.placement c.settle_unless_few-follows.new.pending.notes c.placement_of-found.new.by_height.items c.self.invariant.kept c.in-Some.ensures.some same.0 unnoted
 
 pub invariant_of-self : goal.invariant_of-self
 invariant_of-self c =
@@ -140,6 +156,7 @@ invariant_of-self c =
       kept = c.self.invariant.kept;
       by_height = same.0;
       columns = same.1;
+      seconds = c.self.invariant.seconds;
       room = omega (arith, c.self.invariant.room, c.settle_unless_few-follows.ensures.capacity, c.placement_of-found.ensures.capacity);
       room_to_note = omega (arith, c.self.invariant.room_to_note, c.settle_unless_few-follows.ensures.room);
       counted = c.self.invariant.counted;
@@ -154,11 +171,12 @@ invariant_of-self-in_err-id c =
     rw c.in_err-id.ensures.err
     (record {
       kept = c.self.invariant.kept;
-      by_height = subst (AreByHeightExceptNoted inside.frame inside.records c.take_placement.new.pending.notes) (sym c.in_err-id.ensures.by_height)
+      by_height = subst (AreByHeightExceptNoted inside.frame inside.records c.take_found.new.pending.notes) (sym c.in_err-id.ensures.by_height_err)
           (subst (λ (n : Notes). AreByHeightExceptNoted inside.frame inside.records n c.placement_of-found.new.by_height.items) (sym c.in_err-id.ensures.notes_err) same.0);
-      columns = subst (λ (bs : List BoundedShelf). inside.frame.columns ≤ length bs) (sym c.in_err-id.ensures.by_height) same.1;
-      room = subst (λ (r : Records). length r.shelves ≤ c.take_placement.new.by_height.capacity) c.in_err-id.ensures.err c.in_err-id.ensures.room;
-      room_to_note = subst (λ (r : Records). length r.shelves ≤ c.take_placement.new.pending.room) c.in_err-id.ensures.err c.in_err-id.ensures.room_to_note;
+      columns = subst (λ (bs : List BoundedShelf). inside.frame.columns ≤ length bs) (sym c.in_err-id.ensures.by_height_err) same.1;
+      seconds = seconds-equal inside.records inside.seconds c.take_found.new.seconds c.in_err-id.ensures.seconds c.self.invariant.seconds;
+      room = subst (λ (r : Records). length r.shelves ≤ c.take_found.new.by_height.capacity) c.in_err-id.ensures.err c.in_err-id.ensures.room;
+      room_to_note = subst (λ (r : Records). length r.shelves ≤ c.take_found.new.pending.room) c.in_err-id.ensures.err c.in_err-id.ensures.room_to_note;
       counted = c.self.invariant.counted;
       space = c.self.invariant.space;
     })
@@ -166,8 +184,10 @@ invariant_of-self-in_err-id c =
 pub invariant_of-self-2 : goal.invariant_of-self-2
 invariant_of-self-2 c = record {
   kept = (after c).kept;
-  by_height = by_height-after c;
-  columns = subst (λ (bs : List BoundedShelf). c.self.inside.frame.columns ≤ length bs) (sym c.in_ok-id.ensures.by_height) (searched-before c).1;
+  by_height = (by_height-after c).0;
+  columns = omega (arith, (by_height-after c).1, (searched-before c).1);
+  seconds = subst (λ (r : Records). AreSeconds r c.take_found.new.seconds) (sym c.in_ok-id.ensures.ok)
+      (found-seconds c.self.inside.frame c.self.inside.records c.args.size c.in-Some.placement c.self.inside.seconds c.take_found.new.seconds c.self.invariant.kept c.in-Some.ensures.some c.self.invariant.seconds c.in_ok-id.ensures.seconds);
   room = c.in_ok-id.ensures.room;
   room_to_note = c.in_ok-id.ensures.room_to_note;
   counted = omega (arith, (after c).counted, c.splits.ensures.value, c.self.invariant.counted);
@@ -180,7 +200,7 @@ given c = record { id = c.in_ok-id.id; rectangle = c.rectangle-rectangle.result 
 
 -- the state after
 abbrev state-after : (c : goal.After-of) → AtlasState
-state-after c = state_of c.self.inside.frame c.take_placement.new.records
+state-after c = state_of c.self.inside.frame c.take_found.new.records
 
 pub returns-clause-placed : goal.returns-clause-placed
 returns-clause-placed c = λ _.

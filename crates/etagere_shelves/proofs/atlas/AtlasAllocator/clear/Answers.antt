@@ -11,6 +11,7 @@ use Rattle.shelf_heights.specs.declared.by_height.BoundedShelf.{BoundedShelf}
 use Rattle.shelf_records.specs.Private.Kept.{AreKept, state_of}
 use Rattle.shelf_model.specs.Space.{allocated_space}
 use Rattle.shelf_model.specs.State.{AtlasState, items_in_use}
+use Rattle.shelf_store.proofs.ByHeight.KeptSeconds.{unknown-seconds}
 use Rattle.shelf_store.proofs.ByHeight.NewByHeight.{columns-by_height}
 use Rattle.shelf_store.proofs.ByHeight.SplitByHeight.{settled-holds}
 use Rattle.shelf_model.proofs.Places.FreshLemmas.{fresh-allocated, fresh-valid, items_in_use-empty_columns, space-fresh}
@@ -97,6 +98,7 @@ invariant_of-self c =
         c.self.invariant.room_to_note,
         c.settle_notes.ensures.room,
       );
+      seconds = unknown-seconds frame records c.restart.new.self kept c.restart.ensures;
       counted = sym (ap (λ (s : AtlasState). items_in_use s.shelves) (made c) ∙ items_in_use-empty_columns frame 0 frame.columns);
       space = sym (ap allocated_space (made c) ∙ space-fresh frame);
     }

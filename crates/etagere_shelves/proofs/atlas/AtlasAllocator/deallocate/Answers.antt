@@ -15,7 +15,7 @@ use Rattle.shelf_model.specs.State.{AtlasState}
 use Rattle.shelf_model.proofs.Allocations.SeenById.{takes-away, undoes}
 use Rattle.shelf_model.proofs.Promises.{promises}
 use Rattle.shelf_store.proofs.Recorded.RecordedArea.{kept-area}
-use Rattle.shelf_store.proofs.Recorded.RecordedReturn.{AfterReturn, after-return, can-return, by_height-after}
+use Rattle.shelf_store.proofs.Recorded.RecordedReturn.{AfterReturn, after-return, can-return, by_height-after, seconds-after-return}
 use Rattle.shelf_records.proofs.Recorded.RecordsOfIds.{kept-allocated, kept-shelf, marked-within, record-marked}
 use Rattle.shelf_model.proofs.Returned.Restored.{returned-restores}
 use Rattle.shelf_store.proofs.Spelled.ReturnedLengths.{returned-lengths}
@@ -94,6 +94,9 @@ invariant_of-self c =
         c.self.invariant.room_to_note,
         c.return_item.ensures.room,
       );
+      seconds = rw (c.return_item.ensures.records, c.return_item.ensures.seconds)
+          (seconds-after-return c.self.inside.frame c.self.inside.records c.self.inside.pending.notes c.self.inside.by_height.items c.self.inside.seconds c.args.id c.in-Some.number c.self.invariant.kept c.self.invariant.by_height (sym c.number_of.ensures ∙ c.in-Some.is)
+          c.return_item.ensures.narrow c.self.invariant.seconds);
       counted = omega (arith, done.counted, c.self.invariant.counted);
       space = omega (arith, done.space, c.self.invariant.space);
     }

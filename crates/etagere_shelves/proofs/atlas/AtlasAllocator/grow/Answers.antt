@@ -128,6 +128,7 @@ invariant_of-self c =
       columns = columns-by_height inside.frame inside.records c.grow_shelves-done.new.by_height.items c.self.invariant.kept are;
       room = c.grow_shelves-done.ensures.room;
       room_to_note = c.grow_shelves-done.ensures.room_to_note;
+      seconds = c.grow_shelves-done.ensures.seconds c.self.invariant.seconds;
       counted = c.self.invariant.counted ∙ ap (λ (r : Records). items_in_use (state_of inside.frame r).shelves) same;
       space = c.self.invariant.space ∙ ap (λ (r : Records). allocated_space (state_of inside.frame r)) same;
     }
@@ -177,6 +178,7 @@ invariant_of-self-2 c =
       columns = columns-by_height grown c.grow_shelves-done.new.records c.grow_shelves-done.new.by_height.items kept are;
       room = c.grow_shelves-done.ensures.room;
       room_to_note = c.grow_shelves-done.ensures.room_to_note;
+      seconds = c.grow_shelves-done.ensures.seconds c.self.invariant.seconds;
       counted = omega (arith, items, (done c).counted, c.self.invariant.counted);
       space = c.self.invariant.space ∙ sym (done c).space ∙ space;
     }

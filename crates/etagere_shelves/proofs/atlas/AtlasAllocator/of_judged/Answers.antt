@@ -4,7 +4,9 @@ use Rattle.std.proofs.lemmas.Int.{to_z-of_z}
 use Rattle.etagere_base.specs.Sides.{side}
 use Rattle.shelf_records.specs.AtlasRecords.{AtlasRecords, state_spelled}
 use Rattle.shelf_model.specs.Atlas.{KeepsPromises}
+use Rattle.shelf_store.specs.Private.SecondWidths.{AreSeconds}
 use Rattle.shelf_store.specs.Private.Settling.{AreByHeightExceptNoted}
+use Rattle.shelf_store.proofs.ByHeight.KeptSeconds.{unknown-seconds}
 use Rattle.shelf_store.proofs.ByHeight.NewByHeight.{columns-by_height}
 use Rattle.shelf_store.proofs.ByHeight.SplitByHeight.{settled-holds}
 use Rattle.shelf_records.specs.Private.Kept.{AreKept}
@@ -27,6 +29,7 @@ invariant_of-result c =
           (columns-by_height c.args.atlas.frame c.args.atlas.records c.args.by_height.items c.requires.kept c.requires.by_height);
       room = subst (λ (atlas : AtlasRecords). length atlas.records.shelves ≤ c.args.by_height.capacity) same c.requires.room;
       room_to_note = subst (λ (atlas : AtlasRecords). length atlas.records.shelves ≤ c.args.pending.room) same c.requires.room_to_note;
+      seconds = subst (λ (atlas : AtlasRecords). AreSeconds atlas.records c.args.seconds) same (unknown-seconds c.args.atlas.frame c.args.atlas.records c.args.seconds c.requires.kept c.requires.seconds);
       counted = subst (λ (atlas : AtlasRecords). sum ≡ items_in_use (state_spelled atlas).shelves) same c.requires.items;
       space = c.side-allocated_space.ensures.value ∙ ap side (to_z-of_z w32 c.atlas.inside.allocated_space fits)
           ∙ ap side (subst (λ (atlas : AtlasRecords). atlas.allocated_space ≡ pos (space_in (state_spelled atlas).shelves)) same c.requires.space);

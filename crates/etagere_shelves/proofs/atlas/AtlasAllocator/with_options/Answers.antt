@@ -11,6 +11,7 @@ use Rattle.shelf_model.specs.Space.{allocated_space}
 use Rattle.shelf_model.specs.State.{AtlasState, items_in_use}
 use Rattle.shelf_model.proofs.Places.FreshLemmas.{fresh-allocated, fresh-valid, items_in_use-empty_columns, space-fresh}
 use Rattle.shelf_model.proofs.Promises.{promises}
+use Rattle.shelf_store.proofs.ByHeight.KeptSeconds.{unknown-seconds}
 use Rattle.shelf_store.proofs.ByHeight.NewByHeight.{columns-by_height}
 use Rattle.shelf_store.proofs.ByHeight.SplitByHeight.{settled-holds}
 use Rattle.shelf_store.proofs.Spelled.FreshKept.{fresh-kept}
@@ -18,20 +19,20 @@ use Rattle.shelf_store.proofs.Spelled.NumberedLists.{numbered-length}
 use Rattle.etagere_shelves.proofs.atlas.AtlasAllocator.with_options.Goals as goal
 
 -- the frame that is made has as many columns as fit
-columns : (c : goal.In-Ok-settled_notes) → HasAllColumns c.atlas_frame-frame.result
+columns : (c : goal.In-Ok-unknown_seconds) → HasAllColumns c.atlas_frame-frame.result
 columns c = subst HasAllColumns (sym c.atlas_frame-frame.ensures.value) refl
 
 -- the state that the fields stand for
-made : (c : goal.In-Ok-settled_notes) → state_of c.atlas_frame-frame.result c.in-Ok.records ≡ fresh c.atlas_frame-frame.result
+made : (c : goal.In-Ok-unknown_seconds) → state_of c.atlas_frame-frame.result c.in-Ok.records ≡ fresh c.atlas_frame-frame.result
 made c =
     let frame = c.atlas_frame-frame.result in
     ap (state_of frame) c.in-Ok.ensures ∙ (fresh-kept frame c.atlas_frame-frame.ensures.frame (columns c)).0
 
 -- what is kept of the records, and of the list by height
-kept : (c : goal.In-Ok-settled_notes) → AreKept c.atlas_frame-frame.result c.in-Ok.records
+kept : (c : goal.In-Ok-unknown_seconds) → AreKept c.atlas_frame-frame.result c.in-Ok.records
 kept c = subst (AreKept c.atlas_frame-frame.result) (sym c.in-Ok.ensures) (fresh-kept c.atlas_frame-frame.result c.atlas_frame-frame.ensures.frame (columns c)).1
 
-are : (c : goal.In-Ok-settled_notes) → AreByHeight c.atlas_frame-frame.result c.in-Ok.records c.in-Ok-fresh_by_height.by_height.items
+are : (c : goal.In-Ok-unknown_seconds) → AreByHeight c.atlas_frame-frame.result c.in-Ok.records c.in-Ok-fresh_by_height.by_height.items
 are c =
     subst (λ (records : Records). AreByHeight c.atlas_frame-frame.result records c.in-Ok-fresh_by_height.by_height.items) (sym c.in-Ok.ensures) c.in-Ok-fresh_by_height.ensures.by_height
 
@@ -55,6 +56,7 @@ invariant_of-result c =
       columns = columns-by_height frame c.in-Ok.records c.in-Ok-fresh_by_height.by_height.items (kept c) (are c);
       room = omega (arith, ap (λ (r : Records). length r.shelves) c.in-Ok.ensures, numbered-length (fresh_shelf frame) 0 frame.columns, c.in-Ok-fresh_by_height.ensures.room);
       room_to_note = c.in-Ok-settled_notes.ensures.room;
+      seconds = unknown-seconds frame c.in-Ok.records c.in-Ok-unknown_seconds.seconds (kept c) c.in-Ok-unknown_seconds.ensures;
       counted = sym (ap (λ (s : AtlasState). items_in_use s.shelves) (made c) ∙ items_in_use-empty_columns frame 0 frame.columns);
       space = sym (ap allocated_space (made c) ∙ space-fresh frame);
     }

@@ -1,0 +1,85 @@
+//! Of each shelf a width that no more than one of its free items passes. Where that one goes, the width tells how wide the
+//! others are, which no search has to find out.
+//!
+//! Definition: `SecondWidths`, by the numbers of shelf records. What they are kept for is `SecondWidths` of `shelf_store`.
+
+ghost use Rattle.std.specs.Prelude.{◌≡◌, ℕ, IfOk, set};
+ghost use Rattle.shelf_notes.specs.Private.SecondWidths.{second_at};
+
+use std::alloc::{AllocError, Global};
+use std::marker::Model;
+
+/// What is kept of a shelf of which nothing is known: no item is wider.
+const UNKNOWN: u16 = u16::MAX;
+
+/// The widths of shelves, by the numbers of their records.
+#[derive(Drop)]
+pub struct SecondWidths {
+    widths: Vec<u16>,
+}
+
+impl Model for SecondWidths {
+    ghost use Rattle.std.specs.Prelude.{ℕ, List};
+
+    ghost Value = { List ℕ };
+
+    ghost view = { λ seconds. seconds.widths.items };
+}
+
+impl SecondWidths {
+    /// Of so many shelves, of which nothing is known.
+    pub fn with_room(alloc: Global, room: usize) -> Result<SecondWidths, AllocError>
+        ensures { IfOk result (λ seconds. (k : ℕ) → second_at seconds k ≡ 65535) }
+    {
+        let mut widths = Vec::new(alloc);
+        widths.resize(room, UNKNOWN)?;
+        Ok(SecondWidths { widths })
+    }
+
+    /// Makes room for so many shelves in all.
+    pub fn reserve(&mut self, room: usize) -> Result<(), AllocError>
+        ensures { (k : ℕ) → second_at self.new k ≡ second_at self.old k }
+    {
+        if self.widths.len() < room {
+            self.widths.resize(room, UNKNOWN)?;
+        }
+        Ok(())
+    }
+
+    /// Equal widths that share nothing with these.
+    pub fn copied(&self) -> Result<SecondWidths, AllocError>
+        ensures { IfOk result (λ seconds. seconds ≡ self.now) }
+    {
+        Ok(SecondWidths {
+            widths: self.widths.clone()?,
+        })
+    }
+
+    /// A width that no more than one free item of a shelf passes.
+    pub fn second(&self, shelf: usize) -> u16
+        ensures { result ≡ second_at self.now shelf }
+    {
+        if shelf < self.widths.len() {
+            self.widths[shelf]
+        } else {
+            UNKNOWN
+        }
+    }
+
+    /// Keeps another such width of a shelf, if there is room for it.
+    pub fn keep(&mut self, shelf: usize, width: u16)
+        ensures { self.new ≡ set self.old shelf width }
+    {
+        if shelf < self.widths.len() {
+            self.widths[shelf] = width;
+        }
+    }
+
+    /// Forgets all that was known. Room for so many shelves stays.
+    pub fn restart(&mut self, count: usize)
+        ensures { (k : ℕ) → second_at self.new k ≡ 65535 }
+    {
+        self.widths.truncate(count);
+        self.widths.fill(UNKNOWN);
+    }
+}
