@@ -110,7 +110,8 @@ impl AtlasAllocator {
     /// An empty atlas of this size in pixels, with the default options.
     ///
     /// Returns the first fault; `Memory` only where there is no other and no memory. Takes memory for the records of
-    /// one shelf and its item, and for 16 entries in the list by height and notes of them. Takes constant time.
+    /// one shelf and its item, and for 16 entries in the list by height, each with a note and a width. Takes constant
+    /// time.
     pub fn new(alloc: Global, size: Size) -> Result<AtlasAllocator, OptionsFault>
         ensures ok { IfOk result
             (λ atlas. atlas ≡ fresh (frames.atlas_frame size default_options)) }
@@ -128,8 +129,8 @@ impl AtlasAllocator {
     /// An empty atlas of this size in pixels.
     ///
     /// Returns the first fault; `Memory` only where there is no other and no memory. Takes memory for the records of a
-    /// shelf and its item in each column, and for the shelf's entry in the list by height and a note of it, at least 16
-    /// of these. Goes through the columns.
+    /// shelf and its item in each column, and for the shelf's entry in the list by height with a note and a width, at
+    /// least 16 of these. Goes through the columns.
     pub fn with_options(
         alloc: Global,
         size: Size,
@@ -176,8 +177,8 @@ impl AtlasAllocator {
     ///
     /// Returns a rule that the snapshot breaks; `Memory` only where there was no memory. The snapshot is consumed
     /// either way. Its records are made anew, so for a while there is memory for them twice. Takes some more for each
-    /// record while it runs, and for an entry in the list by height and a note for each shelf record, used or not. The
-    /// time is linear in the number of records, but for a sort of the shelves in use.
+    /// record while it runs, and for an entry in the list by height with a note and a width for each shelf record, used
+    /// or not. The time is linear in the number of records, but for a sort of the shelves in use.
     pub fn restore(alloc: Global, snapshot: AtlasSnapshot) -> Result<AtlasAllocator, RestoreFault>
         ensures ok { IfOk result (λ atlas. StandsFor (snapshot_records snapshot) atlas) }
         ensures fault { IfErr result (IsBroken (snapshot_records snapshot)) }
@@ -234,13 +235,13 @@ impl AtlasAllocator {
     ///
     /// `Err` comes only where the item or shelf must be split, too few records are unused for that, and there was no
     /// memory. After an `Err` or none nothing has changed. Memory is taken only for records that are made: of items,
-    /// and of a shelf with its entry in the list by height and a note of it. A split for which there are unused records
-    /// takes none, nor does a size that needs no split. Finds the first shelf that is tall enough where it did last
-    /// time, or by binary search, and goes on by height; of each shelf that may have an item wide enough it searches the
-    /// free list up to the first that is. Before that the list by height follows the shelves that were split or merged
-    /// since the last search: each goes where it belongs by binary search, and an end of the list moves; many are sorted
-    /// anew. In the first searches after a change, where there are no more than some dozen shelves and 128 items, all
-    /// shelves are gone through instead.
+    /// and of a shelf with its entry in the list by height, a note and a width. A split for which there are unused
+    /// records takes none, nor does a size that needs no split. Finds the first shelf that is tall enough where it did
+    /// last time, or by binary search, and goes on by height; of each shelf that may have an item wide enough it
+    /// searches the free list up to the first that is. Before that the list by height follows the shelves that were
+    /// split or merged since the last search: each goes where it belongs by binary search, and an end of the list
+    /// moves; many are sorted anew. In the first searches after a change, where there are no more than some dozen
+    /// shelves and 128 items, all shelves are gone through instead.
     #[inline(always)]
     pub fn allocate(&mut self, size: Size) -> Result<Option<Allocation>, AllocError>
         ensures placed { IfOk result
@@ -466,7 +467,7 @@ impl AtlasAllocator {
     ///
     /// Returns the first fault; `Memory` only where there is no other, the grow needs records and there was no
     /// memory. Nothing changes after a fault. Takes memory for the records that it needs as far as too few are unused,
-    /// and for entries in the list by height and notes of shelf records that are made. Where no column becomes wider or
+    /// and for entries in the list by height, notes and widths of shelf records that are made. Where no column becomes wider or
     /// taller and none is added, it takes constant time, once the list by height follows as in `allocate`. Else it
     /// goes through all shelves, for wider columns through all items too, and then sorts the shelves.
     pub fn grow(&mut self, size: Size) -> Result<(), AtlasGrowFault>
@@ -607,7 +608,7 @@ impl Clone for AtlasAllocator {
     /// An atlas that equals this one, its ids and its later answers too, and shares nothing with it.
     ///
     /// The error comes only where there was no memory. Takes memory for all records, and for the list of shelves by
-    /// height and the notes beside it, and goes through them.
+    /// height with its notes and widths, and goes through them.
     fn clone(&self) -> Result<AtlasAllocator, AllocError> {
         let records = self.records.clone()?;
         let by_height = self.by_height.copied(records.shelves().len())?;

@@ -44,8 +44,8 @@ const WALKED: usize = 12;
 /// More items than this aren't gone through.
 const WALKED_ITEMS: u32 = 128;
 
-/// Makes room for the shelves of so many records, and for notes of them, of which those that are missing are to be made: an
-/// unused one has its room. The error comes only where some are missing and there was no memory.
+/// Makes room for the shelves of so many records, and for notes and widths of them, of which those that are missing are to
+/// be made: an unused one has its room. The error comes only where some are missing and there was no memory.
 pub fn reserve_shelves(
     records: &Records,
     by_height: &mut ShelvesByHeight,
@@ -79,8 +79,8 @@ pub fn reserve_shelves(
     reserve_room(by_height, pending, seconds, room)
 }
 
-/// Makes room for so many shelves, and for notes of them. Never inlined, so that where no record is missing no call is
-/// made.
+/// Makes room for so many shelves, and for notes and widths of them. Never inlined, so that where no record is missing no
+/// call is made.
 #[inline(never)]
 fn reserve_room(
     by_height: &mut ShelvesByHeight,

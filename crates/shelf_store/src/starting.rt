@@ -21,7 +21,8 @@ use shelf_heights::heights::bounded;
 use shelf_records::{Chain, LinkedItem, LinkedShelf, Records, next_of};
 use std::alloc::{AllocError, Global};
 
-/// A new atlas has room for so many shelves by height, and for notes of them, so that the first few take no memory there.
+/// A new atlas has room for so many shelves by height, and for notes and widths of them, so that the first few take no
+/// memory there.
 pub(crate) const FIRST_ROOM: usize = 16;
 
 /// The generation of a record that was just made.
