@@ -1,6 +1,6 @@
 -- Widths that no more than one free item of each shelf passes when a placement is taken: they stay so, and that of its shelf
 -- bounds what is left where the item that passes it is taken.
-use Rattle.std.proofs.Common.{◌≡◌, ℕ, ◌+◌, ◌-◌, ◌≤◌, Bool, true, false, None, cond, List, [], ◌∷◌, ◌++◌, length, map, refl, ap, subst, arith, sym, ◌∙◌}
+use Rattle.std.proofs.Common.{◌≡◌, ℕ, ◌+◌, ◌-◌, ◌≤◌, Bool, true, false, None, cond, List, [], ◌∷◌, ◌++◌, map, refl, ap, subst, arith, sym, ◌∙◌}
 use Rattle.std.specs.Prelude.{◌&&◌, nat_lt}
 use Rattle.etagere_base.proofs.TimesLemmas.{hit, times-append}
 use Rattle.etagere_base.specs.Lists.{times}
@@ -14,7 +14,7 @@ use Rattle.shelf_model.specs.Taking.{taken_shelf}
 use Rattle.shelf_notes.specs.Private.Pending.{Notes, is_noted}
 use Rattle.shelf_notes.specs.Private.SecondWidths.{second_at}
 use Rattle.shelf_records.specs.AtlasRecords.{AtlasRecords, item_at, spelled_shelf}
-use Rattle.shelf_records.specs.Private.Kept.{AreKept, bare}
+use Rattle.shelf_records.specs.Private.Kept.{bare}
 use Rattle.shelf_records.specs.RecordLists.{Entry, Records, shelf_numbers, walked_lists}
 use Rattle.shelf_store.proofs.ByHeight.NumberedShelves.{BoundsAs, HoldIn, IsBoundOf, hold-append, hold-back, hold-changed, hold-numbered, hold-split, numbered-hold}
 use Rattle.shelf_store.proofs.ByHeight.SecondWidths.{only-wider-taken, wider-taken}
