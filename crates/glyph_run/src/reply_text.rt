@@ -14,7 +14,8 @@ use crate::commands::GlyphReply;
 use etagere::Rectangle;
 use itoa::Buffer;
 use pictures::send;
-use run_scripts::short_text::ShortText;
+use run_scripts::reply_text::put_corners;
+use run_scripts::short_text::{ShortText, put_byte, put_word};
 use std::io::{self, Write};
 
 /// Writes the line of a reply. What is of a short length is made in `line`.
@@ -53,9 +54,9 @@ fn with_corners<'a>(word: &str, rectangle: &Rectangle, line: &'a mut ShortText) 
     requires { length word.now ≤ 8 }
     ensures { result.now ≡ word.now ++ corners_text rectangle.now }
 {
-    line.begin(word);
-    line.push_corners(rectangle);
-    line.as_bytes()
+    let at = put_word(&mut line.bytes, 0, word);
+    let end = put_corners(&mut line.bytes, at, rectangle);
+    &line.bytes[..end]
 }
 
 /// The keys that a reply names as evicted.
@@ -112,7 +113,7 @@ fn send_key<W: Write>(key: u64, writer: &mut W) -> io::Result<()>
 {
     let mut digits = Buffer::new();
     let mut line = ShortText::new();
-    line.begin(" ");
-    line.push(digits.format(key));
-    send(line.as_bytes(), writer)
+    let at = put_byte(&mut line.bytes, 0, b' ');
+    let end = put_word(&mut line.bytes, at, digits.format(key));
+    send(&line.bytes[..end], writer)
 }

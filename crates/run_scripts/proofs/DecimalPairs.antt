@@ -1,5 +1,5 @@
 -- Decimal digits, two at a time, and the table that has them.
-use Rattle.std.proofs.Common.{◌≡◌, ℕ, zero, suc, ◌+◌, ◌-◌, ◌*◌, ◌/◌, ◌%◌, ◌^◌, ◌<◌, ◌≤◌, Bool, true, ◌&&◌, T, eqb, List, [], ◌∷◌, ◌++◌, length, get_or, refl, inl, inr, arith, eq-zero-or-pos, eqb→eq, append_assoc, length-append}
+use Rattle.std.proofs.Common.{◌≡◌, ℕ, zero, suc, ◌+◌, ◌-◌, ◌*◌, ◌/◌, ◌%◌, ◌^◌, ◌<◌, ◌≤◌, Bool, true, ◌&&◌, T, eqb, List, ◌++◌, get_or, refl, inl, inr, arith, eq-zero-or-pos, eqb→eq, append_assoc}
 use Rattle.std.specs.Prelude.{codes}
 use Rattle.std.proofs.lemmas.Fmt.{decimal_digit, decimal_step}
 use Rattle.std.specs.Fmt.{decimal}
@@ -41,6 +41,10 @@ last-pair n least less =
     let ones : n % 10 ≡ n % 100 % 10 = omega arith in
     rw (decimal_step n (omega arith) (omega arith), decimal_step (n / 10) (omega arith) (omega arith), append_assoc, hundredth, tens, ← ones) refl
 
+-- four digits are two pairs
+pub two-pairs : (n : ℕ) → 1000 ≤ n → n < 10000 → decimal n ≡ pair_text (n / 100) ++ pair_text (n % 100)
+two-pairs n least less = rw (last-pair n (omega arith) (omega arith), two-digits (n / 100) (omega arith) (omega arith)) refl
+
 -- the last four digits stand behind those of a ten-thousandth
 pub last-four : (n : ℕ) → 10000 ≤ n → n < 2 ^ 32 → decimal n ≡ decimal (n / 10000) ++ (pair_text (n % 10000 / 100) ++ pair_text (n % 10000 % 100))
 last-four n least less =
@@ -48,7 +52,3 @@ last-four n least less =
     let upper : n / 100 % 100 ≡ n % 10000 / 100 = omega arith in
     let lower : n % 10000 % 100 ≡ n % 100 = omega arith in
     rw (last-pair n (omega arith) less, last-pair (n / 100) (omega arith) (omega arith), append_assoc, rest, upper, lower) refl
-
--- how much longer a text is with more behind it
-pub grown : (old new more : List ℕ) (most : ℕ) → new ≡ old ++ more → length more ≤ most → length new ≤ length old + most
-grown old new more most is few = rw is (omega (arith, length-append old more))

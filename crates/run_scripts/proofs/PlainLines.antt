@@ -4,7 +4,7 @@ use Rattle.std.specs.Prelude.{nat_le, option_map}
 use Rattle.std.specs.Char.{is_ascii_digit}
 use Rattle.std.proofs.Math.Nat.{pow-le-pow_right, pow-suc}
 use Rattle.std.proofs.lemmas.Bool.Decides.{nat_tests}
-use Rattle.std.proofs.lemmas.List.{append-nil, length-take-le, take_all, take_more}
+use Rattle.std.proofs.lemmas.List.{append-nil, drop_more, length-take-le, take_more, take_rest}
 use Rattle.std.proofs.lemmas.List.Elements.{All-append, All-nil}
 use Rattle.run_scripts.specs.Lines.{Lacks, lines_of, words_of}
 use Rattle.run_scripts.specs.Numbers.{natural_of}
@@ -15,16 +15,23 @@ use Rattle.run_scripts.proofs.Digits.{natural_after, natural_after-cons, natural
 use Rattle.run_scripts.proofs.DigitsLack.{natural-lacks, number-natural}
 use Rattle.run_scripts.proofs.Pieces.{Lacks-cons, parted-append, parted-one}
 
--- the first byte, and those after it
-pub one-first : (bytes : List ℕ) (byte : ℕ) → 1 ≤ length bytes → get_or bytes 0 0 ≡ byte → bytes ≡ byte ∷ take (length bytes - 1) (drop 1 bytes)
-one-first [] byte some is = absurd (omega arith)
-one-first (x ∷ xs) byte some is = ap (λ b. b ∷ xs) is ∙ ap (λ l. byte ∷ l) (sym (take_all _ xs (omega arith)))
+-- the byte at a place, and those after it
+pub byte-at : (bytes : List ℕ) (i byte : ℕ) → i < length bytes → get_or bytes i 0 ≡ byte → drop i bytes ≡ byte ∷ drop (i + 1) bytes
+byte-at bytes i byte within is = drop_more bytes i 0 within ∙ ap (λ b. b ∷ drop (i + 1) bytes) is
+
+-- the same, where those after it are a slice
+pub byte-before : (bytes : List ℕ) (i byte : ℕ) → i < length bytes → get_or bytes i 0 ≡ byte → drop i bytes ≡ byte ∷ take (length bytes - (i + 1)) (drop (i + 1) bytes)
+byte-before bytes i byte within is = byte-at bytes i byte within is ∙ ap (λ l. byte ∷ l) (sym (take_rest bytes (i + 1)))
 
 -- the first byte, the second, and those after them
-pub two-first : (bytes : List ℕ) (byte : ℕ) → 2 ≤ length bytes → get_or bytes 1 0 ≡ byte → bytes ≡ get_or bytes 0 0 ∷ byte ∷ take (length bytes - 2) (drop 2 bytes)
+pub two-first : (bytes : List ℕ) (byte : ℕ) → 2 ≤ length bytes → get_or bytes 1 0 ≡ byte → bytes ≡ get_or bytes 0 0 ∷ byte ∷ drop 2 bytes
 two-first [] byte some is = absurd (omega arith)
 two-first (x ∷ []) byte some is = absurd (omega arith)
-two-first (x ∷ y ∷ xs) byte some is = ap (λ b. x ∷ b ∷ xs) is ∙ ap (λ l. x ∷ byte ∷ l) (sym (take_all _ xs (omega arith)))
+two-first (x ∷ y ∷ xs) byte some is = ap (λ b. x ∷ b ∷ xs) is
+
+-- a byte that is a digit tests so
+pub digit-tests : (byte : ℕ) → 48 ≤ byte → byte ≤ 57 → is_ascii_digit byte ≡ true
+digit-tests byte least most = grind (arith, nat_tests)
 
 -- what passes both tests is kept
 passes : (digit : Bool) (m n g : ℕ) (f : ℕ → Option ℕ) → digit ≡ true → m ≡ n → n ≤ g → cond (digit && nat_le m g) (f m) None ≡ f n

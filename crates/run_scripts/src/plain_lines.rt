@@ -3,7 +3,7 @@
 //!
 //! Definition: `PlainLines`, over `Lines`, `Numbers` and `Words`.
 
-ghost use Rattle.std.specs.Prelude.{◌≡◌, ◌<◌, ◌^◌, pos, IfSome};
+ghost use Rattle.std.specs.Prelude.{◌≡◌, ◌<◌, ◌≤◌, ◌+◌, ◌^◌, pos, drop, length, IfSome};
 ghost use Rattle.run_scripts.specs.Private.PlainLines.{BeginsWithCommand, BeginsWithNumber};
 
 use crate::words::LetteredCommand;
@@ -13,6 +13,13 @@ use etagere_base::Size;
 /// of the bytes in place of one at each digit.
 const SHORT: usize = 9;
 
+/// The digit zero.
+const ZERO: u32 = 48;
+
+/// How many bytes a line has at most: a letter, a space, and two numbers with what ends them. So many have to be there,
+/// which leaves one test for the end of the bytes in place of one at each number.
+const LONGEST: usize = 20;
+
 /// The command of the first line, where that is plain, and the bytes after it. Always inlined: it is called for each
 /// line behind the header of a script.
 #[inline(always)]
@@ -20,51 +27,52 @@ pub fn plain_command<C: LetteredCommand>(bytes: &[u8]) -> Option<(C, &[u8])>
     ensures { IfSome result (λ parts.
         BeginsWithCommand C.cleared C.meaning bytes.now parts.0 parts.1.now) }
 {
-    let [letter, b' ', numbers @ ..] = bytes else {
-        return None;
-    };
-    if *letter <= b' ' {
+    if bytes.len() < LONGEST {
         return None;
     }
-    let (first, behind) = leading_number(numbers)?;
-    match behind {
-        [b'\n', after @ ..] => {
+    let letter = bytes[0];
+    if letter <= b' ' || bytes[1] != b' ' {
+        return None;
+    }
+    let (first, end) = number_at(bytes, 2)?;
+    match bytes[end] {
+        b'\n' => {
             let number = u64::from(first);
-            Some((C::with_number(*letter, number)?, after))
+            Some((C::with_number(letter, number)?, &bytes[end + 1..]))
         }
-        [b' ', numbers @ ..] => {
-            let (second, behind) = leading_number(numbers)?;
-            let [b'\n', after @ ..] = behind else {
+        b' ' => {
+            let (second, end) = number_at(bytes, end + 1)?;
+            if bytes[end] != b'\n' {
                 return None;
-            };
+            }
             let size = size_of_sides(first, second);
-            Some((C::with_size(*letter, size)?, after))
+            Some((C::with_size(letter, size)?, &bytes[end + 1..]))
         }
         _ => None,
     }
 }
 
-/// The value of the digits that stand first, where they are fewer than nine of nine bytes or more, and the bytes after
-/// them. Always inlined, as `plain_command` is.
+/// The value of the digits from a place on, where they are fewer than nine, and the place behind them. Always inlined, as
+/// `plain_command` is.
 #[inline(always)]
-fn leading_number(bytes: &[u8]) -> Option<(u32, &[u8])>
-    ensures number { IfSome result (λ parts. BeginsWithNumber bytes.now parts.0 parts.1.now) }
+fn number_at(bytes: &[u8], from: usize) -> Option<(u32, usize)>
+    requires { from + 9 ≤ length bytes.now }
+    ensures number { IfSome result (λ parts.
+        BeginsWithNumber (drop from bytes.now) parts.0 (drop parts.1 bytes.now)) }
     ensures small { IfSome result (λ parts. parts.0 < 100000000) }
+    ensures end { IfSome result (λ parts. parts.1 ≤ from + 8) }
 {
-    if bytes.len() < SHORT {
-        return None;
-    }
     let mut value = 0u32;
     for index in 0..SHORT {
-        let byte = bytes[index];
-        if !byte.is_ascii_digit() {
+        let digit = u32::from(bytes[from + index]).wrapping_sub(ZERO);
+        if digit > 9 {
             return if index == 0 {
                 None
             } else {
-                Some((value, &bytes[index..]))
+                Some((value, from + index))
             };
         }
-        value = value * 10 + u32::from(byte - b'0');
+        value = value * 10 + digit;
     }
     None
 }

@@ -2,58 +2,71 @@
 //!
 //! Definition: `ReplyText`. A new reply needs its words there and here, and room in the buffer.
 
-ghost use Rattle.std.specs.Prelude.{◌≡◌, ◌≤◌, ◌+◌, ◌++◌, ◌∷◌, length};
+ghost use Rattle.std.specs.Prelude.{◌≡◌, ◌≤◌, ◌+◌, ◌++◌, ◌∷◌, length, take};
 ghost use Rattle.std.specs.Fmt.{signed_decimal};
 ghost use Rattle.run_scripts.specs.Lines.{space};
 ghost use Rattle.run_scripts.specs.ReplyText as spec;
 ghost use Rattle.run_scripts.specs.ReplyText.{HasPlaces, IsPlace, TellsPlaces, corners_text, longest_line};
 
 use crate::commands::Reply;
-use crate::short_text::ShortText;
+use crate::short_text::{
+    CAPACITY, ShortText, put_below_10000, put_byte, put_five, put_number, put_word,
+};
 use etagere_base::{Allocation, Rectangle};
 
-impl ShortText {
-    /// Adds a place, with a minus sign where it is negative. Always inlined: a line with a rectangle has four places.
-    #[inline(always)]
-    fn push_place(&mut self, place: i32)
-        requires { length self.old + 11 ≤ 66 }
-        ensures text { self.new ≡ self.old ++ signed_decimal place }
-        ensures length { length self.new ≤ length self.old + 11 }
-        ensures short { IsPlace place → length self.new ≤ length self.old + 5 }
-    {
-        if place >= 0 {
-            self.push_number(place as u32);
-            return;
-        }
-        let mut digits = itoa::Buffer::new();
-        self.push(digits.format(place));
+/// Writes a place, with a minus sign where it is negative. Always inlined: a line with a rectangle has four places.
+#[inline(always)]
+fn put_place(bytes: &mut [u8; CAPACITY], at: usize, place: i32) -> usize
+    requires { at + 11 ≤ 66 }
+    ensures text { take result bytes.new ≡ take at bytes.old ++ signed_decimal place }
+    ensures end { result ≤ at + 11 }
+    ensures short { IsPlace place → result ≤ at + 5 }
+{
+    if place >= 0 && place < 10_000 {
+        put_below_10000(bytes, at, place as u32)
+    } else if place >= 0 && place < 100_000 {
+        put_five(bytes, at, place as u32)
+    } else {
+        put_long_place(bytes, at, place)
     }
+}
 
-    /// Adds a space and a place. Always inlined, as `push_place` is.
-    #[inline(always)]
-    fn push_next_place(&mut self, place: i32)
-        requires { length self.old + 12 ≤ 66 }
-        ensures text { self.new ≡ self.old ++ space ∷ signed_decimal place }
-        ensures length { length self.new ≤ length self.old + 12 }
-        ensures short { IsPlace place → length self.new ≤ length self.old + 6 }
-    {
-        self.push_byte(b' ');
-        self.push_place(place);
-    }
+/// Writes a place of whatever length. It stands apart, since none in an atlas is negative or has six digits.
+#[cold]
+#[inline(never)]
+fn put_long_place(bytes: &mut [u8; CAPACITY], at: usize, place: i32) -> usize
+    requires { at + 11 ≤ 66 }
+    ensures text { take result bytes.new ≡ take at bytes.old ++ signed_decimal place }
+    ensures end { result ≤ at + 11 }
+{
+    let mut digits = itoa::Buffer::new();
+    put_word(bytes, at, digits.format(place))
+}
 
-    /// Adds the corners of a rectangle. Always inlined: each line with a rectangle has them.
-    #[inline(always)]
-    pub fn push_corners(&mut self, rectangle: &Rectangle)
-        requires { length self.old + 47 ≤ 66 }
-        ensures text { self.new ≡ self.old ++ corners_text rectangle.now }
-        ensures length { length self.new ≤ length self.old + 47 }
-        ensures short { HasPlaces rectangle.now → length self.new ≤ length self.old + 23 }
-    {
-        self.push_place(rectangle.min.x);
-        self.push_next_place(rectangle.min.y);
-        self.push_next_place(rectangle.max.x);
-        self.push_next_place(rectangle.max.y);
-    }
+/// Writes a space and a place. Always inlined, as `put_place` is.
+#[inline(always)]
+fn put_next_place(bytes: &mut [u8; CAPACITY], at: usize, place: i32) -> usize
+    requires { at + 12 ≤ 66 }
+    ensures text { take result bytes.new ≡ take at bytes.old ++ space ∷ signed_decimal place }
+    ensures end { result ≤ at + 12 }
+    ensures short { IsPlace place → result ≤ at + 6 }
+{
+    let behind = put_byte(bytes, at, b' ');
+    put_place(bytes, behind, place)
+}
+
+/// Writes the corners of a rectangle. Always inlined: each line with a rectangle has them.
+#[inline(always)]
+pub fn put_corners(bytes: &mut [u8; CAPACITY], at: usize, rectangle: &Rectangle) -> usize
+    requires { at + 47 ≤ 66 }
+    ensures text { take result bytes.new ≡ take at bytes.old ++ corners_text rectangle.now }
+    ensures end { result ≤ at + 47 }
+    ensures short { HasPlaces rectangle.now → result ≤ at + 23 }
+{
+    let at = put_place(bytes, at, rectangle.min.x);
+    let at = put_next_place(bytes, at, rectangle.min.y);
+    let at = put_next_place(bytes, at, rectangle.max.x);
+    put_next_place(bytes, at, rectangle.max.y)
 }
 
 /// The line of a reply. It is made in `line`, where it isn't always the same. Always inlined, so that a reply is read
@@ -65,21 +78,21 @@ pub fn line_of<'a>(reply: &Reply, line: &'a mut ShortText) -> &'a [u8]
 {
     match reply {
         Reply::Placed(allocation) => {
-            write_placed(line, allocation);
-            line.as_bytes()
+            let end = put_placed(&mut line.bytes, allocation);
+            &line.bytes[..end]
         }
         Reply::Refused => b"refused\n",
         Reply::Returned => b"returned\n",
         Reply::At(rectangle, index) => {
-            write_at(line, rectangle, *index);
-            line.as_bytes()
+            let end = put_at(&mut line.bytes, *rectangle, *index);
+            &line.bytes[..end]
         }
         Reply::NotLive => b"not live\n",
         Reply::Cleared => b"cleared\n",
         Reply::Grown => b"grown\n",
         Reply::GrowRefused(number) => {
-            write_grow_refused(line, *number);
-            line.as_bytes()
+            let end = put_grow_refused(&mut line.bytes, *number);
+            &line.bytes[..end]
         }
         Reply::NoMemory => b"no memory\n",
     }
@@ -87,33 +100,40 @@ pub fn line_of<'a>(reply: &Reply, line: &'a mut ShortText) -> &'a [u8]
 
 /// Writes the line of a size that was placed. Always inlined: most lines are of that kind.
 #[inline(always)]
-fn write_placed(line: &mut ShortText, allocation: &Allocation)
-    ensures text { line.new ≡ spec.line_of (Reply.Placed allocation.now) }
-    ensures short { HasPlaces allocation.now.rectangle → length line.new ≤ longest_line }
+fn put_placed(bytes: &mut [u8; CAPACITY], allocation: &Allocation) -> usize
+    ensures text { take result bytes.new ≡ spec.line_of (Reply.Placed allocation.now) }
+    ensures end { result ≤ 66 }
+    ensures short { HasPlaces allocation.now.rectangle → result ≤ longest_line }
 {
-    line.begin("placed ");
-    line.push_number(allocation.id.serialize());
-    line.push_byte(b' ');
-    line.push_corners(&allocation.rectangle);
-    line.push_byte(b'\n');
+    let at = put_word(bytes, 0, "placed ");
+    let at = put_number(bytes, at, allocation.id.serialize());
+    let at = put_byte(bytes, at, b' ');
+    let at = put_corners(bytes, at, &allocation.rectangle);
+    put_byte(bytes, at, b'\n')
 }
 
-fn write_at(line: &mut ShortText, rectangle: &Rectangle, index: u32)
-    ensures text { line.new ≡ spec.line_of (Reply.At rectangle.now index) }
-    ensures short { HasPlaces rectangle.now → length line.new ≤ longest_line }
+/// Writes the line of what was looked up. It stands apart, and is handed a copy, so that a reply needn't be in memory.
+#[inline(never)]
+fn put_at(bytes: &mut [u8; CAPACITY], rectangle: Rectangle, index: u32) -> usize
+    ensures text { take result bytes.new ≡ spec.line_of (Reply.At rectangle index) }
+    ensures end { result ≤ 66 }
+    ensures short { HasPlaces rectangle → result ≤ longest_line }
 {
-    line.begin("at ");
-    line.push_corners(rectangle);
-    line.push_byte(b' ');
-    line.push_number(index);
-    line.push_byte(b'\n');
+    let at = put_word(bytes, 0, "at ");
+    let at = put_corners(bytes, at, &rectangle);
+    let at = put_byte(bytes, at, b' ');
+    let at = put_number(bytes, at, index);
+    put_byte(bytes, at, b'\n')
 }
 
-fn write_grow_refused(line: &mut ShortText, number: u32)
-    ensures text { line.new ≡ spec.line_of (Reply.GrowRefused number) }
-    ensures short { length line.new ≤ longest_line }
+/// Writes the line of a size to which an atlas didn't grow.
+#[inline(never)]
+fn put_grow_refused(bytes: &mut [u8; CAPACITY], number: u32) -> usize
+    ensures text { take result bytes.new ≡ spec.line_of (Reply.GrowRefused number) }
+    ensures end { result ≤ 66 }
+    ensures short { result ≤ longest_line }
 {
-    line.begin("grow refused ");
-    line.push_number(number);
-    line.push_byte(b'\n');
+    let at = put_word(bytes, 0, "grow refused ");
+    let at = put_number(bytes, at, number);
+    put_byte(bytes, at, b'\n')
 }

@@ -10,14 +10,13 @@ ghost use Rattle.run_scripts.specs.Script as spec;
 ghost use Rattle.run_scripts.specs.Script.{script_of};
 ghost use Rattle.run_scripts.specs.ScriptReading.{Gives, commands_in};
 ghost use Rattle.run_scripts.specs.Words as words;
-ghost use Rattle.run_scripts.specs.declared.script.ScriptFault.TheVariants.{Memory};
 
 use crate::commands::{AtlasCommand, BucketedCommand};
 use crate::lines::{blank_lines, first_line, line_feeds};
 use crate::plain_lines::plain_command;
 use crate::words::{AtlasKind, LetteredCommand, command_of, header_of};
 use etagere_base::{AllocatorOptions, Size};
-use std::alloc::{AllocFailed, Global};
+use std::alloc::Global;
 use std::marker::Model;
 
 /// A run as a script spells it.
@@ -57,14 +56,6 @@ pub enum ScriptFault {
     Memory,
 }
 
-impl<T: Drop> From<AllocFailed<T>> for ScriptFault {
-    ghost from_gives = { λ _ fault. fault ≡ Memory };
-
-    fn from(_failed: AllocFailed<T>) -> ScriptFault {
-        ScriptFault::Memory
-    }
-}
-
 /// Reads a script: its first line with bytes is the header, each later one a command. Takes memory
 /// for a command a line, at once, and two passes over the bytes.
 pub fn read_script(alloc: Global, bytes: &[u8]) -> Result<Script, ScriptFault>
@@ -102,7 +93,8 @@ fn commands_to(
 }
 
 /// The commands of the lines after line number `before`. Takes memory for a command a line, at once, and two passes over
-/// the bytes. Never inlined: it has the processor's registers to itself.
+/// the bytes. That there is room is tested for each line, though it always is: so nothing here has the vector grow, and
+/// its length needn't be in memory. Never inlined: it has the processor's registers to itself.
 #[inline(never)]
 pub fn commands_of<C: LetteredCommand>(
     alloc: Global,
@@ -121,8 +113,11 @@ pub fn commands_of<C: LetteredCommand>(
     let mut rest = bytes;
     while !rest.is_empty() {
         number += 1;
+        if commands.len() == commands.capacity() {
+            return Err(ScriptFault::Memory);
+        }
         if let Some((command, after)) = plain_command(rest) {
-            commands.push(command)?;
+            commands.push_reserved(command);
             rest = after;
             continue;
         }
@@ -131,7 +126,7 @@ pub fn commands_of<C: LetteredCommand>(
             let Some(command) = command_of(line) else {
                 return Err(ScriptFault::BadLine(number));
             };
-            commands.push(command)?;
+            commands.push_reserved(command);
         }
         rest = after;
     }

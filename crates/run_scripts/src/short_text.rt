@@ -1,158 +1,180 @@
-//! Short text that is made piece by piece in a buffer of fixed size, into which the digits of a number go at once.
+//! Short text that is made piece by piece in room of fixed size, into which the digits of a number go at once. Each call
+//! is told where its piece begins, and gives where that ends, so that no place is written to memory in between.
 //!
-//! Definition: `Digits`, for two digits that are written together. Nothing here takes memory.
+//! Definition: `DigitPairs`, for two digits that are written together. Nothing here takes memory.
 
-ghost use Rattle.std.specs.Prelude.{◌≡◌, ◌≤◌, ◌<◌, ◌+◌, ◌++◌, ◌/◌, ◌%◌, ◌∷◌, [], decimal, length};
+ghost use Rattle.std.specs.Prelude.{◌≡◌, ◌≤◌, ◌<◌, ◌+◌, ◌++◌, ◌/◌, ◌%◌, ◌∷◌, [], decimal, length, take};
 ghost use Rattle.run_scripts.specs.DigitPairs.{pair_text};
 
-use std::marker::Model;
-
 /// How many bytes a short text has at most: `placed`, an id of 10 digits, and four places of 11 characters.
-const CAPACITY: usize = 66;
+pub const CAPACITY: usize = 66;
 
 /// The two digits of each number below 100, one number after another.
 const PAIRS: &str =
     "0001020304050607080910111213141516171819202122232425262728293031323334353637383940414243444546474849\
     5051525354555657585960616263646566676869707172737475767778798081828384858687888990919293949596979899";
 
-/// Text of at most 66 bytes.
+/// Room for text of at most 66 bytes.
 #[derive(Drop)]
 pub struct ShortText {
-    bytes: [u8; CAPACITY],
-    length: usize,
-}
-
-impl Model for ShortText {
-    ghost use Rattle.std.specs.Prelude.{ℕ, ◌≤◌, List, take};
-
-    ghost Value = { List ℕ };
-
-    ghost invariant = { λ text. text.length ≤ 66 };
-
-    ghost view = { λ text. take text.length text.bytes };
+    pub bytes: [u8; CAPACITY],
 }
 
 impl ShortText {
-    /// No text.
-    pub fn new() -> ShortText
-        ensures { result ≡ [] }
-    {
+    /// Room with no text.
+    pub fn new() -> ShortText {
         ShortText {
             bytes: [0; CAPACITY],
-            length: 0,
         }
     }
+}
 
-    /// The text so far.
-    pub fn as_bytes(&self) -> &[u8]
-        ensures { result.now ≡ self.now }
-    {
-        &self.bytes[..self.length]
-    }
+/// Writes a word, with which the text has at most 66 bytes.
+pub fn put_word(bytes: &mut [u8; CAPACITY], at: usize, word: &str) -> usize
+    requires { at + length word.now ≤ 66 }
+    ensures text { take result bytes.new ≡ take at bytes.old ++ word.now }
+    ensures end { result ≡ at + length word.now }
+{
+    let end = at + word.len();
+    bytes[at..end].copy_from_slice(word.as_bytes());
+    end
+}
 
-    /// Begins anew with a word of at most 66 bytes.
-    pub fn begin(&mut self, word: &str)
-        requires { length word.now ≤ 66 }
-        ensures { self.new ≡ word.now }
-    {
-        self.length = 0;
-        self.push(word);
-    }
+/// Writes a byte, where one more fits into the 66.
+pub fn put_byte(bytes: &mut [u8; CAPACITY], at: usize, byte: u8) -> usize
+    requires { at + 1 ≤ 66 }
+    ensures text { take result bytes.new ≡ take at bytes.old ++ byte ∷ [] }
+    ensures end { result ≡ at + 1 }
+{
+    bytes[at] = byte;
+    at + 1
+}
 
-    /// Adds a word, with which the text has at most 66 bytes.
-    pub fn push(&mut self, word: &str)
-        requires { length self.old + length word.now ≤ 66 }
-        ensures { self.new ≡ self.old ++ word.now }
-    {
-        let at = self.length;
-        let end = at + word.len();
-        self.bytes[at..end].copy_from_slice(word.as_bytes());
-        self.length = end;
+/// Writes the decimal digits of a number, where ten more bytes fit into the 66.
+#[inline(always)]
+pub fn put_number(bytes: &mut [u8; CAPACITY], at: usize, number: u32) -> usize
+    requires { at + 10 ≤ 66 }
+    ensures text { take result bytes.new ≡ take at bytes.old ++ decimal number }
+    ensures end { result ≤ at + 10 }
+    ensures short { number < 100000 → result ≤ at + 5 }
+{
+    if number >= 100_000 {
+        let behind = put_front(bytes, at, number / 10_000);
+        return put_four(bytes, behind, number % 10_000);
     }
+    if number >= 10_000 {
+        put_five(bytes, at, number)
+    } else {
+        put_below_10000(bytes, at, number)
+    }
+}
 
-    /// Adds a byte, where one more fits into the 66.
-    pub fn push_byte(&mut self, byte: u8)
-        requires { length self.old + 1 ≤ 66 }
-        ensures { self.new ≡ self.old ++ byte ∷ [] }
-    {
-        let at = self.length;
-        self.bytes[at] = byte;
-        self.length = at + 1;
+/// Writes the digits of what stands before the last four digits of a number.
+fn put_front(bytes: &mut [u8; CAPACITY], at: usize, number: u32) -> usize
+    requires { (number < 1000000) × (at + 6 ≤ 66) }
+    ensures text { take result bytes.new ≡ take at bytes.old ++ decimal number }
+    ensures end { result ≤ at + 6 }
+{
+    if number < 100 {
+        put_below_100(bytes, at, number)
+    } else {
+        put_long_front(bytes, at, number)
     }
+}
 
-    /// Adds the decimal digits of a number, where ten more bytes fit into the 66. Always inlined: the line of a
-    /// reply has up to five numbers.
-    #[inline(always)]
-    pub fn push_number(&mut self, number: u32)
-        requires { length self.old + 10 ≤ 66 }
-        ensures text { self.new ≡ self.old ++ decimal number }
-        ensures length { length self.new ≤ length self.old + 10 }
-        ensures short { number < 100000 → length self.new ≤ length self.old + 5 }
-    {
-        if number >= 10_000 {
-            self.push_front(number / 10_000);
-            self.push_four(number % 10_000);
-        } else {
-            self.push_below_10000(number);
-        }
+/// Writes the digits of a number below 1000000. It stands apart, since few numbers have so many digits in front.
+#[inline(never)]
+fn put_long_front(bytes: &mut [u8; CAPACITY], at: usize, number: u32) -> usize
+    requires { (number < 1000000) × (at + 6 ≤ 66) }
+    ensures text { take result bytes.new ≡ take at bytes.old ++ decimal number }
+    ensures end { result ≤ at + 6 }
+{
+    if number < 10_000 {
+        return put_below_10000(bytes, at, number);
     }
+    let behind = put_below_100(bytes, at, number / 10_000);
+    put_four(bytes, behind, number % 10_000)
+}
 
-    /// Adds the digits of a number below 1000000.
-    fn push_front(&mut self, number: u32)
-        requires { (number < 1000000) × (length self.old + 6 ≤ 66) }
-        ensures { self.new ≡ self.old ++ decimal number }
-    {
-        if number >= 10_000 {
-            self.push_below_100(number / 10_000);
-            self.push_four(number % 10_000);
-        } else {
-            self.push_below_10000(number);
-        }
-    }
+/// Writes the digits of a number that has five of them.
+pub fn put_five(bytes: &mut [u8; CAPACITY], at: usize, number: u32) -> usize
+    requires { (10000 ≤ number) × (number < 100000) × (at + 5 ≤ 66) }
+    ensures text { take result bytes.new ≡ take at bytes.old ++ decimal number }
+    ensures end { result ≡ at + 5 }
+{
+    let behind = put_digit(bytes, at, number / 10_000);
+    put_four(bytes, behind, number % 10_000)
+}
 
-    /// Adds the digits of a number below 10000.
-    fn push_below_10000(&mut self, number: u32)
-        requires { (number < 10000) × (length self.old + 4 ≤ 66) }
-        ensures { self.new ≡ self.old ++ decimal number }
-    {
-        if number >= 100 {
-            self.push_below_100(number / 100);
-            self.push_pair(number % 100);
-        } else {
-            self.push_below_100(number);
-        }
+/// Writes the digits of a number below 10000.
+#[inline(always)]
+pub fn put_below_10000(bytes: &mut [u8; CAPACITY], at: usize, number: u32) -> usize
+    requires { (number < 10000) × (at + 4 ≤ 66) }
+    ensures text { take result bytes.new ≡ take at bytes.old ++ decimal number }
+    ensures end { result ≤ at + 4 }
+{
+    if number >= 1_000 {
+        put_four(bytes, at, number)
+    } else if number >= 100 {
+        let hundreds = hundreds_of(number);
+        let behind = put_digit(bytes, at, hundreds);
+        put_pair(bytes, behind, number - hundreds * 100)
+    } else {
+        put_below_100(bytes, at, number)
     }
+}
 
-    /// Adds the last four digits of a number.
-    fn push_four(&mut self, number: u32)
-        requires { (number < 10000) × (length self.old + 4 ≤ 66) }
-        ensures { self.new ≡ self.old ++ (pair_text (number / 100) ++ pair_text (number % 100)) }
-    {
-        self.push_pair(number / 100);
-        self.push_pair(number % 100);
+/// Writes the digits of a number below 100.
+fn put_below_100(bytes: &mut [u8; CAPACITY], at: usize, number: u32) -> usize
+    requires { (number < 100) × (at + 2 ≤ 66) }
+    ensures text { take result bytes.new ≡ take at bytes.old ++ decimal number }
+    ensures end { result ≤ at + 2 }
+{
+    if number < 10 {
+        put_digit(bytes, at, number)
+    } else {
+        put_pair(bytes, at, number)
     }
+}
 
-    /// Adds the digits of a number below 100.
-    fn push_below_100(&mut self, number: u32)
-        requires { (number < 100) × (length self.old + 2 ≤ 66) }
-        ensures { self.new ≡ self.old ++ decimal number }
-    {
-        if number >= 10 {
-            self.push_pair(number);
-        } else {
-            self.push_byte(b'0' + number as u8);
-        }
-    }
+/// Writes the last four digits of a number, of which the first may be zero.
+fn put_four(bytes: &mut [u8; CAPACITY], at: usize, number: u32) -> usize
+    requires { (number < 10000) × (at + 4 ≤ 66) }
+    ensures text { take result bytes.new
+        ≡ take at bytes.old ++ (pair_text (number / 100) ++ pair_text (number % 100)) }
+    ensures end { result ≡ at + 4 }
+{
+    let hundreds = hundreds_of(number);
+    let behind = put_pair(bytes, at, hundreds);
+    put_pair(bytes, behind, number - hundreds * 100)
+}
 
-    /// Adds two digits, of which the first may be zero.
-    fn push_pair(&mut self, pair: u32)
-        requires { (pair < 100) × (length self.old + 2 ≤ 66) }
-        ensures { self.new ≡ self.old ++ pair_text pair }
-    {
-        let (tens, ones) = digits_of(pair);
-        self.push_byte(tens);
-        self.push_byte(ones);
-    }
+/// How many hundreds a number below 10000 has. A product gives them by fewer instructions than a division by 100.
+fn hundreds_of(number: u32) -> u32
+    requires { number < 10000 }
+    ensures { result ≡ number / 100 }
+{
+    number * 5_243 / 524_288
+}
+
+/// Writes two digits, of which the first may be zero.
+fn put_pair(bytes: &mut [u8; CAPACITY], at: usize, pair: u32) -> usize
+    requires { (pair < 100) × (at + 2 ≤ 66) }
+    ensures text { take result bytes.new ≡ take at bytes.old ++ pair_text pair }
+    ensures end { result ≡ at + 2 }
+{
+    let (tens, ones) = digits_of(pair);
+    let behind = put_byte(bytes, at, tens);
+    put_byte(bytes, behind, ones)
+}
+
+/// Writes the digit that a number below 10 is.
+fn put_digit(bytes: &mut [u8; CAPACITY], at: usize, number: u32) -> usize
+    requires { (number < 10) × (at + 1 ≤ 66) }
+    ensures text { take result bytes.new ≡ take at bytes.old ++ decimal number }
+    ensures end { result ≡ at + 1 }
+{
+    put_byte(bytes, at, b'0' + number as u8)
 }
 
 /// The digits of a number below 100, of which the first may be zero.

@@ -52,7 +52,7 @@ impl Ledger {
         ensures length { vec_len self.new.slots ≡ vec_len self.old.slots + 1 }
         ensures room { vec_capacity self.old.slots ≤ vec_capacity self.new.slots }
     {
-        self.slots.push(id_of(&given)).unwrap();
+        self.slots.push_reserved(id_of(&given));
         self.table = self.table.after(&Change::Adds(given));
     }
 
