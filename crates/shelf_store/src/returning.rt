@@ -78,7 +78,9 @@ pub fn return_item(
 }
 
 /// Raises the bound of a shelf to this width, where it is less, and the width that no more than one free item passes, where
-/// two may. One that has changed is put in anew, with a bound of its own.
+/// two may. One that has changed is put in anew, with a bound of its own. Always inlined: a call took more than what it does
+/// there.
+#[inline(always)]
 fn raise_unless_noted(
     by_height: &mut ShelvesByHeight,
     pending: &PendingShelves,
