@@ -3,7 +3,7 @@
 //!
 //! Definition: `SecondWidths`, by the numbers of shelf records. What they are kept for is `SecondWidths` of `shelf_store`.
 
-ghost use Rattle.std.specs.Prelude.{◌≡◌, ℕ, IfOk, set};
+ghost use Rattle.std.specs.Prelude.{◌≡◌, ◌≤◌, ℕ, IfOk, OnOk, length, min, set};
 ghost use Rattle.shelf_notes.specs.Private.SecondWidths.{second_at};
 
 use std::alloc::{AllocError, Global};
@@ -29,7 +29,8 @@ impl Model for SecondWidths {
 impl SecondWidths {
     /// Of so many shelves, of which nothing is known.
     pub fn with_room(alloc: Global, room: usize) -> Result<SecondWidths, AllocError>
-        ensures { IfOk result (λ seconds. (k : ℕ) → second_at seconds k ≡ 65535) }
+        ensures unknown { IfOk result (λ seconds. (k : ℕ) → second_at seconds k ≡ 65535) }
+        ensures room { IfOk result (λ seconds. room ≤ length seconds) }
     {
         let mut widths = Vec::new(alloc);
         widths.resize(room, UNKNOWN)?;
@@ -38,7 +39,8 @@ impl SecondWidths {
 
     /// Makes room for so many shelves in all.
     pub fn reserve(&mut self, room: usize) -> Result<(), AllocError>
-        ensures { (k : ℕ) → second_at self.new k ≡ second_at self.old k }
+        ensures kept { (k : ℕ) → second_at self.new k ≡ second_at self.old k }
+        ensures room { OnOk result (room ≤ length self.new) }
     {
         if self.widths.len() < room {
             self.widths.resize(room, UNKNOWN)?;
@@ -77,7 +79,8 @@ impl SecondWidths {
 
     /// Forgets all that was known. Room for so many shelves stays.
     pub fn restart(&mut self, count: usize)
-        ensures { (k : ℕ) → second_at self.new k ≡ 65535 }
+        ensures unknown { (k : ℕ) → second_at self.new k ≡ 65535 }
+        ensures room { length self.new ≡ min count (length self.old) }
     {
         self.widths.truncate(count);
         self.widths.fill(UNKNOWN);

@@ -131,12 +131,12 @@ returns-else-is_extended-clause-settled c =
 pub returns-then-needed-gt0-clause-seconds : goal.returns-then-needed-gt0-clause-seconds
 returns-then-needed-gt0-clause-seconds c _ =
     unknown-seconds c.args.grown.now c.grow_records.new.records c.restart.new.self
-    (subst (AreKept c.args.grown.now) (sym c.in_ok-grow_records.ensures.ok) c.requires.kept) c.restart.ensures
+    (subst (AreKept c.args.grown.now) (sym c.in_ok-grow_records.ensures.ok) c.requires.kept) c.restart.ensures.unknown
 
 pub returns-then-is_extended-clause-seconds : goal.returns-then-is_extended-clause-seconds
 returns-then-is_extended-clause-seconds c _ =
     unknown-seconds c.args.grown.now c.grow_records.new.records c.restart-then-is_extended.new.self
-    (subst (AreKept c.args.grown.now) (sym c.in_ok-grow_records.ensures.ok) c.requires.kept) c.restart-then-is_extended.ensures
+    (subst (AreKept c.args.grown.now) (sym c.in_ok-grow_records.ensures.ok) c.requires.kept) c.restart-then-is_extended.ensures.unknown
 
 pub returns-else-is_extended-clause-seconds : goal.returns-else-is_extended-clause-seconds
 returns-else-is_extended-clause-seconds c few =

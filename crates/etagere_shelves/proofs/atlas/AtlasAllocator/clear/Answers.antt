@@ -98,7 +98,7 @@ invariant_of-self c =
         c.self.invariant.room_to_note,
         c.settle_notes.ensures.room,
       );
-      seconds = unknown-seconds frame records c.restart.new.self kept c.restart.ensures;
+      seconds = unknown-seconds frame records c.restart.new.self kept c.restart.ensures.unknown;
       counted = sym (ap (λ (s : AtlasState). items_in_use s.shelves) (made c) ∙ items_in_use-empty_columns frame 0 frame.columns);
       space = sym (ap allocated_space (made c) ∙ space-fresh frame);
     }
