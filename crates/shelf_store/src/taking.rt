@@ -4,14 +4,14 @@
 //! the first change, so an `Err` changes nothing; this has to stay so. In the list by height no shelf is moved: that they
 //! have changed is noted.
 
-ghost use Rattle.std.specs.Prelude.{◌≡◌, ℕ, ◌+◌, ◌<◌, ◌≤◌, Some, IfOk, OnOk, OnErr, IfSome, false, length};
+ghost use Rattle.std.specs.Prelude.{◌≡◌, ℕ, ◌+◌, ◌<◌, ◌≤◌, Some, IfOk, OnOk, OnErr, IfSome, false, is_some, length};
 ghost use Rattle.etagere_base.specs.Frames.{longest_side};
 ghost use Rattle.etagere_links.specs.Links.{no_link};
 ghost use Rattle.shelf_notes.specs.Private.SecondWidths.{second_at};
 ghost use Rattle.shelf_records.specs.RecordUses.{rests_missing};
 ghost use Rattle.shelf_model.specs.Choice.{splits};
 ghost use Rattle.shelf_store.specs.Private.PlacementTaken as spec;
-ghost use Rattle.shelf_store.specs.Private.SecondWidths.{FollowsTaking, IsBoundLeft};
+ghost use Rattle.shelf_store.specs.Private.SecondWidths.{FollowsTaking, IsBoundLeft, is_only_free, leaves_bound};
 ghost use Rattle.etagere_base.specs.Lists.{times};
 ghost use Rattle.shelf_heights.specs.Private.ByHeight.{AreInOrder, numbers_by_height};
 ghost use Rattle.shelf_notes.specs.Private.Pending.{is_noted};
@@ -128,19 +128,30 @@ fn bound_left(
 ) -> Option<u16>
     requires item { found.now.item < length records.now.items }
     requires known { found.now.shelf < length pending.now.notes.standing }
-    ensures { IfSome result
+    ensures due { is_some result
+        ≡ leaves_bound records.now.items pending.now.notes seconds.now found.now }
+    ensures bound { IfSome result
         (IsBoundLeft records.now.items pending.now.notes seconds.now found.now) }
 {
-    let item = &records.items()[found.item];
-    if item.prev_unallocated.number().is_none() && item.next_unallocated.number().is_none() {
+    if is_only_free(records.items(), found.item) {
         return None;
     }
+    let item = &records.items()[found.item];
     let second = seconds.second(found.shelf);
     if item.width <= second || found.splits_shelf || pending.is_noted(found.shelf) {
         return None;
     }
     let rest = u32::from(item.width).saturating_sub(found.width);
     Some(second.max(rest as u16))
+}
+
+/// Whether an item is the only free one of its shelf.
+fn is_only_free(items: &[LinkedItem], number: usize) -> bool
+    requires { number < length items.now }
+    ensures { result ≡ is_only_free items.now number }
+{
+    let item = &items[number];
+    item.prev_unallocated.number().is_none() && item.next_unallocated.number().is_none()
 }
 
 /// Splits the shelf of a placement, where these are the numbers of the records of the rest and of its item.

@@ -1,6 +1,8 @@
 -- Of each shelf in use a width that no more than one of its free items passes, and how it changes: where the item that
 -- passes it is taken, it bounds what is left.
-use Rattle.std.specs.Prelude.{◌≡◌, ℕ, ◌-◌, ◌<◌, ◌≤◌, ◌&&◌, Bool, false, Option, IfSome, List, map, max, nat_lt, set, if◌then◌else◌}
+use Rattle.std.specs.Prelude.{◌≡◌, ℕ, ◌-◌, ◌<◌, ◌≤◌, ◌&&◌, Bool, false, not, Option, IfSome, is_none, is_some, List, map, max, nat_lt, set, if◌then◌else◌}
+use Rattle.etagere_links.specs.Edits.{link_at}
+use Rattle.shelf_records.specs.Records.{free_list}
 use Rattle.std.specs.Option.{option_map_or}
 use Rattle.std.specs.List.{AllByRecursion}
 use Rattle.etagere_base.specs.Lists.{total}
@@ -54,17 +56,32 @@ returned_seconds number records notes by_height seconds =
     let shelf = shelf_of records.items number in
     seconds_after (is_noted (returned_notes number records notes) shelf) shelf (freed_width records.items number) by_height seconds
 
--- the item of a placement alone passes the width of its shelf, which has not changed, and this is not below that width nor
--- below what is left of the item
+-- the item of a placement alone passes the width of its shelf, which has not changed, and this is the least that is not
+-- below that width nor below what is left of the item
 pub record IsBoundLeft (items : List LinkedItem) (notes : Notes) (seconds : List ℕ) (found : Placement) (bound : ℕ) : Type 0 where
   pub unnoted : is_noted notes found.shelf ≡ false
   pub whole : found.splits_shelf ≡ false
   pub wide : second_at seconds found.shelf < (item_at items found.item).width
   pub second : second_at seconds found.shelf ≤ bound
   pub rest : (item_at items found.item).width - found.width ≤ bound
+  pub least : bound ≡ max (second_at seconds found.shelf) ((item_at items found.item).width - found.width)
+
+-- whether an item is the only free one of its shelf
+abbrev pub is_only_free : List LinkedItem → ℕ → Bool
+is_only_free items number =
+    is_none (link_at free_list.previous items number)
+    && is_none (link_at free_list.next items number)
+
+-- whether there is such a bound, where another item of the shelf is free
+abbrev pub leaves_bound : List LinkedItem → Notes → List ℕ → Placement → Bool
+leaves_bound items notes seconds found =
+    not (is_only_free items found.item)
+    && (nat_lt (second_at seconds found.shelf) (item_at items found.item).width
+    && (not found.splits_shelf && not (is_noted notes found.shelf)))
 
 -- the list of shelves by height once a placement was taken: as it was, or with the bound that is left of its shelf
 pub record FollowsTaking (items : List LinkedItem) (notes : Notes) (seconds : List ℕ) (found : Placement) (old new : List BoundedShelf) : Type 0 where
   pub left : Option ℕ
+  pub due : is_some left ≡ leaves_bound items notes seconds found
   pub bounds : IfSome left (IsBoundLeft items notes seconds found)
   pub list : new ≡ option_map_or (λ (bound : ℕ). rebounded found.shelf bound old) left old
