@@ -42,7 +42,7 @@ use crate::plain::PlainAllocation;
 use crate::restored::restore_atlas;
 use etagere_base::{
     AllocId, Allocation, AllocatorOptions, DEFAULT_OPTIONS, Frame, LONGEST_SIDE, OptionsFault,
-    Rectangle, RestoreFault, Size, UnknownId, atlas_frame, grown_frame, options_fault, side,
+    Rectangle, RestoreFault, Size, UnknownId, asked, atlas_frame, grown_frame, options_fault, side,
 };
 use pictures::{GatheredText, Pictured, send_document, send_into};
 use shelf_heights::by_height::ShelvesByHeight;
@@ -235,13 +235,15 @@ impl AtlasAllocator {
     ///
     /// `Err` comes only where the item or shelf must be split, too few records are unused for that, and there was no
     /// memory. After an `Err` or none nothing has changed. Memory is taken only for records that are made: of items,
-    /// and of a shelf with its entry in the list by height, a note and a width. A split for which there are unused
-    /// records takes none, nor does a size that needs no split. Finds the first shelf that is tall enough where it did
+    /// and of a shelf with its entry in the list by height, a note and a width, for which there is then room for a quarter
+    /// more. A split for which there are unused records takes none, nor does a size that needs no split. Finds the first shelf that is tall enough where it did
     /// last time, or by binary search, and goes on by height; of each shelf that may have an item wide enough it
     /// searches the free list up to the first that is. Before that the list by height follows the shelves that were
     /// split or merged since the last search: each goes where it belongs by binary search, and an end of the list
     /// moves; many are sorted anew. In the first searches after a change, where there are no more than some dozen
-    /// shelves and 128 items, all shelves are gone through instead.
+    /// shelves and 128 items, all shelves are gone through instead. Of more than some dozen, those whose free items are all
+    /// narrower than what was asked for of late stay out of the list; what is as narrow has all shelves sorted anew, the
+    /// more rarely the more often it came.
     #[inline(always)]
     pub fn allocate(&mut self, size: Size) -> Result<Option<Allocation>, AllocError>
         ensures placed { IfOk result
@@ -309,12 +311,16 @@ impl AtlasAllocator {
             → IsLarge self.old.frame size (rectangle_in allocation.new.rectangle)) }
         ensures promises { KeepsPromises self.new }
     {
+        let Some(sides) = asked(&self.frame, size) else {
+            return Ok(false);
+        };
         let follows = settle_unless_few(
             &self.frame,
             &self.records,
             &mut self.by_height,
             &mut self.pending,
             self.items_in_use,
+            sides.along,
         );
         let found = placement_of(
             &self.frame,
@@ -322,7 +328,7 @@ impl AtlasAllocator {
             &mut self.by_height,
             follows,
             self.items_in_use,
-            size,
+            sides,
         );
         let Some(placement) = found else {
             return Ok(false);
@@ -407,6 +413,7 @@ impl AtlasAllocator {
         let shelf = recorded_shelf(&self.records, number);
         let area = recorded_area(&self.records, shelf, number);
         self.allocated_space -= area;
+        self.pending.unpark(shelf);
         self.items_in_use -= return_item(
             &mut self.records,
             &mut self.by_height,

@@ -433,8 +433,8 @@ pub fn put_in(
     by_height.keep_position(shelf, index);
 }
 
-/// Moves the shelf at this position to where it stands in the order by the records as they are now, in which its height
-/// may have changed, and gives it this bound.
+/// Puts a shelf in place of the one at this position, and moves it to where it stands in the order by the records as they
+/// are now. It may be the shelf that stood there, whose height or bound has changed. Its position is kept.
 pub fn settle(
     shelves: &[LinkedShelf],
     by_height: &mut ShelvesByHeight,
@@ -442,12 +442,13 @@ pub fn settle(
     index: usize,
 )
     requires index { index < length by_height.old.items }
-    requires shelf { (spec.bounded_at by_height.old.items index).shelf ≡ settled.shelf }
-    requires once { times settled.shelf (spec.numbers_by_height by_height.old.items) ≤ 1 }
-    requires order { AreInOrder shelves.now (spec.taken_out settled.shelf by_height.old.items) }
+    requires once { times (spec.bounded_at by_height.old.items index).shelf
+        (spec.numbers_by_height by_height.old.items) ≤ 1 }
+    requires order { AreInOrder shelves.now
+        (spec.taken_out (spec.bounded_at by_height.old.items index).shelf by_height.old.items) }
     requires within { settled.shelf < length shelves.now }
-    ensures by_height { by_height.new.items
-        ≡ spec.put_in shelves.now settled (spec.taken_out settled.shelf by_height.old.items) }
+    ensures by_height { by_height.new.items ≡ spec.put_in shelves.now settled
+        (spec.taken_out (spec.bounded_at by_height.old.items index).shelf by_height.old.items) }
     ensures capacity { by_height.new.capacity ≡ by_height.old.capacity }
 {
     by_height.set(index, settled);
@@ -455,6 +456,8 @@ pub fn settle(
     let to = start_beside(shelves, by_height, shelf, index);
     if to != index {
         move_to(by_height, shelf, index, to);
+    } else {
+        by_height.keep_position(shelf, index);
     }
 }
 

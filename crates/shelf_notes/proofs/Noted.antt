@@ -1,11 +1,11 @@
 -- What is known of shelves, and the numbers of those that have changed, as one entry is written over another.
 use Rattle.std.proofs.Common.{◌≡◌, ◌≢◌, ℕ, zero, suc, ◌+◌, ◌<◌, ◌≤◌, Bool, true, false, List, [], ◌∷◌, ◌++◌, get_or, length, replicate, set, refl, ap, arith, sym, ◌∙◌}
 use Rattle.std.proofs.lemmas.List.{get_or-set_same, get_or-set_other, length-append}
-use Rattle.std.specs.Prelude.{◌==◌}
+use Rattle.std.specs.Prelude.{◌==◌, ◌&&◌, not}
 use Rattle.etagere_base.proofs.Totals.{total-append}
 use Rattle.etagere_base.proofs.TimesLemmas.{times-append, times-here}
 use Rattle.etagere_base.specs.Lists.{times}
-use Rattle.shelf_notes.specs.Private.Pending.{AreCounted, RoomyNotes, noted_count, notes_in, once_where, standing_at, unknown}
+use Rattle.shelf_notes.specs.Private.Pending.{AreCounted, RoomyNotes, noted_count, notes_in, once_where, standing_at, unknown, waits}
 use Rattle.shelf_notes.specs.declared.pending.PendingShelves.TheInside.{Inside}
 use Rattle.shelf_notes.specs.declared.pending.Standing.{Standing}
 
@@ -23,7 +23,7 @@ standing-past (x ∷ xs) zero past = absurd (omega (arith, past))
 standing-past (x ∷ xs) (suc k) past = standing-past xs k (omega (arith, past))
 
 -- a shelf of which something is so has an entry
-pub known-within : (standing : List Standing) (k : ℕ) → (standing_at standing k).noted ≡ true → k < length standing
+pub known-within : (standing : List Standing) (k : ℕ) → (waits (standing_at standing k)) ≡ true → k < length standing
 known-within [] k so = absurd (cc)
 known-within (x ∷ xs) zero so = omega arith
 known-within (x ∷ xs) (suc k) so = omega (arith, known-within xs k so)
@@ -32,6 +32,32 @@ pub in_use-within : (standing : List Standing) (k : ℕ) → (standing_at standi
 in_use-within [] k so = absurd (cc)
 in_use-within (x ∷ xs) zero so = omega arith
 in_use-within (x ∷ xs) (suc k) so = omega (arith, in_use-within xs k so)
+
+-- what has not changed doesn't wait, nor does what is parked
+pub unnoted-waits : (noted parked : Bool) → noted ≡ false → (noted && not parked) ≡ false
+unnoted-waits true parked none = absurd (cc)
+unnoted-waits false parked none = refl
+
+pub parked-waits : (noted parked : Bool) → parked ≡ true → (noted && not parked) ≡ false
+parked-waits true true so = refl
+parked-waits false true so = refl
+parked-waits noted false so = absurd (cc)
+
+-- what has changed and isn't parked waits, and what waits has changed and isn't parked
+pub waits-noted : (noted parked : Bool) → (noted && not parked) ≡ true → (noted ≡ true) × (parked ≡ false)
+waits-noted true true so = absurd (cc)
+waits-noted true false so = (refl, refl)
+waits-noted false parked so = absurd (cc)
+
+pub waits-so : (noted parked : Bool) → noted ≡ true → parked ≡ false → (noted && not parked) ≡ true
+waits-so true true so none = absurd (cc)
+waits-so true false so none = refl
+waits-so false parked so none = absurd (cc)
+
+pub unparked-waits : (noted parked : Bool) → (noted && not parked) ≡ false → parked ≡ false → noted ≡ false
+unparked-waits true true none unparked = absurd (cc)
+unparked-waits true false none unparked = absurd (cc)
+unparked-waits false parked none unparked = refl
 
 pub once-le : (so : Bool) → once_where so ≤ 1
 once-le true = omega arith
@@ -46,89 +72,89 @@ once-false true none = absurd (omega (arith, none))
 once-false false none = refl
 
 -- how many have changed once an entry was written over another
-count-set : (n : ℕ) (xs : List Standing) (one : Standing) → n < length xs → noted_count (set xs n one) + once_where (standing_at xs n).noted ≡ noted_count xs + once_where one.noted
+count-set : (n : ℕ) (xs : List Standing) (one : Standing) → n < length xs → noted_count (set xs n one) + once_where (waits (standing_at xs n)) ≡ noted_count xs + once_where (waits one)
 count-set n [] one below = absurd (omega (arith, below))
 count-set zero (x ∷ xs) one below = omega arith
 count-set (suc n) (x ∷ xs) one below = omega (arith, count-set n xs one (omega (arith, below)))
 
 count-le : (xs : List Standing) → noted_count xs ≤ length xs
 count-le [] = omega arith
-count-le (x ∷ xs) = omega (arith, count-le xs, once-le x.noted)
+count-le (x ∷ xs) = omega (arith, count-le xs, once-le (waits x))
 
-count-lt : (n : ℕ) (xs : List Standing) → n < length xs → (standing_at xs n).noted ≡ false → noted_count xs < length xs
+count-lt : (n : ℕ) (xs : List Standing) → n < length xs → (waits (standing_at xs n)) ≡ false → noted_count xs < length xs
 count-lt n [] below none = absurd (omega (arith, below))
 count-lt zero (x ∷ xs) below none =
-    let here : once_where x.noted ≡ 0 = rw none refl in
+    let here : once_where (waits x) ≡ 0 = rw none refl in
     omega (arith, here, count-le xs)
-count-lt (suc n) (x ∷ xs) below none = omega (arith, count-lt n xs (omega (arith, below)) none, once-le x.noted)
+count-lt (suc n) (x ∷ xs) below none = omega (arith, count-lt n xs (omega (arith, below)) none, once-le (waits x))
 
 -- so there is room for the number of one that has not changed
-pub room-left : (standing : List Standing) (noted : List ℕ) (shelf : ℕ) → AreCounted standing noted → shelf < length standing → (standing_at standing shelf).noted ≡ false → length noted < length standing
+pub room-left : (standing : List Standing) (noted : List ℕ) (shelf : ℕ) → AreCounted standing noted → shelf < length standing → (waits (standing_at standing shelf)) ≡ false → length noted < length standing
 room-left standing noted shelf counts below none = omega (arith, counts.counted, count-lt shelf standing below none)
 
 -- a number that stands among those that have changed is that of a shelf with an entry
 pub noted-within : (standing : List Standing) (noted : List ℕ) (shelf : ℕ) → AreCounted standing noted → 1 ≤ times shelf noted → shelf < length standing
 noted-within standing noted shelf counts stands =
-    known-within standing shelf (once-true (standing_at standing shelf).noted (omega (arith, stands, counts.tied shelf)))
+    known-within standing shelf (once-true (waits (standing_at standing shelf)) (omega (arith, stands, counts.tied shelf)))
 
 -- an entry that says as much of a change was written over another
-pub counted-kept : (standing : List Standing) (noted : List ℕ) (shelf : ℕ) (one : Standing) → AreCounted standing noted → shelf < length standing → one.noted ≡ (standing_at standing shelf).noted → AreCounted (set standing shelf one) noted
+pub counted-kept : (standing : List Standing) (noted : List ℕ) (shelf : ℕ) (one : Standing) → AreCounted standing noted → shelf < length standing → waits one ≡ (waits (standing_at standing shelf)) → AreCounted (set standing shelf one) noted
 counted-kept standing noted shelf one counts below same =
     record {
       tied = λ k. counts.tied k ∙ sym (ap once_where (at_number k (k == shelf) refl));
       counted = omega (arith, counts.counted, count-set shelf standing one below, ap once_where same);
     }
   where
-    at_number : (k : ℕ) (b : Bool) → (k == shelf) ≡ b → (standing_at (set standing shelf one) k).noted ≡ (standing_at standing k).noted
+    at_number : (k : ℕ) (b : Bool) → (k == shelf) ≡ b → (waits (standing_at (set standing shelf one) k)) ≡ (waits (standing_at standing k))
     at_number k true e =
         let own : k ≡ shelf = grind arith in
-        rw own (ap (λ (s : Standing). s.noted) (standing-own standing shelf one below) ∙ same)
+        rw own (ap waits (standing-own standing shelf one below) ∙ same)
     at_number k false e =
         let other : k ≢ shelf = grind arith in
-        ap (λ (s : Standing). s.noted) (standing-other standing shelf k one other)
+        ap waits (standing-other standing shelf k one other)
 
 -- a shelf that had not changed was noted
-pub counted-noted : (standing : List Standing) (noted : List ℕ) (shelf : ℕ) (one : Standing) → AreCounted standing noted → shelf < length standing → (standing_at standing shelf).noted ≡ false → one.noted ≡ true → AreCounted (set standing shelf one) (noted ++ shelf ∷ [])
+pub counted-noted : (standing : List Standing) (noted : List ℕ) (shelf : ℕ) (one : Standing) → AreCounted standing noted → shelf < length standing → (waits (standing_at standing shelf)) ≡ false → waits one ≡ true → AreCounted (set standing shelf one) (noted ++ shelf ∷ [])
 counted-noted standing noted shelf one counts below none some =
     record {
       tied = λ k. at_number k (k == shelf) refl;
       counted = omega (arith, counts.counted, count-set shelf standing one below, ap once_where none, ap once_where some, length-append noted (shelf ∷ []));
     }
   where
-    at_number : (k : ℕ) (b : Bool) → (k == shelf) ≡ b → times k (noted ++ shelf ∷ []) ≡ once_where (standing_at (set standing shelf one) k).noted
+    at_number : (k : ℕ) (b : Bool) → (k == shelf) ≡ b → times k (noted ++ shelf ∷ []) ≡ once_where (waits (standing_at (set standing shelf one) k))
     at_number k true e =
         let own : k ≡ shelf = grind arith in
-        let flag : once_where (standing_at (set standing shelf one) k).noted ≡ 1 = rw own (ap (λ (s : Standing). once_where s.noted) (standing-own standing shelf one below) ∙ ap once_where some) in
+        let flag : once_where (waits (standing_at (set standing shelf one) k)) ≡ 1 = rw own (ap (λ (s : Standing). once_where (waits s)) (standing-own standing shelf one below) ∙ ap once_where some) in
         let here : times k (shelf ∷ []) ≡ 1 = grind arith in
-        let before : once_where (standing_at standing k).noted ≡ 0 = rw own (ap once_where none) in
+        let before : once_where (waits (standing_at standing k)) ≡ 0 = rw own (ap once_where none) in
         omega (arith, times-append k noted (shelf ∷ []), counts.tied k, flag, here, before)
     at_number k false e =
         let other : k ≢ shelf = grind arith in
         let here : times k (shelf ∷ []) ≡ 0 = grind arith in
-        omega (arith, times-append k noted (shelf ∷ []), counts.tied k, here, ap (λ (s : Standing). once_where s.noted) (standing-other standing shelf k one other))
+        omega (arith, times-append k noted (shelf ∷ []), counts.tied k, here, ap (λ (s : Standing). once_where (waits s)) (standing-other standing shelf k one other))
 
 -- the one that changed last is noted no more
-pub counted-forgotten : (standing : List Standing) (noted rest : List ℕ) (shelf : ℕ) (one : Standing) → AreCounted standing noted → noted ≡ rest ++ shelf ∷ [] → one.noted ≡ false → AreCounted (set standing shelf one) rest
+pub counted-forgotten : (standing : List Standing) (noted rest : List ℕ) (shelf : ℕ) (one : Standing) → AreCounted standing noted → noted ≡ rest ++ shelf ∷ [] → waits one ≡ false → AreCounted (set standing shelf one) rest
 counted-forgotten standing noted rest shelf one counts whole none =
     let stands : 1 ≤ times shelf noted = rw whole (omega (arith, times-append shelf rest (shelf ∷ []), times-here shelf [])) in
     let below : shelf < length standing = noted-within standing noted shelf counts stands in
-    let flag : once_where (standing_at standing shelf).noted ≡ 1 = omega (arith, once-le (standing_at standing shelf).noted, counts.tied shelf, stands) in
+    let flag : once_where (waits (standing_at standing shelf)) ≡ 1 = omega (arith, once-le (waits (standing_at standing shelf)), counts.tied shelf, stands) in
     record {
       tied = λ k. at_number k (k == shelf) refl below flag;
       counted = omega (arith, counts.counted, count-set shelf standing one below, flag, ap once_where none, length-append rest (shelf ∷ []), ap length whole);
     }
   where
-    at_number : (k : ℕ) (b : Bool) → (k == shelf) ≡ b → shelf < length standing → once_where (standing_at standing shelf).noted ≡ 1 → times k rest ≡ once_where (standing_at (set standing shelf one) k).noted
+    at_number : (k : ℕ) (b : Bool) → (k == shelf) ≡ b → shelf < length standing → once_where (waits (standing_at standing shelf)) ≡ 1 → times k rest ≡ once_where (waits (standing_at (set standing shelf one) k))
     at_number k true e below flag =
         let own : k ≡ shelf = grind arith in
-        let after : once_where (standing_at (set standing shelf one) k).noted ≡ 0 = rw own (ap (λ (s : Standing). once_where s.noted) (standing-own standing shelf one below) ∙ ap once_where none) in
+        let after : once_where (waits (standing_at (set standing shelf one) k)) ≡ 0 = rw own (ap (λ (s : Standing). once_where (waits s)) (standing-own standing shelf one below) ∙ ap once_where none) in
         let here : times k (shelf ∷ []) ≡ 1 = grind arith in
-        let before : once_where (standing_at standing k).noted ≡ 1 = rw own flag in
+        let before : once_where (waits (standing_at standing k)) ≡ 1 = rw own flag in
         omega (arith, times-append k rest (shelf ∷ []), ap (times k) whole, counts.tied k, after, here, before)
     at_number k false e below flag =
         let other : k ≢ shelf = grind arith in
         let here : times k (shelf ∷ []) ≡ 0 = grind arith in
-        omega (arith, times-append k rest (shelf ∷ []), ap (times k) whole, counts.tied k, here, ap (λ (s : Standing). once_where s.noted) (standing-other standing shelf k one other))
+        omega (arith, times-append k rest (shelf ∷ []), ap (times k) whole, counts.tied k, here, ap (λ (s : Standing). once_where (waits s)) (standing-other standing shelf k one other))
 
 -- what was read of a shelf with an entry
 pub read-standing : (standing : List Standing) (shelf : ℕ) (one : Standing) → shelf < length standing → one ≡ get_or standing shelf one → standing_at standing shelf ≡ one
@@ -141,9 +167,9 @@ pub entry-in : (inside : Inside) (value : RoomyNotes) (shelf : ℕ) → notes_in
 entry-in inside value shelf same below = omega (arith, below, ap (λ (v : RoomyNotes). length v.notes.standing) same)
 
 -- a number that was read of those that have changed
-pub number-noted : (standing : List Standing) (noted : List ℕ) (index number : ℕ) → AreCounted standing noted → index < length noted → number ≡ get_or noted index number → (standing_at standing number).noted ≡ true
+pub number-noted : (standing : List Standing) (noted : List ℕ) (index number : ℕ) → AreCounted standing noted → index < length noted → number ≡ get_or noted index number → (waits (standing_at standing number)) ≡ true
 number-noted standing noted index number counts below read =
-    once-true (standing_at standing number).noted (omega (arith, counts.tied number, read-stands noted index number below read))
+    once-true (waits (standing_at standing number)) (omega (arith, counts.tied number, read-stands noted index number below read))
   where
     read-stands : (ns : List ℕ) (index number : ℕ) → index < length ns → number ≡ get_or ns index number → 1 ≤ times number ns
     read-stands [] index number below read = absurd (omega (arith, below))
@@ -165,8 +191,8 @@ standing-added (x ∷ xs) (suc k) = standing-added xs k
 pub counted-added : (standing : List Standing) (noted : List ℕ) → AreCounted standing noted → AreCounted (standing ++ unknown ∷ []) noted
 counted-added standing noted counts =
     record {
-      tied = λ k. counts.tied k ∙ sym (ap (λ (s : Standing). once_where s.noted) (standing-added standing k));
-      counted = omega (arith, counts.counted, total-append (λ (one : Standing). once_where one.noted) standing (unknown ∷ []));
+      tied = λ k. counts.tied k ∙ sym (ap (λ (s : Standing). once_where (waits s)) (standing-added standing k));
+      counted = omega (arith, counts.counted, total-append (λ (one : Standing). once_where (waits one)) standing (unknown ∷ []));
     }
 
 -- entries of shelves of which the same is known
@@ -176,12 +202,12 @@ standing-replicated (suc count) zero one below = refl
 standing-replicated (suc count) (suc k) one below = standing-replicated count k one (omega (arith, below))
 
 -- none of which has changed where that one hasn't
-pub replicated-unchanged : (count k : ℕ) (one : Standing) → one.noted ≡ false → (standing_at (replicate count one) k).noted ≡ false
+pub replicated-unchanged : (count k : ℕ) (one : Standing) → waits one ≡ false → (waits (standing_at (replicate count one) k)) ≡ false
 replicated-unchanged zero k one none = refl
 replicated-unchanged (suc count) zero one none = none
 replicated-unchanged (suc count) (suc k) one none = replicated-unchanged count k one none
 
-pub counted-unchanged : (count : ℕ) (one : Standing) → one.noted ≡ false → AreCounted (replicate count one) []
+pub counted-unchanged : (count : ℕ) (one : Standing) → waits one ≡ false → AreCounted (replicate count one) []
 counted-unchanged count one unchanged =
     record {
       tied = λ k. sym (ap once_where (replicated-unchanged count k one unchanged));

@@ -3,7 +3,7 @@ use Rattle.std.proofs.Common.{◌≡◌, ◌≢◌, ℕ, ◌<◌, ◌≤◌, Boo
 use Rattle.std.proofs.lemmas.List.{length-append, length-set}
 use Rattle.std.specs.Prelude.{◌==◌}
 use Rattle.shelf_records.specs.declared.records.LinkedShelf.{LinkedShelf}
-use Rattle.shelf_notes.specs.Private.Pending.{Notes, forgotten, is_in_use, is_listed, is_noted, listed_as, noted_as, standing_at, unlisted, with_entry}
+use Rattle.shelf_notes.specs.Private.Pending.{Notes, forgotten, is_in_use, is_listed, is_noted, is_parked, listed_as, noted_as, parked_as, standing_at, unlisted, with_entry}
 use Rattle.shelf_notes.specs.declared.pending.Standing.{Standing}
 use Rattle.shelf_notes.proofs.Noted.{standing-added, standing-other, standing-own}
 
@@ -19,13 +19,13 @@ field-kept field standing shelf one k known same = by_number (k == shelf) refl
 -- it was noted that a shelf has changed
 module _ (notes : Notes) (shelf : ℕ) (in_use : Bool) (known : shelf < length notes.standing) where
   pub noted-known : length (noted_as shelf in_use notes).standing ≡ length notes.standing
-  noted-known = length-set notes.standing shelf (record (standing_at notes.standing shelf) { in_use = in_use; noted = true })
+  noted-known = length-set notes.standing shelf (record (standing_at notes.standing shelf) { in_use = in_use; noted = true; parked = false })
 
-  noted-own : standing_at (noted_as shelf in_use notes).standing shelf ≡ record (standing_at notes.standing shelf) { in_use = in_use; noted = true }
-  noted-own = standing-own notes.standing shelf (record (standing_at notes.standing shelf) { in_use = in_use; noted = true }) known
+  noted-own : standing_at (noted_as shelf in_use notes).standing shelf ≡ record (standing_at notes.standing shelf) { in_use = in_use; noted = true; parked = false }
+  noted-own = standing-own notes.standing shelf (record (standing_at notes.standing shelf) { in_use = in_use; noted = true; parked = false }) known
 
   pub noted-other : (k : ℕ) → k ≢ shelf → standing_at (noted_as shelf in_use notes).standing k ≡ standing_at notes.standing k
-  noted-other k other = standing-other notes.standing shelf k (record (standing_at notes.standing shelf) { in_use = in_use; noted = true }) other
+  noted-other k other = standing-other notes.standing shelf k (record (standing_at notes.standing shelf) { in_use = in_use; noted = true; parked = false }) other
 
   pub noted-so : is_noted (noted_as shelf in_use notes) shelf ≡ true
   noted-so = ap (λ (s : Standing). s.noted) noted-own
@@ -35,7 +35,7 @@ module _ (notes : Notes) (shelf : ℕ) (in_use : Bool) (known : shelf < length n
 
   -- the list has the shelves that it had
   pub noted-listed : (k : ℕ) → is_listed (noted_as shelf in_use notes) k ≡ is_listed notes k
-  noted-listed k = field-kept (λ (s : Standing). s.listed) notes.standing shelf (record (standing_at notes.standing shelf) { in_use = in_use; noted = true }) k known refl
+  noted-listed k = field-kept (λ (s : Standing). s.listed) notes.standing shelf (record (standing_at notes.standing shelf) { in_use = in_use; noted = true; parked = false }) k known refl
 
   -- one that has not changed is another one
   pub unnoted-differs : (k : ℕ) → is_noted (noted_as shelf in_use notes) k ≡ false → k ≢ shelf
@@ -43,6 +43,16 @@ module _ (notes : Notes) (shelf : ℕ) (in_use : Bool) (known : shelf < length n
 
   pub unnoted-before : (k : ℕ) → is_noted (noted_as shelf in_use notes) k ≡ false → is_noted notes k ≡ false
   unnoted-before k none = sym (ap (λ (s : Standing). s.noted) (noted-other k (unnoted-differs k none))) ∙ none
+
+  -- nor is it parked, and a parked one was parked before
+  pub parked-no : is_parked (noted_as shelf in_use notes) shelf ≡ false
+  parked-no = ap (λ (s : Standing). s.parked) noted-own
+
+  pub parked-differs : (k : ℕ) → is_parked (noted_as shelf in_use notes) k ≡ true → k ≢ shelf
+  parked-differs k so own = let none : is_parked (noted_as shelf in_use notes) k ≡ false = rw own parked-no in absurd (cc)
+
+  pub parked-before : (k : ℕ) → is_parked (noted_as shelf in_use notes) k ≡ true → is_parked notes k ≡ true
+  parked-before k so = sym (ap (λ (s : Standing). s.parked) (noted-other k (parked-differs k so))) ∙ so
 
 -- an entry was added, if there was none
 module _ (notes : Notes) (shelf : ℕ) (any : LinkedShelf) (next : shelf ≤ length notes.standing) where
@@ -53,18 +63,25 @@ module _ (notes : Notes) (shelf : ℕ) (any : LinkedShelf) (next : shelf ≤ len
       by_test true e = rw e (standing-added notes.standing k)
       by_test false e = rw e refl
 
+  pub entry-below : (with_entry shelf any notes).parked_below ≡ notes.parked_below
+  entry-below = by_test (shelf == length notes.standing) refl
+    where
+      by_test : (b : Bool) → (shelf == length notes.standing) ≡ b → (with_entry shelf any notes).parked_below ≡ notes.parked_below
+      by_test true e = rw e refl
+      by_test false e = rw e refl
+
   pub entry-known : shelf < length (with_entry shelf any notes).standing
   entry-known = by_test (shelf == length notes.standing) refl
     where
       by_test : (b : Bool) → (shelf == length notes.standing) ≡ b → shelf < length (with_entry shelf any notes).standing
-      by_test true e = rw e (omega (arith, next, length-append notes.standing (record { listed = false; in_use = false; noted = false } ∷ [])))
+      by_test true e = rw e (omega (arith, next, length-append notes.standing (record { listed = false; in_use = false; noted = false; parked = false } ∷ [])))
       by_test false e = let other : shelf ≢ length notes.standing = grind arith in rw e (omega (arith, next, other))
 
   pub entry-longer : length notes.standing ≤ length (with_entry shelf any notes).standing
   entry-longer = by_test (shelf == length notes.standing) refl
     where
       by_test : (b : Bool) → (shelf == length notes.standing) ≡ b → length notes.standing ≤ length (with_entry shelf any notes).standing
-      by_test true e = rw e (omega (arith, length-append notes.standing (record { listed = false; in_use = false; noted = false } ∷ [])))
+      by_test true e = rw e (omega (arith, length-append notes.standing (record { listed = false; in_use = false; noted = false; parked = false } ∷ [])))
       by_test false e = rw e (omega arith)
 
 -- the list lost a shelf
@@ -87,6 +104,9 @@ module _ (notes : Notes) (shelf : ℕ) (known : shelf < length notes.standing) w
   pub unlisted-noted : (k : ℕ) → is_noted (unlisted shelf notes) k ≡ is_noted notes k
   unlisted-noted k = field-kept (λ (s : Standing). s.noted) notes.standing shelf (record (standing_at notes.standing shelf) { listed = false }) k known refl
 
+  pub unlisted-parked : (k : ℕ) → is_parked (unlisted shelf notes) k ≡ is_parked notes k
+  unlisted-parked k = field-kept (λ (s : Standing). s.parked) notes.standing shelf (record (standing_at notes.standing shelf) { listed = false }) k known refl
+
 -- the list followed a shelf
 module _ (notes : Notes) (shelf : ℕ) (one : LinkedShelf) (known : shelf < length notes.standing) where
   listed-own : standing_at (listed_as shelf one notes).standing shelf ≡ record (standing_at notes.standing shelf) { listed = true }
@@ -107,6 +127,9 @@ module _ (notes : Notes) (shelf : ℕ) (one : LinkedShelf) (known : shelf < leng
   pub listed-noted : (k : ℕ) → is_noted (listed_as shelf one notes) k ≡ is_noted notes k
   listed-noted k = field-kept (λ (s : Standing). s.noted) notes.standing shelf (record (standing_at notes.standing shelf) { listed = true }) k known refl
 
+  pub listed-parked : (k : ℕ) → is_parked (listed_as shelf one notes) k ≡ is_parked notes k
+  listed-parked k = field-kept (λ (s : Standing). s.parked) notes.standing shelf (record (standing_at notes.standing shelf) { listed = true }) k known refl
+
 -- a shelf is noted no more
 module _ (notes : Notes) (shelf : ℕ) (left : List ℕ) (known : shelf < length notes.standing) where
   forgotten-own : standing_at (forgotten shelf left notes).standing shelf ≡ record (standing_at notes.standing shelf) { noted = false }
@@ -123,3 +146,22 @@ module _ (notes : Notes) (shelf : ℕ) (left : List ℕ) (known : shelf < length
 
   pub forgotten-listed : (k : ℕ) → is_listed (forgotten shelf left notes) k ≡ is_listed notes k
   forgotten-listed k = field-kept (λ (s : Standing). s.listed) notes.standing shelf (record (standing_at notes.standing shelf) { noted = false }) k known refl
+
+  pub forgotten-parked : (k : ℕ) → is_parked (forgotten shelf left notes) k ≡ is_parked notes k
+  forgotten-parked k = field-kept (λ (s : Standing). s.parked) notes.standing shelf (record (standing_at notes.standing shelf) { noted = false }) k known refl
+
+  -- or is parked
+  pub parked-known : length (parked_as shelf left notes).standing ≡ length notes.standing
+  parked-known = length-set notes.standing shelf (record (standing_at notes.standing shelf) { parked = true })
+
+  pub parked-other : (k : ℕ) → k ≢ shelf → standing_at (parked_as shelf left notes).standing k ≡ standing_at notes.standing k
+  parked-other k other = standing-other notes.standing shelf k (record (standing_at notes.standing shelf) { parked = true }) other
+
+  pub parked-in_use : (k : ℕ) → is_in_use (parked_as shelf left notes) k ≡ is_in_use notes k
+  parked-in_use k = field-kept (λ (s : Standing). s.in_use) notes.standing shelf (record (standing_at notes.standing shelf) { parked = true }) k known refl
+
+  pub parked-listed : (k : ℕ) → is_listed (parked_as shelf left notes) k ≡ is_listed notes k
+  parked-listed k = field-kept (λ (s : Standing). s.listed) notes.standing shelf (record (standing_at notes.standing shelf) { parked = true }) k known refl
+
+  pub parked-noted : (k : ℕ) → is_noted (parked_as shelf left notes) k ≡ is_noted notes k
+  parked-noted k = field-kept (λ (s : Standing). s.noted) notes.standing shelf (record (standing_at notes.standing shelf) { parked = true }) k known refl

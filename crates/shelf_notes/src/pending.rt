@@ -2,11 +2,14 @@
 //! noted, and before the list is searched next it follows what was noted.
 //!
 //! Definitions: `Pending`. A note takes no memory: there is room for the number of each shelf.
+//!
+//! A shelf whose free items are all narrower than what was asked for of late is parked in place of being listed: it stays
+//! noted, and no search goes through it until it has changed or something as narrow is asked for.
 
-ghost use Rattle.std.specs.Prelude.{◌≡◌, ℕ, ◌+◌, ◌<◌, ◌≤◌, ◌++◌, ◌∷◌, [], IfOk, IfSome, OnOk, false, true, get_or, length, replicate, vec_capacity, if◌then◌else◌};
+ghost use Rattle.std.specs.Prelude.{◌≡◌, ℕ, ◌+◌, ◌<◌, ◌≤◌, ◌++◌, ◌∷◌, [], IfOk, IfSome, OnOk, false, true, get_or, length, max, replicate, vec_capacity, if◌then◌else◌};
 ghost use Rattle.etagere_links.specs.Links.{no_link};
 ghost use Rattle.shelf_notes.specs.Private.Pending as spec;
-ghost use Rattle.shelf_notes.specs.Private.Pending.{AreTied, is_noted};
+ghost use Rattle.shelf_notes.specs.Private.Pending.{AreTied, is_noted, is_parked, waits};
 
 use shelf_records::LinkedShelf;
 use std::alloc::{AllocError, Global};
@@ -14,6 +17,19 @@ use std::marker::Model;
 
 /// No more searches than this are counted.
 pub const MOST_SEARCHES: u32 = 8;
+
+/// Where fewer shelves are listed, none is parked.
+const LISTED_TO_PARK: usize = 64;
+
+/// Shelves are parked below a width that is this part less than the narrowest that was asked for: one a little narrower may
+/// follow.
+const MARGIN: u16 = 32;
+
+/// There are no more shelves than this.
+const MOST_SHELVES: usize = 65535;
+
+/// More often than this the time of watching isn't doubled.
+const MOST_PATIENCE: u32 = 6;
 
 /// What is known of a shelf beside the list by height.
 #[derive(Clone, Copy)]
@@ -24,6 +40,17 @@ pub struct Standing {
     pub in_use: bool,
     /// Whether it has changed since the list followed it.
     pub noted: bool,
+    /// Whether the list need not follow it, though it has changed.
+    pub parked: bool,
+}
+
+impl Standing {
+    /// Whether the list is to follow it.
+    fn waits(self) -> bool
+        ensures { result ≡ waits self }
+    {
+        self.noted && !self.parked
+    }
 }
 
 /// What is known of a shelf of which nothing is.
@@ -31,6 +58,7 @@ pub const UNKNOWN: Standing = Standing {
     listed: false,
     in_use: false,
     noted: false,
+    parked: false,
 };
 
 /// What is known of a shelf in use that the list has as it is.
@@ -38,6 +66,7 @@ pub const IN_USE: Standing = Standing {
     listed: true,
     in_use: true,
     noted: false,
+    parked: false,
 };
 
 /// What is known of the shelves beside the list by height, by the numbers of their records.
@@ -46,11 +75,35 @@ pub struct PendingShelves {
     /// The records as they were when the list followed them.
     kept: Vec<LinkedShelf>,
     standing: Vec<Standing>,
-    /// The numbers of those that have changed since, each once.
+    /// The numbers of those that have changed since and aren't parked, each once.
     noted: Vec<u16>,
+    /// No free item of a parked shelf is as wide.
+    parked_below: u16,
+    /// Whether some were parked since all were listed.
+    has_parked: bool,
     /// How many searches were counted since something was noted, up to `MOST_SEARCHES`. Nothing rests on it.
     searches: u32,
+    /// What was asked for of late. Nothing rests on it.
+    watch: Watch,
 }
+
+/// What was asked for since it is watched.
+#[derive(Clone, Copy)]
+struct Watch {
+    /// The width of the narrowest.
+    narrowest: u16,
+    /// For how many more searches it is watched.
+    left: u32,
+    /// How often the time of watching was doubled.
+    patience: u32,
+}
+
+/// Nothing was watched.
+const UNWATCHED: Watch = Watch {
+    narrowest: 0,
+    left: 0,
+    patience: 0,
+};
 
 impl Model for PendingShelves {
     ghost use Rattle.shelf_notes.specs.Private.Pending.{AreRoomy, RoomyNotes, notes_in};
@@ -74,7 +127,10 @@ impl PendingShelves {
             kept,
             standing,
             noted,
+            parked_below: 0,
+            has_parked: false,
             searches: 0,
+            watch: UNWATCHED,
         })
     }
 
@@ -90,6 +146,14 @@ impl PendingShelves {
         self.noted.reserve(room.saturating_sub(self.noted.len()))
     }
 
+    /// For how many shelves there is room.
+    pub fn room(&self) -> usize
+        ensures { result ≡ self.now.room }
+    {
+        let room = self.kept.capacity().min(self.standing.capacity());
+        room.min(self.noted.capacity())
+    }
+
     /// Equal notes that share nothing with these, with room for so many shelves.
     pub fn copied(&self, room: usize) -> Result<PendingShelves, AllocError>
         ensures notes { IfOk result (λ pending. pending.notes ≡ self.now.notes) }
@@ -101,7 +165,10 @@ impl PendingShelves {
             kept: self.kept.clone()?,
             standing: self.standing.clone()?,
             noted,
+            parked_below: self.parked_below,
+            has_parked: self.has_parked,
             searches: self.searches,
+            watch: self.watch,
         };
         pending.reserve(room)?;
         Ok(pending)
@@ -114,7 +181,7 @@ impl PendingShelves {
         &self.kept
     }
 
-    /// How many shelves have changed since.
+    /// How many shelves the list is to follow.
     pub fn len(&self) -> usize
         ensures len { result ≡ length self.now.notes.noted }
         ensures tied { AreTied self.now.notes }
@@ -137,6 +204,7 @@ impl PendingShelves {
         requires { index < length self.now.notes.noted }
         ensures value { result ≡ get_or self.now.notes.noted index 0 }
         ensures noted { is_noted self.now.notes result ≡ true }
+        ensures unparked { is_parked self.now.notes result ≡ false }
         ensures within { result < length self.now.notes.standing }
     {
         usize::from(self.noted[index])
@@ -175,10 +243,44 @@ impl PendingShelves {
         ensures room { self.new.room ≡ self.old.room }
     {
         let known = &mut self.standing[shelf];
-        push_unless(&mut self.noted, known.noted, shelf);
+        push_unless(&mut self.noted, known.waits(), shelf);
         known.in_use = in_use;
         known.noted = true;
+        known.parked = false;
         self.searches = 0;
+    }
+
+    /// Notes a shelf in use where that is so.
+    pub fn note_where(&mut self, so: bool, shelf: usize)
+        requires { so ≡ true → shelf < length self.old.notes.standing }
+        ensures notes { self.new.notes
+            ≡ (if so then spec.noted_as shelf true self.old.notes else self.old.notes) }
+        ensures room { self.new.room ≡ self.old.room }
+    {
+        if so {
+            self.note(shelf, true);
+        }
+    }
+
+    /// Notes that a shelf has changed if it is parked, so that the list follows it again. It is in use.
+    pub fn unpark(&mut self, shelf: usize)
+        requires { shelf < length self.old.notes.standing }
+        ensures notes { self.new.notes ≡ spec.unparked shelf self.old.notes }
+        ensures room { self.new.room ≡ self.old.room }
+    {
+        if self.standing[shelf].parked {
+            self.note_parked(shelf);
+        }
+    }
+
+    /// Notes that a parked shelf has changed. Never inlined, so that one that isn't parked costs no call.
+    #[inline(never)]
+    fn note_parked(&mut self, shelf: usize)
+        requires { shelf < length self.old.notes.standing }
+        ensures notes { self.new.notes ≡ spec.noted_as shelf true self.old.notes }
+        ensures room { self.new.room ≡ self.old.room }
+    {
+        self.note(shelf, true);
     }
 
     /// Makes an entry for the shelf of this number, where there is none. Until the list follows the shelf, any record
@@ -232,6 +334,76 @@ impl PendingShelves {
         Some(shelf)
     }
 
+    /// Parks the shelf that changed last, in place of its being followed, and gives its number.
+    pub fn park_last(&mut self) -> Option<usize>
+        ensures none { result ≡ None → self.old.notes.noted ≡ [] }
+        ensures same { result ≡ None → self.new.notes ≡ self.old.notes }
+        ensures within { IfSome result (λ shelf. shelf < length self.old.notes.standing) }
+        ensures last { IfSome result (λ shelf. self.old.notes.noted ≡ self.new.notes.noted ++ shelf ∷ []) }
+        ensures notes { IfSome result
+            (λ shelf. self.new.notes ≡ spec.parked_as shelf self.new.notes.noted self.old.notes) }
+        ensures tied { AreTied self.new.notes }
+        ensures room { self.new.room ≡ self.old.room }
+    {
+        let shelf = usize::from(self.noted.pop()?);
+        self.standing[shelf].parked = true;
+        self.has_parked = true;
+        Some(shelf)
+    }
+
+    /// No free item of a parked shelf is as wide. It is 0 where none is parked.
+    pub fn parked_below(&self) -> u32
+        ensures value { result ≡ self.now.notes.parked_below }
+        ensures small { result ≤ 65535 }
+    {
+        u32::from(self.parked_below)
+    }
+
+    /// Whether some were parked since all were listed.
+    pub fn has_parked(&self) -> bool
+        ensures { result ≡ self.now.notes.has_parked }
+    {
+        self.has_parked
+    }
+
+    /// Watches that something so wide is asked for, where so many shelves are listed. Once a time of watching is over,
+    /// shelves are parked whose free items are narrower than all that was asked for in it, unless that was narrower than
+    /// the least width for which it is worth while.
+    pub fn watch(&mut self, width: u32, listed: usize, least: u32)
+        requires { width ≤ 65535 }
+        ensures notes { self.new.notes
+            ≡ record self.old.notes { parked_below = self.new.notes.parked_below } }
+        ensures more { self.old.notes.parked_below ≤ self.new.notes.parked_below }
+        ensures width { self.new.notes.parked_below ≤ max self.old.notes.parked_below width }
+        ensures room { self.new.room ≡ self.old.room }
+    {
+        if listed < LISTED_TO_PARK {
+            return;
+        }
+        self.watch.narrowest = self.watch.narrowest.min(width as u16);
+        if self.watch.left > 0 {
+            self.watch.left -= 1;
+            return;
+        }
+        let below = self.watch.narrowest - self.watch.narrowest / MARGIN;
+        if u32::from(below) >= least {
+            self.parked_below = self.parked_below.max(below);
+        }
+        self.watch.narrowest = u16::MAX;
+        self.watch.left = time_of_watching(listed, self.watch.patience);
+    }
+
+    /// Watches twice as long from now on, since something was asked for for which a parked shelf may have room.
+    pub fn watch_longer(&mut self)
+        ensures notes { self.new.notes ≡ self.old.notes }
+        ensures room { self.new.room ≡ self.old.room }
+    {
+        self.watch = Watch {
+            patience: self.watch.patience.min(MOST_PATIENCE - 1) + 1,
+            ..UNWATCHED
+        };
+    }
+
     /// Forgets all that was known, and keeps these records, of each of which the same is known now. There is room for them.
     pub fn restart(&mut self, shelves: &[LinkedShelf], known: Standing)
         requires room { length shelves.now ≤ self.old.room }
@@ -242,9 +414,13 @@ impl PendingShelves {
               kept = shelves.now;
               standing = replicate (length shelves.now) known;
               noted = [];
+              parked_below = 0;
+              has_parked = false;
             } }
         ensures room { self.new.room ≡ self.old.room }
     {
+        self.parked_below = 0;
+        self.has_parked = false;
         self.noted.clear();
         copy_all(&mut self.kept, shelves);
         know_all(&mut self.standing, shelves.len(), known);
@@ -259,6 +435,12 @@ impl PendingShelves {
     {
         self.standing[shelf] = IN_USE;
     }
+}
+
+/// In how many searches is watched what is asked for, where so many shelves are listed: as many, so that to list all
+/// shelves anew takes little beside them.
+fn time_of_watching(listed: usize, patience: u32) -> u32 {
+    (listed.min(MOST_SHELVES) as u32) << patience.min(MOST_PATIENCE)
 }
 
 /// Adds a number at the end, for which there is room, unless it is there.

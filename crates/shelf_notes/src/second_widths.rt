@@ -3,8 +3,8 @@
 //!
 //! Definition: `SecondWidths`, by the numbers of shelf records. What they are kept for is `SecondWidths` of `shelf_store`.
 
-ghost use Rattle.std.specs.Prelude.{◌≡◌, ◌≤◌, ℕ, IfOk, OnOk, length, min, set};
-ghost use Rattle.shelf_notes.specs.Private.SecondWidths.{second_at};
+ghost use Rattle.std.specs.Prelude.{◌≡◌, ◌≤◌, ℕ, IfOk, OnOk, length, max, min, set};
+ghost use Rattle.shelf_notes.specs.Private.SecondWidths.{second_at, second_freed};
 
 use std::alloc::{AllocError, Global};
 use std::marker::Model;
@@ -68,12 +68,27 @@ impl SecondWidths {
         }
     }
 
-    /// Keeps another such width of a shelf, if there is room for it.
-    pub fn keep(&mut self, shelf: usize, width: u16)
-        ensures { self.new ≡ set self.old shelf width }
+    /// Raises the width of a shelf to this one, where it is less, so that an item as wide that became free doesn't pass it.
+    pub fn raise(&mut self, shelf: usize, width: u16)
+        ensures { self.new ≡ set self.old shelf (max (second_at self.old shelf) width) }
     {
         if shelf < self.widths.len() {
-            self.widths[shelf] = width;
+            let second = &mut self.widths[shelf];
+            *second = (*second).max(width);
+        }
+    }
+
+    /// Keeps another width of a shelf of which this was the bound, where an item as wide as this became free.
+    pub fn follow_return(&mut self, shelf: usize, width: u16, bound: u16)
+        ensures { self.new ≡ set self.old shelf (second_freed bound width (second_at self.old shelf)) }
+    {
+        if shelf < self.widths.len() {
+            let second = &mut self.widths[shelf];
+            *second = if bound < width {
+                bound
+            } else {
+                (*second).max(width)
+            };
         }
     }
 

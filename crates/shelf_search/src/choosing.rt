@@ -5,17 +5,20 @@
 //! that: from there on only empty shelves are good fits, and their bounds tell them. Where there is none either, the
 //! shelf in the first place is taken. Where the list by height doesn't follow the records, all shelves are gone through
 //! (`by_place`). A free list is gone through only where the bound on its items is wide enough,
-//! and the bound is lowered to the widest of them where none fits. Nothing here changes the records.
+//! and the bound is lowered to the widest of them where none fits. Shelves without a free item as wide as what is asked may
+//! be missing from the list by height, and none is put in or taken out. Nothing here changes the records.
 
 ghost use Rattle.std.specs.Prelude.{◌≡◌, false, true, ◌+◌, ◌*◌, ◌/◌, ◌≤◌, ◌<◌, ◌^◌, None, Some, IfSome, drop, is_some, length, map, nat_lt, set};
+ghost use Rattle.etagere_base.specs.Frames as frames;
 ghost use Rattle.etagere_base.specs.Frames.{IsFrame, longest_side};
+ghost use Rattle.etagere_base.specs.declared.geometry.Size.{Size};
 ghost use Rattle.etagere_base.specs.Lists.{times};
 ghost use Rattle.shelf_records.specs.RecordLists.{IsLinked, shelf_walk, walked_lists};
 ghost use Rattle.shelf_records.specs.AtlasRecords.{height_of};
 ghost use Rattle.shelf_model.specs.Choice as choice;
 ghost use Rattle.shelf_model.specs.Choice.{bad_fit_rank};
 ghost use Rattle.shelf_model.specs.Fresh.{fresh};
-ghost use Rattle.shelf_heights.specs.Private.ByHeight.{AreInOrder, AreByHeight, bounded_at, numbers_by_height};
+ghost use Rattle.shelf_heights.specs.Private.ByHeight.{AreInOrder, AreByHeightFor, bounded_at, numbers_by_height};
 ghost use Rattle.shelf_records.specs.Private.Kept.{AreKept, Finds, state_of};
 ghost use Rattle.shelf_search.specs.Private.Opening as opening;
 ghost use Rattle.shelf_search.specs.Private.Opening.{AreInChain, AreSearchable, AreTall, AreWhole, IsBehind, IsEarliest, IsSearchable, earlier_position, looked_into};
@@ -69,29 +72,34 @@ pub(crate) enum Searched {
     Widest(u16),
 }
 
-/// The place of a size, where it has one and there are records enough for its splits; shelf and item by
-/// the numbers of their records. Where the list by height doesn't follow the records, it is left alone, and all shelves
-/// are gone through.
+/// The place of what asks for these sides, where it has one and there are records enough for its splits; shelf and item by
+/// the numbers of their records. Shelves without a free item as wide may be missing from the list by height, whose shelves
+/// stay as they are; only bounds fall. Where the list doesn't follow the records, it is left alone, and all shelves are gone
+/// through.
 pub fn placement_of(
     frame: &Frame,
     records: &Records,
     by_height: &mut ShelvesByHeight,
     follows: bool,
     items_in_use: u32,
-    size: Size,
+    sides: Sides,
 ) -> Option<Placement>
     requires kept { AreKept frame.now records.now }
-    requires by_height { follows ≡ true → AreByHeight frame.now records.now by_height.old.items }
+    requires by_height { follows ≡ true → AreByHeightFor frame.now records.now sides.along by_height.old.items }
+    requires short { (sides.along ≤ longest_side) × (sides.across ≤ longest_side) }
+    requires wide { 1 ≤ sides.along }
     requires counted { items_in_use
         ≡ state.items_in_use (state_of frame.now records.now).shelves }
-    ensures none { result ≡ None
+    ensures none { result ≡ None → (size : Size) → frames.asked frame.now size ≡ Some sides
         → choice.placement_of (state_of frame.now records.now) size ≡ None }
-    ensures some { IfSome result (Finds frame.now records.now size) }
-    ensures by_height { follows ≡ true → AreByHeight frame.now records.now by_height.new.items }
+    ensures some { IfSome result
+        (λ placement. (size : Size) → frames.asked frame.now size ≡ Some sides
+        → Finds frame.now records.now size placement) }
+    ensures by_height { follows ≡ true → AreByHeightFor frame.now records.now sides.along by_height.new.items }
+    ensures numbers { numbers_by_height by_height.new.items ≡ numbers_by_height by_height.old.items }
     ensures same { follows ≡ false → by_height.new.items ≡ by_height.old.items }
     ensures capacity { by_height.old.capacity ≤ by_height.new.capacity }
 {
-    let sides = asked(frame, size)?;
     let placement = chosen(frame, records, by_height, follows, sides)?;
     if items_in_use + placement.splits() <= MOST_ITEMS {
         Some(placement)
@@ -126,11 +134,12 @@ fn chosen(
     sides: Sides,
 ) -> Option<Placement>
     requires kept { AreKept frame.now records.now }
-    requires by_height { follows ≡ true → AreByHeight frame.now records.now by_height.old.items }
+    requires by_height { follows ≡ true → AreByHeightFor frame.now records.now sides.along by_height.old.items }
     requires short { (sides.along ≤ longest_side) × (sides.across ≤ longest_side) }
     requires wide { 1 ≤ sides.along }
     ensures value { result ≡ searching.chosen_at frame.now records.now sides }
-    ensures by_height { follows ≡ true → AreByHeight frame.now records.now by_height.new.items }
+    ensures by_height { follows ≡ true → AreByHeightFor frame.now records.now sides.along by_height.new.items }
+    ensures numbers { numbers_by_height by_height.new.items ≡ numbers_by_height by_height.old.items }
     ensures same { follows ≡ false → by_height.new.items ≡ by_height.old.items }
     ensures capacity { by_height.old.capacity ≤ by_height.new.capacity }
 {
@@ -149,11 +158,12 @@ fn lowest_ranked(
     height: u32,
 ) -> Option<Candidate>
     requires kept { AreKept frame.now records.now }
-    requires by_height { follows ≡ true → AreByHeight frame.now records.now by_height.old.items }
+    requires by_height { follows ≡ true → AreByHeightFor frame.now records.now width by_height.old.items }
     requires wide { 1 ≤ width }
     requires short { height ≤ longest_side }
     ensures value { result ≡ searching.best_candidate records.now width height }
-    ensures by_height { follows ≡ true → AreByHeight frame.now records.now by_height.new.items }
+    ensures by_height { follows ≡ true → AreByHeightFor frame.now records.now width by_height.new.items }
+    ensures numbers { numbers_by_height by_height.new.items ≡ numbers_by_height by_height.old.items }
     ensures same { follows ≡ false → by_height.new.items ≡ by_height.old.items }
     ensures capacity { by_height.old.capacity ≤ by_height.new.capacity }
 {

@@ -10,6 +10,8 @@ pub mod MetShelves
 pub mod NewByHeight
 pub mod NumberedShelves
 pub mod OnlyFree
+pub mod ParkedShelves
+pub mod ReplacedShelves
 pub mod RoomByHeight
 pub mod SecondWidths
 pub mod SettledShelves

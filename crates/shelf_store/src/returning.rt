@@ -37,7 +37,8 @@ struct Merged {
 }
 
 /// Frees the item of this number, which is allocated in this shelf, merges what is free with its neighbours, and
-/// answers how many item records became unused. The bound of its shelf rises, unless that is noted by then.
+/// answers how many item records became unused. The bound of its shelf rises, unless that is noted by then. Where the item
+/// stands alone then, the second width of its shelf stays as it was: of one free item any is right.
 pub fn return_item(
     records: &mut Records,
     by_height: &mut ShelvesByHeight,
@@ -69,19 +70,40 @@ pub fn return_item(
     if is_alone(items, merged.item) {
         records.set_empty_present(shelf, true);
         let made_unused = merge_shelves(records, pending, shelf);
-        raise_unless_noted(by_height, pending, seconds, shelf, width);
+        raise_unless_noted(by_height, pending, shelf, width);
         merged.made_unused + made_unused
     } else {
-        raise_unless_noted(by_height, pending, seconds, shelf, width);
+        raise_both(by_height, pending, seconds, shelf, width);
         merged.made_unused
     }
 }
 
-/// Raises the bound of a shelf to this width, where it is less, and the width that no more than one free item passes, where
-/// two may. One that has changed is put in anew, with a bound of its own. Always inlined: a call took more than what it does
-/// there.
+/// Raises the bound of a shelf to this width, where it is less. One that has changed is put in anew, with a bound of its
+/// own. Always inlined: a call took more than what it does there.
 #[inline(always)]
 fn raise_unless_noted(
+    by_height: &mut ShelvesByHeight,
+    pending: &PendingShelves,
+    shelf: usize,
+    width: u16,
+)
+    requires known { shelf < length pending.now.notes.standing }
+    requires order { AreInOrder pending.now.notes.kept by_height.old.items }
+    requires stands { is_noted pending.now.notes shelf ≡ false
+        → 1 ≤ times shelf (numbers_by_height by_height.old.items) }
+    ensures by_height { by_height.new.items
+        ≡ noting.raised_unless (is_noted pending.now.notes shelf) shelf width by_height.old.items }
+    ensures capacity { by_height.old.capacity ≤ by_height.new.capacity }
+{
+    if !pending.is_noted(shelf) {
+        raise(pending.kept(), by_height, shelf, width);
+    }
+}
+
+/// Raises the bound of a shelf so, and then follows with the width that no more than one of its free items passes. Always
+/// inlined too, and in this order, so that little is kept while the bound is raised.
+#[inline(always)]
+fn raise_both(
     by_height: &mut ShelvesByHeight,
     pending: &PendingShelves,
     seconds: &mut SecondWidths,
@@ -98,13 +120,12 @@ fn raise_unless_noted(
         ≡ seconds_after (is_noted pending.now.notes shelf) shelf width by_height.old.items seconds.old }
     ensures capacity { by_height.old.capacity ≤ by_height.new.capacity }
 {
-    let second = seconds.second(shelf).max(width);
     if pending.is_noted(shelf) {
-        seconds.keep(shelf, second);
+        seconds.raise(shelf, width);
         return;
     }
     let bound = raise(pending.kept(), by_height, shelf, width);
-    seconds.keep(shelf, if bound < width { bound } else { second });
+    seconds.follow_return(shelf, width, bound);
 }
 
 /// Whether an item stands alone in its shelf.

@@ -60,7 +60,7 @@ pub fn fresh_by_height(alloc: Global, frame: &Frame) -> Result<ShelvesByHeight, 
 pub fn reset_by_height(frame: &Frame, by_height: &mut ShelvesByHeight)
     requires frame { IsFrame longest_side frame.now }
     requires columns { HasAllColumns frame.now }
-    requires many { frame.now.columns ≤ length by_height.old.items }
+    requires room { frame.now.columns ≤ by_height.old.capacity }
     ensures by_height { AreByHeight frame.now (spec.fresh_records frame.now) by_height.new.items }
     ensures capacity { by_height.old.capacity ≤ by_height.new.capacity }
 {

@@ -10,6 +10,8 @@ ghost use Rattle.etagere_links.specs.Links.{no_link};
 ghost use Rattle.shelf_notes.specs.Private.SecondWidths.{second_at};
 ghost use Rattle.shelf_records.specs.RecordUses.{rests_missing};
 ghost use Rattle.shelf_model.specs.Choice.{splits};
+ghost use Rattle.shelf_store.specs.Private.FoundNotes as notes;
+ghost use Rattle.shelf_store.specs.Private.FoundNotes.{found_notes};
 ghost use Rattle.shelf_store.specs.Private.PlacementTaken as spec;
 ghost use Rattle.shelf_store.specs.Private.SecondWidths.{FollowsTaking, IsBoundLeft, is_only_free, leaves_bound};
 ghost use Rattle.etagere_base.specs.Lists.{times};
@@ -28,7 +30,8 @@ use shelf_notes::second_widths::SecondWidths;
 use shelf_records::{LinkedItem, LinkedShelf, Records};
 use std::alloc::AllocError;
 
-/// Takes a placement as `take_placement` does, and lowers the bound of its shelf where its item alone was so wide.
+/// Takes a placement as `take_placement` does, and lowers the bound of its shelf where its item alone was so wide. Where what
+/// is left free in its shelf is narrow, that is noted, so that it is parked.
 pub fn take_found(
     records: &mut Records,
     by_height: &mut ShelvesByHeight,
@@ -53,7 +56,7 @@ pub fn take_found(
         by_height.new.items) }
     ensures by_height_err { OnErr result (by_height.new.items ≡ by_height.old.items) }
     ensures notes { OnOk result
-        (pending.new.notes ≡ taken_notes found.now records.old pending.old.notes) }
+        (pending.new.notes ≡ found_notes found.now records.old pending.old.notes) }
     ensures notes_err { OnErr result (pending.new.notes ≡ pending.old.notes) }
     ensures room { length records.new.shelves ≤ by_height.new.capacity }
     ensures room_to_note { length records.new.shelves ≤ pending.new.room }
@@ -63,10 +66,12 @@ pub fn take_found(
         (0 < rests_missing found.now.splits_shelf found.now.splits_item records.old) }
 {
     let left = bound_left(records, pending, seconds, found);
+    let narrow = leaves_narrow(records, pending, found);
     let id = take_placement(records, by_height, pending, seconds, found, column_width)?;
     if let Some(bound) = left {
         rebound(pending.kept(), by_height, found.shelf, bound);
     }
+    pending.note_where(narrow, found.shelf);
     Ok(id)
 }
 
@@ -143,6 +148,20 @@ fn bound_left(
     }
     let rest = u32::from(item.width).saturating_sub(found.width);
     Some(second.max(rest as u16))
+}
+
+/// Whether the shelf of a placement, which has not changed, has no free item left as wide as what is kept for parked ones, of
+/// which there are some.
+fn leaves_narrow(records: &Records, pending: &PendingShelves, found: &Placement) -> bool
+    requires item { found.now.item < length records.now.items }
+    requires known { found.now.shelf < length pending.now.notes.standing }
+    ensures { result ≡ notes.leaves_narrow records.now.items pending.now.notes found.now }
+{
+    if !pending.has_parked() || found.splits_shelf || pending.is_noted(found.shelf) {
+        return false;
+    }
+    let rest = u32::from(records.items()[found.item].width).saturating_sub(found.width);
+    is_only_free(records.items(), found.item) && rest < pending.parked_below()
 }
 
 /// Whether an item is the only free one of its shelf.

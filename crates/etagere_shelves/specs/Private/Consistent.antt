@@ -11,13 +11,12 @@ use Rattle.shelf_model.specs.State.{AtlasState, items_in_use}
 abbrev pub state_in : Inside → AtlasState
 state_in atlas = state_of atlas.frame atlas.records
 
--- what they keep: each rule of the records, the shelves in use by height but for those that have changed, of which there is one
--- for each column, room among these and for a note for each shelf record, of each shelf a width that no more than one of its
--- free items passes, the count of items and the space that is allocated
+-- what they keep: each rule of the records, the shelves in use by height but for those that have changed or are parked, room
+-- among these and for a note for each shelf record, of each shelf a width that no more than one of its free items passes, the
+-- count of items and the space that is allocated
 pub record IsConsistent (atlas : Inside) : Type 0 where
   pub kept : AreKept atlas.frame atlas.records
   pub by_height : AreByHeightExceptNoted atlas.frame atlas.records atlas.pending.notes atlas.by_height.items
-  pub columns : atlas.frame.columns ≤ length atlas.by_height.items
   pub room : length atlas.records.shelves ≤ atlas.by_height.capacity
   pub room_to_note : length atlas.records.shelves ≤ atlas.pending.room
   pub seconds : AreSeconds atlas.records atlas.seconds

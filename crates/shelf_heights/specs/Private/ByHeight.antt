@@ -1,6 +1,6 @@
 -- The shelves in use in the order in which a search looks at them, each with a bound on the widths of
 -- its free items.
-use Rattle.std.specs.Prelude.{◌≡◌, ℕ, ◌+◌, ◌*◌, ◌<◌, ◌≤◌, ◌^◌, true, Option, None, Some, List, [], ◌∷◌, filter, drop, get_or, length, map, not, nat_lt, take, ◌==◌, if◌then◌else◌}
+use Rattle.std.specs.Prelude.{◌≡◌, ℕ, ◌+◌, ◌-◌, ◌*◌, ◌<◌, ◌≤◌, ◌^◌, true, Option, None, Some, List, [], ◌∷◌, filter, drop, get_or, length, map, not, nat_lt, take, ◌==◌, if◌then◌else◌}
 use Rattle.std.specs.List.{AllByRecursion}
 use Rattle.etagere_base.specs.Lists.{times}
 use Rattle.shelf_records.specs.declared.records.LinkedShelf.{LinkedShelf}
@@ -66,6 +66,23 @@ pub record IsByHeight (atlas : AtlasRecords) (entries : List Entry) (by_height :
 abbrev pub AreByHeight : Frame → Records → List BoundedShelf → Type 0
 AreByHeight frame records by_height =
     IsByHeight (bare frame records) (walked_lists records).entries by_height
+
+-- the numbers of shelves in use, each once, in the order of heights and of the chain, each with a bound; of a shelf that is
+-- left out no free item is as wide as this
+pub record IsByHeightFor (atlas : AtlasRecords) (entries : List Entry) (width : ℕ) (by_height : List BoundedShelf)
+    : Type 0 where
+  pub once : (shelf : ℕ) → times shelf (numbers_by_height by_height) ≤ times shelf (shelf_numbers entries)
+  pub left_out : (shelf : ℕ) → 1 ≤ times shelf (shelf_numbers entries) → times shelf (numbers_by_height by_height) ≡ 0
+      → AllByRecursion
+      (λ (entry : Entry). entry.number ≡ shelf → IsBound (width - 1) (spelled_shelf atlas entry))
+      entries
+  pub rising : RiseFrom 0 (map (order_of atlas.records.shelves) (numbers_by_height by_height))
+  pub bounds : AreBounds atlas entries by_height
+
+-- the shelves of these records by height, but for some that have no room for what is so wide along
+abbrev pub AreByHeightFor : Frame → Records → ℕ → List BoundedShelf → Type 0
+AreByHeightFor frame records width by_height =
+    IsByHeightFor (bare frame records) (walked_lists records).entries width by_height
 
 -- the list without the shelf of this number
 abbrev pub taken_out : ℕ → List BoundedShelf → List BoundedShelf

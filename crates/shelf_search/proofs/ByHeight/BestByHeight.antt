@@ -1,5 +1,5 @@
 -- The search by height finds the candidate that the search along the chain of shelves finds.
-use Rattle.std.proofs.Common.{◌≡◌, ℕ, ◌+◌, ◌<◌, ◌≤◌, Bool, true, false, cond, Option, None, Some, List, [], ◌∷◌, map, refl, ap, arith, sym, ◌∙◌}
+use Rattle.std.proofs.Common.{◌≡◌, ℕ, ◌+◌, ◌-◌, ◌<◌, ◌≤◌, Bool, true, false, cond, Option, None, Some, List, [], ◌∷◌, map, refl, ap, arith, sym, ◌∙◌}
 use Rattle.std.proofs.lemmas.Bool.Decides.{nat_tests}
 use Rattle.std.specs.Option.{option_map_or}
 use Rattle.std.specs.Prelude.{nat_lt}
@@ -10,12 +10,14 @@ use Rattle.shelf_records.specs.RecordLists.{Records, shelf_walk}
 use Rattle.shelf_records.proofs.AllLists.LinkedWalks.{walked-numbers}
 use Rattle.shelf_model.specs.Choice.{bad_fit_rank}
 use Rattle.shelf_model.specs.Listing.{RiseFrom}
-use Rattle.shelf_heights.specs.Private.ByHeight.{AreByHeight, order_of, chain_order, numbers_by_height}
+use Rattle.shelf_heights.specs.Private.ByHeight.{AreByHeightFor, order_of, chain_order, numbers_by_height}
 use Rattle.shelf_records.specs.Private.Kept.{AreKept}
 use Rattle.shelf_search.specs.Private.Searching.{best_candidate, earlier, earliest, first_by_height, first_offer, good_offer, offered, rank_of}
 use Rattle.shelf_search.specs.declared.choosing.Candidate.{Candidate}
 use Rattle.shelf_heights.specs.declared.by_height.BoundedShelf.{BoundedShelf}
-use Rattle.shelf_search.proofs.ByHeight.LeastOffers.{IsLeast, IsOffer, IsOutcome, least-first, least-later, lowest-outcome, none-less, offer-is, outcome-same, weight}
+use Rattle.shelf_search.proofs.ByHeight.LeastOffers.{IsLeast, IsOffer, IsOutcome, least-first, least-later, lowest-outcome, none-less, offer-is, outcome-among, outcome-same, weight}
+use Rattle.shelf_search.proofs.ByHeight.SearchableShelves.{left_out-searchable}
+use Rattle.shelf_search.proofs.ByHeight.SearchedOnes.{offered-low}
 use Rattle.shelf_heights.proofs.ByHeight.OrdersRise.{LiesWithin, kept-within, orders-rise}
 use Rattle.shelf_heights.proofs.ByHeight.RisingNumbers.{of-each, rise-low}
 use Rattle.shelf_records.proofs.Recorded.Members.{Each-member}
@@ -143,15 +145,18 @@ each-of : (P : ℕ → Type 0) (xs ys : List ℕ) → ((k : ℕ) → 1 ≤ times
 each-of P xs [] less each = tt
 each-of P xs (y ∷ ys) less each = (Each-member P xs y each (less y (grind arith)), each-of P xs ys (λ k stands. less k (omega (arith, stands))) each)
 
--- the shelf of least rank is the one that the search by height finds
-pub best-by-height : (frame : Frame) (records : Records) (by_height : List BoundedShelf) (width height : ℕ) → AreKept frame records → AreByHeight frame records by_height
+-- the shelf of least rank is the one that the search by height finds, also where shelves are left out that have no item
+-- as wide
+pub best-by-height : (frame : Frame) (records : Records) (by_height : List BoundedShelf) (width height : ℕ) → 1 ≤ width → AreKept frame records → AreByHeightFor frame records width by_height
     → best_candidate records width height ≡ first_by_height records width height (numbers_by_height by_height)
-best-by-height frame records by_height width height kept are =
+best-by-height frame records by_height width height wide kept are =
     let chain : List ℕ = (shelf_walk records).met in
     let within : AllByRecursion (LiesWithin frame records.shelves) chain = kept-within frame records kept in
-    let same : (k : ℕ) → times k (numbers_by_height by_height) ≡ times k chain = λ k. are.once k ∙ ap (times k) (walked-numbers records chain) in
-    outcome-same frame records width height 0 chain (numbers_by_height by_height) (best_candidate records width height) (first_by_height records width height (numbers_by_height by_height)) within
-    (orders-rise frame records kept) same
+    let among : (k : ℕ) → times k (numbers_by_height by_height) ≤ times k chain = λ k. omega (arith, are.once k, ap (times k) (walked-numbers records chain)) in
+    outcome-same frame records width height 0 chain (best_candidate records width height) (first_by_height records width height (numbers_by_height by_height)) within
+    (orders-rise frame records kept)
     (lowest-outcome frame records width height 0 chain within (orders-rise frame records kept))
+    (outcome-among frame records width height chain (numbers_by_height by_height) (first_by_height records width height (numbers_by_height by_height)) among
+    (λ k stands out. offered-low records width height (record { widest = width - 1; shelf = k }) (left_out-searchable frame records kept width by_height k are stands out) (omega (arith, wide)))
     (by_height-outcome frame records width height 0 (numbers_by_height by_height)
-    (each-of (LiesWithin frame records.shelves) chain (numbers_by_height by_height) (λ k stands. omega (arith, stands, same k)) within) are.rising)
+    (each-of (LiesWithin frame records.shelves) chain (numbers_by_height by_height) (λ k stands. omega (arith, stands, among k)) within) are.rising))

@@ -1,5 +1,6 @@
--- What shelves offer, weighed by rank and then by the chain: the least of it is one in whichever order they stand.
-use Rattle.std.proofs.Common.{◌≡◌, ℕ, ◌+◌, ◌*◌, ◌<◌, ◌≤◌, Bool, true, false, cond, Option, None, Some, List, [], ◌∷◌, map, refl, ap, arith, sym, ◌∙◌}
+-- What shelves offer, weighed by rank and then by the chain: the least of it is one in whichever order
+-- they stand, and shelves that offer nothing can be left out.
+use Rattle.std.proofs.Common.{◌≡◌, ℕ, zero, suc, ◌+◌, ◌*◌, ◌<◌, ◌≤◌, Bool, true, false, cond, Option, None, Some, List, [], ◌∷◌, map, refl, ap, arith, sym, ◌∙◌}
 use Rattle.std.proofs.lemmas.Bool.Decides.{nat_tests}
 use Rattle.std.specs.Prelude.{◌/◌, ◌||◌, nat_le, nat_lt}
 use Rattle.std.specs.List.{AllByRecursion}
@@ -90,31 +91,45 @@ module _ (frame : Frame) (records : Records) (width height : ℕ) where
   pub none-less : (shelf : ℕ) (candidate : Candidate) → offered records width height shelf ≡ None → NoLess candidate shelf
   none-less shelf candidate none other offers = absurd (cc)
 
-  -- the outcome is one, in whichever order shelves stand whose orders rise in one
-  pub outcome-same : (from : ℕ) (shelves others : List ℕ) (o p : Option Candidate) → AllByRecursion (LiesWithin frame records.shelves) shelves
-      → RiseFrom from (map (chain_order records.shelves) shelves) → ((k : ℕ) → times k others ≡ times k shelves)
-      → IsOutcome shelves o → IsOutcome others p → o ≡ p
-  outcome-same from shelves others None None within rise same one other = refl
-  outcome-same from shelves others None (Some candidate) within rise same one other =
-      let none : offered records width height candidate.shelf ≡ None = one candidate.shelf (omega (arith, other.stands, same candidate.shelf)) in
-      absurd (none-some (sym none ∙ other.offer))
+  -- an outcome of some shelves is one of more, where each of the others offers nothing
+  pub outcome-among : (shelves some : List ℕ) (o : Option Candidate) → ((k : ℕ) → times k some ≤ times k shelves)
+      → ((k : ℕ) → 1 ≤ times k shelves → times k some ≡ 0 → offered records width height k ≡ None)
+      → IsOutcome some o → IsOutcome shelves o
+  outcome-among shelves some None among left_out outcome = λ k stands. by_count k stands (times k some) refl
+    where
+      by_count : (k : ℕ) → 1 ≤ times k shelves → (n : ℕ) → times k some ≡ n → offered records width height k ≡ None
+      by_count k stands zero is = left_out k stands is
+      by_count k stands (suc n) is = outcome k (omega (arith, is))
+  outcome-among shelves some (Some candidate) among left_out outcome =
+      record {
+        stands = omega (arith, outcome.stands, among candidate.shelf);
+        offer = outcome.offer;
+        least = λ k stands. by_count k stands (times k some) refl;
+      }
+    where
+      by_count : (k : ℕ) → 1 ≤ times k shelves → (n : ℕ) → times k some ≡ n → NoLess candidate k
+      by_count k stands zero is = none-less k candidate (left_out k stands is)
+      by_count k stands (suc n) is = outcome.least k (omega (arith, is))
+
+  -- the outcome is one, where the orders of the shelves rise in the chain
+  pub outcome-same : (from : ℕ) (shelves : List ℕ) (o p : Option Candidate) → AllByRecursion (LiesWithin frame records.shelves) shelves
+      → RiseFrom from (map (chain_order records.shelves) shelves) → IsOutcome shelves o → IsOutcome shelves p → o ≡ p
+  outcome-same from shelves None None within rise one other = refl
+  outcome-same from shelves None (Some candidate) within rise one other = absurd (none-some (sym (one candidate.shelf other.stands) ∙ other.offer))
     where
       none-some : None ≡ Some candidate → ⊥
       none-some is = cc
-  outcome-same from shelves others (Some candidate) None within rise same one other =
-      let none : offered records width height candidate.shelf ≡ None = other candidate.shelf (omega (arith, one.stands, same candidate.shelf)) in
-      absurd (none-some (sym none ∙ one.offer))
+  outcome-same from shelves (Some candidate) None within rise one other = absurd (none-some (sym (other candidate.shelf one.stands) ∙ one.offer))
     where
       none-some : None ≡ Some candidate → ⊥
       none-some is = cc
-  outcome-same from shelves others (Some candidate) (Some second) within rise same one other =
-      let stands : 1 ≤ times second.shelf shelves = omega (arith, other.stands, same second.shelf) in
+  outcome-same from shelves (Some candidate) (Some second) within rise one other =
       let here : IsOffer records.shelves candidate.shelf candidate = offer-is candidate.shelf candidate (Each-member (LiesWithin frame records.shelves) shelves candidate.shelf within one.stands) one.offer in
-      let there : IsOffer records.shelves second.shelf second = offer-is second.shelf second (Each-member (LiesWithin frame records.shelves) shelves second.shelf within stands) other.offer in
-      let less : weight records.shelves candidate ≤ weight records.shelves second = one.least second.shelf stands second other.offer in
-      let more : weight records.shelves second ≤ weight records.shelves candidate = other.least candidate.shelf (omega (arith, one.stands, same candidate.shelf)) candidate one.offer in
+      let there : IsOffer records.shelves second.shelf second = offer-is second.shelf second (Each-member (LiesWithin frame records.shelves) shelves second.shelf within other.stands) other.offer in
+      let less : weight records.shelves candidate ≤ weight records.shelves second = one.least second.shelf other.stands second other.offer in
+      let more : weight records.shelves second ≤ weight records.shelves candidate = other.least candidate.shelf one.stands candidate one.offer in
       let shelf : candidate.shelf ≡ second.shelf =
-      rise-same (chain_order records.shelves) from shelves rise candidate.shelf second.shelf one.stands stands
+      rise-same (chain_order records.shelves) from shelves rise candidate.shelf second.shelf one.stands other.stands
       (same-in_chain candidate.rank second.rank (chain_order records.shelves candidate.shelf) (chain_order records.shelves second.shelf) here.in_chain there.in_chain (omega (arith, less, more))) in
       sym one.offer ∙ ap (offered records width height) shelf ∙ other.offer
 

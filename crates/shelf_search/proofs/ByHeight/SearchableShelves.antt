@@ -1,5 +1,5 @@
 -- Shelves by height of kept records can be searched, and stay by height where a search lets their bounds fall.
-use Rattle.std.proofs.Common.{◌≡◌, ℕ, ◌+◌, ◌-◌, ◌<◌, ◌≤◌, true, false, List, [], ◌∷◌, ap, arith, map, refl, sym, ◌∙◌, subst}
+use Rattle.std.proofs.Common.{◌≡◌, ℕ, ◌+◌, ◌-◌, ◌<◌, ◌≤◌, true, false, List, [], ◌∷◌, ap, arith, length, map, refl, sym, ◌∙◌, subst}
 use Rattle.etagere_base.specs.declared.frames.Frame.{Frame}
 use Rattle.std.specs.List.{AllByRecursion}
 use Rattle.etagere_base.specs.Lists.{times}
@@ -8,7 +8,7 @@ use Rattle.shelf_records.specs.RecordLists.{Entry, Records, shelf_walk, walked_e
 use Rattle.shelf_records.proofs.AllLists.LinkedWalks.{walked-numbers}
 use Rattle.shelf_records.specs.AtlasRecords.{is_empty_at, item_at, spelled_shelf}
 use Rattle.shelf_model.specs.Listing.{RiseFrom}
-use Rattle.shelf_heights.specs.Private.ByHeight.{AreBounds, AreByHeight, IsBound, order_of, numbers_by_height}
+use Rattle.shelf_heights.specs.Private.ByHeight.{AreBounds, AreByHeightFor, AreInOrder, IsBound, order_of, numbers_by_height}
 use Rattle.shelf_records.specs.Private.Kept.{AreKept, atlas_of, bare}
 use Rattle.shelf_records.proofs.Spelled.Witnessed.{HasFlag}
 use Rattle.shelf_search.specs.Private.Opening.{AreSearchable, AreWhole, IsSearchable}
@@ -86,9 +86,9 @@ module _ (frame : Frame) (records : Records) (kept : AreKept frame records) wher
             (part-bound own (sym flag ∙ is) (Each-weaken (IsItem frame) (λ (item : Item). 1 ≤ item.width) own (λ item is. is.width) valid.items))));
       }
 
-  -- the shelves by height of kept records can be searched
-  pub by_height-searchable : (by_height : List BoundedShelf) → AreByHeight frame records by_height → AreSearchable records by_height
-  by_height-searchable by_height are =
+  -- the shelves by height of kept records can be searched, also where some are left out
+  pub by_height-searchable : (width : ℕ) (by_height : List BoundedShelf) → AreByHeightFor frame records width by_height → AreSearchable records by_height
+  by_height-searchable width by_height are =
       by_each by_height
       (Each-times (λ n. 1 ≤ times n in_use) (numbers_by_height by_height) (λ k stands. omega (arith, stands, are.once k, ap (times k) (walked-numbers records in_use)))) are.bounds
     where
@@ -96,11 +96,28 @@ module _ (frame : Frame) (records : Records) (kept : AreKept frame records) wher
       by_each [] stands bounds = tt
       by_each (one ∷ others) stands bounds = (one-searchable one stands.0 bounds.0, by_each others stands.1 bounds.1)
 
+  -- a shelf in use that is left out can be searched too, with the bound for which it is
+  pub left_out-searchable : (width : ℕ) (by_height : List BoundedShelf) (shelf : ℕ) → AreByHeightFor frame records width by_height → 1 ≤ times shelf in_use → times shelf (numbers_by_height by_height) ≡ 0
+      → IsSearchable records (record { widest = width - 1; shelf = shelf })
+  left_out-searchable width by_height shelf are stands out =
+      one-searchable (record { widest = width - 1; shelf = shelf }) stands
+      (are.left_out shelf (omega (arith, stands, ap (times shelf) (walked-numbers records in_use))) out)
+
+  -- the shelves by height of kept records are in order
+  pub by_height-ordered : (width : ℕ) (by_height : List BoundedShelf) → AreByHeightFor frame records width by_height → AreInOrder records.shelves by_height
+  by_height-ordered width by_height are = record { within = by_each by_height (by_height-searchable width by_height are); rising = are.rising }
+    where
+      by_each : (ones : List BoundedShelf) → AreSearchable records ones → AllByRecursion (λ shelf. shelf < length records.shelves) (numbers_by_height ones)
+      by_each [] searchable = tt
+      by_each (one ∷ others) searchable = (searchable.0.within, by_each others searchable.1)
+
   -- shelves of the same numbers that can be searched stand by height too
-  pub searchable-by_height : (old new : List BoundedShelf) → AreByHeight frame records old → numbers_by_height new ≡ numbers_by_height old → AreSearchable records new → AreByHeight frame records new
-  searchable-by_height old new are same searchable =
+  pub searchable-by_height : (width : ℕ) (old new : List BoundedShelf) → AreByHeightFor frame records width old → numbers_by_height new ≡ numbers_by_height old → AreSearchable records new
+      → AreByHeightFor frame records width new
+  searchable-by_height width old new are same searchable =
       record {
-        once = λ k. ap (times k) same ∙ are.once k;
+        once = λ k. omega (arith, are.once k, ap (times k) same);
+        left_out = λ k stands out. are.left_out k stands (ap (times k) (sym same) ∙ out);
         rising = subst (λ (ns : List ℕ). RiseFrom 0 (map (order_of records.shelves) ns)) (sym same) are.rising;
         bounds = Each-weaken (IsSearchable records)
             (λ (one : BoundedShelf). AllByRecursion (λ (entry : Entry). entry.number ≡ one.shelf → IsBound one.widest (spelled_shelf (bare frame records) entry)) (map (walked_entry records) in_use))

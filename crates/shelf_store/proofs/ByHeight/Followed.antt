@@ -6,14 +6,14 @@ use Rattle.std.specs.Prelude.{◌==◌, nat_lt}
 use Rattle.etagere_base.proofs.TimesLemmas.{hit}
 use Rattle.etagere_base.specs.Lists.{times}
 use Rattle.shelf_heights.specs.Private.ByHeight.{AreInOrder, bounded_at, numbers_by_height}
-use Rattle.shelf_notes.specs.Private.Pending.{Notes, is_in_use, is_listed, is_noted, once_where, put_to_use, standing_at}
+use Rattle.shelf_notes.specs.Private.Pending.{Notes, is_in_use, is_listed, is_noted, once_where, put_to_use, standing_at, is_parked, unknown}
 use Rattle.shelf_heights.specs.declared.by_height.BoundedShelf.{BoundedShelf}
 use Rattle.shelf_notes.specs.declared.pending.Standing.{Standing}
 use Rattle.etagere_links.proofs.Tallies.{length-once}
 use Rattle.shelf_records.specs.declared.records.LinkedShelf.{LinkedShelf}
 use Rattle.shelf_records.proofs.Recorded.Members.{Each-member}
 use Rattle.shelf_heights.proofs.ByHeight.Edited.{in_order-once}
-use Rattle.shelf_notes.proofs.Noted.{replicated-unchanged, standing-other, standing-own, standing-past, standing-replicated}
+use Rattle.shelf_notes.proofs.Noted.{standing-other, standing-own, standing-past, standing-replicated}
 use Rattle.shelf_store.specs.Private.Settling.{Follows}
 
 -- how often a number stands among one more of the first shelves
@@ -25,6 +25,7 @@ times-more k (suc n) (one ∷ others) below = omega (arith, times-more k n other
 -- what is known of the shelves so far
 pub record AreUsed (n : ℕ) (by_height : List BoundedShelf) (notes : Notes) : Type 0 where
   pub unchanged : (k : ℕ) → is_noted notes k ≡ false
+  pub unparked : (k : ℕ) → is_parked notes k ≡ false
   pub listed : (k : ℕ) → once_where (is_listed notes k) ≡ min 1 (times k (take n (numbers_by_height by_height)))
   pub in_use : (k : ℕ) → is_in_use notes k ≡ is_listed notes k
 
@@ -32,12 +33,13 @@ pub one-used : (n : ℕ) (by_height : List BoundedShelf) (notes : Notes) (shelf 
 one-used n by_height notes shelf below read within used =
     record {
       unchanged = λ k. not_noted k (k == shelf) refl;
+      unparked = λ k. not_parked k (k == shelf) refl;
       listed = λ k. is_there k (k == shelf) refl;
       in_use = λ k. is_both k (k == shelf) refl;
     }
   where
     one : Standing
-    one = record { listed = true; in_use = true; noted = false }
+    one = record { listed = true; in_use = true; noted = false; parked = false }
 
     upto : (k : ℕ) → times k (take (n + 1) (numbers_by_height by_height)) ≡ times k (take n (numbers_by_height by_height)) + hit (bounded_at by_height n).shelf k
     upto k = ap (λ (m : ℕ). times k (take m (numbers_by_height by_height))) (add-one n) ∙ times-more k n by_height below
@@ -51,6 +53,10 @@ one-used n by_height notes shelf below read within used =
     not_noted : (k : ℕ) (b : Bool) → (k == shelf) ≡ b → is_noted (put_to_use shelf notes) k ≡ false
     not_noted k true e = ap (λ (s : Standing). s.noted) (own k e)
     not_noted k false e = ap (λ (s : Standing). s.noted) (other k e) ∙ used.unchanged k
+
+    not_parked : (k : ℕ) (b : Bool) → (k == shelf) ≡ b → is_parked (put_to_use shelf notes) k ≡ false
+    not_parked k true e = ap (λ (s : Standing). s.parked) (own k e)
+    not_parked k false e = ap (λ (s : Standing). s.parked) (other k e) ∙ used.unparked k
 
     is_there : (k : ℕ) (b : Bool) → (k == shelf) ≡ b → once_where (is_listed (put_to_use shelf notes) k) ≡ min 1 (times k (take (n + 1) (numbers_by_height by_height)))
     is_there k true e =
@@ -90,23 +96,25 @@ all-stand n ns once within long k below = by_count (times k ns) refl
     by_count (suc c) some = omega (arith, some, once k)
 
 -- a list as long as the records that it follows has them all, each as it is
-pub follows-all : (shelves : List LinkedShelf) (by_height : List BoundedShelf) (notes : Notes) → AreInOrder shelves by_height → length by_height ≡ length shelves → notes ≡ record { kept = shelves; standing = replicate (length shelves) (record { listed = true; in_use = true; noted = false }); noted = [] } → Follows shelves by_height notes
+pub follows-all : (shelves : List LinkedShelf) (by_height : List BoundedShelf) (notes : Notes) → AreInOrder shelves by_height → length by_height ≡ length shelves → notes ≡ record { kept = shelves; standing = replicate (length shelves) (record { listed = true; in_use = true; noted = false; parked = false }); noted = []; parked_below = 0; has_parked = false } → Follows shelves by_height notes
 follows-all shelves by_height notes order long all =
     subst (Follows shelves by_height) (sym all)
     (record {
       kept = refl;
       known = length-replicate count one;
       noted = refl;
-      unchanged = λ k. replicated-unchanged count k one refl;
+      unchanged = λ k. not_noted k (nat_lt k count) refl;
       listed = λ k. is_listed_once k (nat_lt k count) refl;
       in_use = λ k. is_both k (nat_lt k count) refl;
+      unparked = λ k. not_parked k (nat_lt k count) refl;
+      parked_below = refl;
     })
   where
     count : ℕ
     count = length shelves
 
     one : Standing
-    one = record { listed = true; in_use = true; noted = false }
+    one = record { listed = true; in_use = true; noted = false; parked = false }
 
     numbers : List ℕ
     numbers = numbers_by_height by_height
@@ -132,3 +140,15 @@ follows-all shelves by_height notes order long all =
         let past : count ≤ k = grind arith in
         let gone = standing-past (replicate count one) k (omega (arith, past, length-replicate count one)) in
         ap (λ (s : Standing). s.in_use) gone ∙ sym (ap (λ (s : Standing). s.listed) gone)
+
+    of_each : (field : Standing → Bool) → field one ≡ false → field unknown ≡ false → (k : ℕ) (b : Bool) → nat_lt k count ≡ b → field (standing_at (replicate count one) k) ≡ false
+    of_each field here past k true e = let below : k < count = grind arith in ap field (standing-replicated count k one below) ∙ here
+    of_each field here past k false e =
+        let behind : count ≤ k = grind arith in
+        ap field (standing-past (replicate count one) k (omega (arith, behind, length-replicate count one))) ∙ past
+
+    not_noted : (k : ℕ) (b : Bool) → nat_lt k count ≡ b → (standing_at (replicate count one) k).noted ≡ false
+    not_noted = of_each (λ (s : Standing). s.noted) refl refl
+
+    not_parked : (k : ℕ) (b : Bool) → nat_lt k count ≡ b → (standing_at (replicate count one) k).parked ≡ false
+    not_parked = of_each (λ (s : Standing). s.parked) refl refl

@@ -13,7 +13,7 @@ use Rattle.shelf_records.specs.AtlasRecords.{AtlasRecords, across_of, along_of, 
 use Rattle.shelf_heights.specs.Private.ByHeight.{IsBound, chain_order}
 use Rattle.shelf_notes.specs.Private.SecondWidths.{second_at}
 use Rattle.shelf_store.specs.Private.Settling.{HoldsExceptNoted}
-use Rattle.shelf_notes.specs.Private.Pending.{Notes, is_noted}
+use Rattle.shelf_notes.specs.Private.Pending.{Notes, is_noted, is_parked}
 use Rattle.shelf_store.specs.Private.ItemReturned.{emptiness_said, item_merged, names_one_free}
 use Rattle.shelf_store.specs.Private.ReturnedNotes.{freed_width, raised_unless}
 use Rattle.shelf_store.specs.Private.SecondWidths.{AreSecondsOf, IsSecondOf, second_after, wider_count}
@@ -31,7 +31,7 @@ use Rattle.shelf_store.proofs.Spelled.SpelledLists.{with_records, IsSpelled}
 -- what an item that became free leaves by height, once its shelf says whether it is empty
 abbrev pub FreesByHeight : AtlasRecords → AtlasRecords → List Entry → List Entry → ℕ → ℕ → Type 0
 FreesByHeight atlas new entries edited shelf width =
-    (notes : Notes) (by_height : List BoundedShelf) → HoldsExceptNoted atlas entries notes by_height
+    (notes : Notes) (by_height : List BoundedShelf) → is_parked notes shelf ≡ false → HoldsExceptNoted atlas entries notes by_height
     → HoldsExceptNoted new edited notes (raised_unless (is_noted notes shelf) shelf width by_height)
 
 -- an item became free, and its shelf says whether it is empty
@@ -52,10 +52,10 @@ frees-by_height atlas around shelf number front back free valid spelled merges s
     let lengths : SameLengths atlas.records two = emptied-lengths shelf number atlas.records in
     let is : IsEntry atlas.records entry = Each-middle (IsEntry atlas.records) around.before entry around.after spelled.linked.entries in
     let others = map-parts (spelled_shelf new) (spelled_shelf middle) around.before edited (spelled_shelf middle edited) around.after (said ∙ map-append (spelled_shelf middle) around.before (edited ∷ around.after)) in
-    λ notes by_height holds. raised-holds atlas new around.before around.after entry edited (freed_width atlas.records.items number) notes by_height refl lengths.shelves in_chain height
+    λ notes by_height unparked holds. raised-holds atlas new around.before around.after entry edited (freed_width atlas.records.items number) notes by_height refl lengths.shelves in_chain height
     (others.0 ∙ merges.before_same) (others.1 ∙ merges.after_same)
     (λ widest bound wide. subst (λ (s : Shelf). AllByRecursion (IsWithin widest) s.items) (sym merges.returned) (freed-within atlas shelf number front back free widest is valid.apart bound wide))
-    holds
+    unparked holds
 
 -- what an item that became free leaves of the widths that are kept: that of its shelf is kept anew
 abbrev pub FreesSeconds : AtlasRecords → AtlasRecords → List Entry → List Entry → Entry → ℕ → Type 0

@@ -12,7 +12,7 @@ use Rattle.etagere_base.specs.Lists.{NoNeighbours, times}
 use Rattle.etagere_links.proofs.ListEnds.{times-here}
 use Rattle.shelf_model.specs.Merging.{both_free, merged_items}
 use Rattle.shelf_model.specs.Returning.{freed}
-use Rattle.shelf_model.specs.State.{Item, Shelf, total_width}
+use Rattle.shelf_model.specs.State.{Item, Shelf, is_empty, total_width}
 use Rattle.shelf_model.specs.Valid.{IsShelf}
 use Rattle.shelf_notes.specs.Private.SecondWidths.{second_at}
 use Rattle.shelf_records.proofs.AllLists.LinkedItems.{entry_of}
@@ -25,7 +25,7 @@ use Rattle.shelf_records.specs.RecordLists.{Entry, IsEntry, Records, shelf_numbe
 use Rattle.shelf_records.specs.declared.records.LinkedItem.{LinkedItem}
 use Rattle.shelf_store.proofs.ByHeight.FreedBounds.{IsWithin}
 use Rattle.shelf_store.proofs.ByHeight.NewByHeight.{widths-within}
-use Rattle.shelf_store.proofs.ByHeight.SecondWidths.{fewer-wider, freed-wider-one, freed-wider-same, within-none}
+use Rattle.shelf_store.proofs.ByHeight.SecondWidths.{few-of-one-free, fewer-wider, freed-wider-one, freed-wider-same, within-none}
 use Rattle.shelf_store.specs.Private.ReturnedNotes.{freed_width}
 use Rattle.shelf_store.specs.Private.SecondWidths.{AreSeconds, AreSecondsOf, IsSecondOf, second_after, wider_count}
 
@@ -51,6 +51,24 @@ seconds-absorbed old new before after entry gone seconds same are =
     let tail = Each-back (IsSecondOf old seconds) before (entry ∷ gone ∷ after) are in
     seconds-same old new (before ++ entry ∷ after) seconds same
     (Each-append (IsSecondOf old seconds) before (entry ∷ after) (Each-front (IsSecondOf old seconds) before (entry ∷ gone ∷ after) are) (tail.0, tail.1.1))
+
+-- shelves that are spelled as before
+seconds-stay : (atlas new : AtlasRecords) (entries : List Entry) (seconds : List ℕ) → map (spelled_shelf new) entries ≡ map (spelled_shelf atlas) entries → AreSecondsOf atlas.records.items entries seconds → AreSecondsOf new.records.items entries seconds
+seconds-stay atlas new [] seconds same are = tt
+seconds-stay atlas new (e ∷ es) seconds same are =
+    let first : spelled_shelf new e ≡ spelled_shelf atlas e = cc in
+    let rest : map (spelled_shelf new) es ≡ map (spelled_shelf atlas) es = cc in
+    (subst (λ (s : Shelf). wider_count (second_at seconds e.number) s.items ≤ 1) (sym first) are.0, seconds-stay atlas new es seconds rest are.1)
+
+-- and beside them one that has one free item
+pub seconds-beside : (atlas new : AtlasRecords) (before after : List Entry) (entry edited : Entry) (seconds : List ℕ) → map (spelled_shelf new) before ≡ map (spelled_shelf atlas) before → map (spelled_shelf new) after ≡ map (spelled_shelf atlas) after → is_empty (spelled_shelf new edited) ≡ true
+    → AreSecondsOf atlas.records.items (before ++ entry ∷ after) seconds → AreSecondsOf new.records.items (before ++ edited ∷ after) seconds
+seconds-beside atlas new before after entry edited seconds before_same after_same one are =
+    Each-append (IsSecondOf new.records.items seconds) before (edited ∷ after)
+    (seconds-stay atlas new before seconds before_same (Each-front (IsSecondOf atlas.records.items seconds) before (entry ∷ after) are)) (
+      few-of-one-free (second_at seconds edited.number) (spelled_shelf new edited).items one,
+      seconds-stay atlas new after seconds after_same (Each-back (IsSecondOf atlas.records.items seconds) before (entry ∷ after) are).1,
+    )
 
 -- shelves that are spelled as before, where that of another one is kept anew
 pub seconds-others : (atlas new : AtlasRecords) (entries : List Entry) (seconds : List ℕ) (shelf second : ℕ) → map (spelled_shelf new) entries ≡ map (spelled_shelf atlas) entries → ((k : ℕ) → 1 ≤ times k (shelf_numbers entries) → shelf ≢ k)

@@ -45,7 +45,7 @@ unnoted-written (x ∷ xs) (suc shelf) (suc k) one so none = unnoted-written xs 
 
 noted-later : (notes : Notes) (shelf : ℕ) (in_use : Bool) → AreLater notes (noted_as shelf in_use notes)
 noted-later notes shelf in_use =
-    let one : Standing = record (standing_at notes.standing shelf) { in_use = in_use; noted = true } in
+    let one : Standing = record (standing_at notes.standing shelf) { in_use = in_use; noted = true; parked = false } in
     record {
       kept = refl;
       known = length-set notes.standing shelf one;
@@ -109,6 +109,7 @@ unraised-holds atlas entries notes shelf width by_height noted holds =
       settled = holds.settled;
       bounds = Each-unraised Bounded Bounded shelf width by_height (λ one other bounded. bounded)
           (λ one same none. let so : is_noted notes one.shelf ≡ true = rw same noted in absurd (cc)) holds.bounds;
+      parked = holds.parked;
       known = holds.known;
       few = holds.few;
     }

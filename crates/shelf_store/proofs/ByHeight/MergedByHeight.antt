@@ -1,6 +1,6 @@
 -- The list of shelves by height holds but for those that have changed, through the steps of a return: where an item became
 -- free, and where a shelf took the place of the next one.
-use Rattle.std.proofs.Common.{◌≡◌, ◌≢◌, ℕ, ◌+◌, ◌≤◌, ◌<◌, Bool, true, false, List, [], ◌∷◌, ◌++◌, length, map, refl, ap, subst, arith, sym, ◌∙◌}
+use Rattle.std.proofs.Common.{◌≡◌, ◌≢◌, ℕ, ◌+◌, ◌-◌, ◌≤◌, ◌<◌, Bool, true, false, List, [], ◌∷◌, ◌++◌, length, map, refl, ap, subst, arith, sym, ◌∙◌}
 use Rattle.std.proofs.lemmas.List.{length-map}
 use Rattle.std.specs.Prelude.{◌==◌}
 use Rattle.etagere_base.proofs.EachLemmas.{Each-append, Each-back, Each-front, Each-middle, Each-weaken}
@@ -11,15 +11,16 @@ use Rattle.shelf_records.specs.RecordLists.{Records, Entry, shelf_numbers}
 use Rattle.shelf_records.proofs.AllLists.LinkedFrames.{shelf_numbers-append}
 use Rattle.shelf_records.specs.AtlasRecords.{AtlasRecords, height_of, item_at, spelled_shelf}
 use Rattle.shelf_heights.specs.Private.ByHeight.{IsBound, chain_order}
-use Rattle.shelf_store.specs.Private.Settling.{HoldsExceptNoted, IsSettled}
-use Rattle.shelf_notes.specs.Private.Pending.{Notes, is_in_use, is_listed, is_noted, noted_as, once_where}
+use Rattle.shelf_store.specs.Private.Settling.{HoldsExceptNoted, IsParked, IsSettled}
+use Rattle.shelf_notes.specs.Private.Pending.{Notes, is_in_use, is_listed, is_noted, is_parked, noted_as, once_where}
 use Rattle.shelf_model.specs.State.{Item, Shelf}
 use Rattle.shelf_heights.specs.declared.by_height.BoundedShelf.{BoundedShelf}
 use Rattle.shelf_notes.specs.declared.pending.Standing.{Standing}
 use Rattle.shelf_heights.proofs.ByHeight.Edited.{Each-raised, bounded_as, in_order-raised, numbers-raised}
 use Rattle.shelf_notes.proofs.Noted.{in_use-within, once-le, once-true}
-use Rattle.shelf_notes.proofs.NotedShelves.{noted-in_use, noted-known, noted-listed, noted-other, unnoted-before, unnoted-differs}
+use Rattle.shelf_notes.proofs.NotedShelves.{noted-in_use, noted-known, noted-listed, noted-other, parked-before, unnoted-before, unnoted-differs}
 use Rattle.shelf_store.proofs.ByHeight.FreedBounds.{IsWithin, within-more}
+use Rattle.shelf_store.proofs.ByHeight.ParkedShelves.{parked-same}
 use Rattle.shelf_records.proofs.Spelled.RecordValues.{SameShelf, map-agrees}
 use Rattle.shelf_store.specs.Private.ReturnedNotes.{raised_unless}
 use Rattle.shelf_store.proofs.Spelled.SpelledLists.{with_records}
@@ -40,8 +41,8 @@ bounds-same atlas new shelf widest other (entry ∷ entries) same less bounds =
     )
 
 -- what an item that became free leaves by height, where the bound of its shelf was raised, unless that has changed
-pub raised-holds : (atlas new : AtlasRecords) (before after : List Entry) (entry edited : Entry) (width : ℕ) (notes : Notes) (by_height : List BoundedShelf) → edited.number ≡ entry.number → length new.records.shelves ≡ length atlas.records.shelves → ((k : ℕ) → chain_order new.records.shelves k ≡ chain_order atlas.records.shelves k) → ((k : ℕ) → height_of new.records.shelves k ≡ height_of atlas.records.shelves k) → map (spelled_shelf new) before ≡ map (spelled_shelf atlas) before → map (spelled_shelf new) after ≡ map (spelled_shelf atlas) after → ((widest : ℕ) → IsBound widest (spelled_shelf atlas entry) → width ≤ widest → IsBound widest (spelled_shelf new edited)) → HoldsExceptNoted atlas (before ++ entry ∷ after) notes by_height → HoldsExceptNoted new (before ++ edited ∷ after) notes (raised_unless (is_noted notes entry.number) entry.number width by_height)
-raised-holds atlas new before after entry edited width notes by_height number lengths in_chain heights before_same after_same own holds = by_note (is_noted notes entry.number) refl
+pub raised-holds : (atlas new : AtlasRecords) (before after : List Entry) (entry edited : Entry) (width : ℕ) (notes : Notes) (by_height : List BoundedShelf) → edited.number ≡ entry.number → length new.records.shelves ≡ length atlas.records.shelves → ((k : ℕ) → chain_order new.records.shelves k ≡ chain_order atlas.records.shelves k) → ((k : ℕ) → height_of new.records.shelves k ≡ height_of atlas.records.shelves k) → map (spelled_shelf new) before ≡ map (spelled_shelf atlas) before → map (spelled_shelf new) after ≡ map (spelled_shelf atlas) after → ((widest : ℕ) → IsBound widest (spelled_shelf atlas entry) → width ≤ widest → IsBound widest (spelled_shelf new edited)) → is_parked notes entry.number ≡ false → HoldsExceptNoted atlas (before ++ entry ∷ after) notes by_height → HoldsExceptNoted new (before ++ edited ∷ after) notes (raised_unless (is_noted notes entry.number) entry.number width by_height)
+raised-holds atlas new before after entry edited width notes by_height number lengths in_chain heights before_same after_same own unparked holds = by_note (is_noted notes entry.number) refl
   where
     Old : BoundedShelf → Type 0
     Old one = is_noted notes one.shelf ≡ false → AllByRecursion (IsBoundOf atlas one.shelf one.widest) (before ++ entry ∷ after)
@@ -73,6 +74,13 @@ raised-holds atlas new before after entry edited width notes by_height number le
     others : (one : BoundedShelf) → one.shelf ≢ entry.number → Old one → New one
     others one other bounds none = around one.shelf one.widest one.widest (omega arith) (λ named. absurd (other (sym named ∙ number))) (bounds none)
 
+    parked : (k : ℕ) → is_parked notes k ≡ true → IsParked new (before ++ edited ∷ after) notes k
+    parked k so =
+        parked-same atlas new (before ++ entry ∷ after) (before ++ edited ∷ after) notes notes k refl refl
+        (around k (notes.parked_below - 1) (notes.parked_below - 1) (omega arith)
+        (λ named. let none : is_parked notes k ≡ false = rw (sym (sym number ∙ named)) unparked in absurd (cc)))
+        (holds.parked k so)
+
     raises : (one : BoundedShelf) → one.shelf ≡ entry.number → Old one → (widest : ℕ) → one.widest ≤ widest → width ≤ widest → New (bounded_as one.shelf widest)
     raises one same bounds widest less wide none =
         around one.shelf one.widest widest less
@@ -90,6 +98,7 @@ raised-holds atlas new before after entry edited width notes by_height number le
           settled = settled;
           bounds = Each-weaken Old New by_height
               (λ one bounds none. others one (λ same. let so : is_noted notes one.shelf ≡ true = rw same noted in absurd (cc)) bounds none) holds.bounds;
+          parked = parked;
           known = omega (arith, lengths, holds.known);
           few = omega (arith, lengths, holds.few);
         }
@@ -100,6 +109,7 @@ raised-holds atlas new before after entry edited width notes by_height number le
           order = in_order-raised notes.kept entry.number width by_height holds.order;
           settled = settled;
           bounds = Each-raised Old New entry.number width by_height others raises holds.bounds;
+          parked = parked;
           known = omega (arith, lengths, holds.known);
           few = omega (arith, lengths, holds.few);
         }
@@ -179,14 +189,19 @@ module _ (atlas : AtlasRecords) (records : Records) (before after : List Entry) 
           ∙ ap (λ (s : Standing). s.in_use) (noted-other notes gone.number false gone_known k differ_too) in
           omega (arith, fewer-count before after entry k, once k, none, ap once_where so)
 
-  bounds-kept : (bounded : BoundedShelf) → (is_noted notes bounded.shelf ≡ false → AllByRecursion (IsBoundOf atlas bounded.shelf bounded.widest) (before ++ entry ∷ gone ∷ after)) → is_noted two bounded.shelf ≡ false → AllByRecursion (IsBoundOf new bounded.shelf bounded.widest) (before ++ entry ∷ after)
-  bounds-kept bounded bounds none =
-      Each-weaken (IsBoundOf atlas bounded.shelf bounded.widest) (IsBoundOf new bounded.shelf bounded.widest) (before ++ entry ∷ after)
+  -- a bound is one still
+  bound-kept : (shelf widest : ℕ) → AllByRecursion (IsBoundOf atlas shelf widest) (before ++ entry ∷ gone ∷ after) → AllByRecursion (IsBoundOf new shelf widest) (before ++ entry ∷ after)
+  bound-kept shelf widest bounds =
+      Each-weaken (IsBoundOf atlas shelf widest) (IsBoundOf new shelf widest) (before ++ entry ∷ after)
       (λ (e : Entry) bound named.
       let items : map (item_at records.items) e.items ≡ map (item_at atlas.records.items) e.items = map-agrees (item_at records.items) (item_at atlas.records.items) e.items (λ k stands. (taller.items k).item) in
-      subst (λ (is : List Item). AllByRecursion (IsWithin bounded.widest) is) (sym items) (bound named))
-      (fewer-bounds atlas bounded.shelf bounded.widest before after entry gone
-      (bounds (unnoted-before notes gone.number false gone_known bounded.shelf (unnoted-before one entry.number true still-known bounded.shelf none))))
+      subst (λ (is : List Item). AllByRecursion (IsWithin widest) is) (sym items) (bound named))
+      (fewer-bounds atlas shelf widest before after entry gone bounds)
+
+  bounds-kept : (bounded : BoundedShelf) → (is_noted notes bounded.shelf ≡ false → AllByRecursion (IsBoundOf atlas bounded.shelf bounded.widest) (before ++ entry ∷ gone ∷ after)) → is_noted two bounded.shelf ≡ false → AllByRecursion (IsBoundOf new bounded.shelf bounded.widest) (before ++ entry ∷ after)
+  bounds-kept bounded bounds none =
+      bound-kept bounded.shelf bounded.widest
+      (bounds (unnoted-before notes gone.number false gone_known bounded.shelf (unnoted-before one entry.number true still-known bounded.shelf none)))
 
   pub absorbed-holds : HoldsExceptNoted new (before ++ entry ∷ after) two by_height
   absorbed-holds =
@@ -209,6 +224,10 @@ module _ (atlas : AtlasRecords) (records : Records) (before after : List Entry) 
             };
         bounds = Each-weaken (λ (bounded : BoundedShelf). is_noted notes bounded.shelf ≡ false → AllByRecursion (IsBoundOf atlas bounded.shelf bounded.widest) (before ++ entry ∷ gone ∷ after))
             (λ (bounded : BoundedShelf). is_noted two bounded.shelf ≡ false → AllByRecursion (IsBoundOf new bounded.shelf bounded.widest) (before ++ entry ∷ after)) by_height bounds-kept holds.bounds;
+        parked = λ k so.
+            parked-same atlas new (before ++ entry ∷ gone ∷ after) (before ++ entry ∷ after) notes two k
+            (noted-listed one entry.number true still-known k ∙ noted-listed notes gone.number false gone_known k) refl (bound-kept k (notes.parked_below - 1))
+            (holds.parked k (parked-before notes gone.number false gone_known k (parked-before one entry.number true still-known k so)));
         known = omega (arith, taller.as_many, holds.known, noted-known one entry.number true still-known, noted-known notes gone.number false gone_known);
         few = omega (arith, taller.as_many, holds.few);
       }

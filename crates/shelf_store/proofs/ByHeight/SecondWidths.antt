@@ -16,7 +16,7 @@ use Rattle.shelf_model.proofs.Taken.TakenShelves.{IsTaking, taken-items}
 use Rattle.shelf_model.specs.Choice.{Placement}
 use Rattle.shelf_model.specs.Merging.{both_free, combined_items, merged_items}
 use Rattle.shelf_model.specs.Returning.{freed}
-use Rattle.shelf_model.specs.State.{Item, Shelf, is_free}
+use Rattle.shelf_model.specs.State.{Item, Shelf, is_free, is_one_free}
 use Rattle.shelf_model.specs.Taking.{item_pieces, taken_shelf}
 use Rattle.shelf_records.proofs.AllLists.LinkedItems.{entry_of}
 use Rattle.shelf_records.proofs.ListEnds.{last-append}
@@ -44,6 +44,20 @@ wider-none width widest false within = refl
 none-wider : (width widest : ℕ) (free : Bool) → cond {A = ℕ} (free && nat_lt width widest) 1 0 ≡ 0 → free ≡ true → widest ≤ width
 none-wider width widest true none free = grind (arith, nat_tests)
 none-wider width widest false none free = absurd (cc)
+
+-- one item is no more than one
+pub few-of-one : (width : ℕ) (item : Item) → wider_count width (item ∷ []) ≤ 1
+few-of-one width item = by_test (is_free item && nat_lt width item.width)
+  where
+    by_test : (b : Bool) → cond b 1 0 + 0 ≤ 1
+    by_test true = omega arith
+    by_test false = omega arith
+
+-- so a shelf of one item has no more
+pub few-of-one-free : (width : ℕ) (items : List Item) → is_one_free items ≡ true → wider_count width items ≤ 1
+few-of-one-free width [] one = omega arith
+few-of-one-free width (item ∷ []) one = few-of-one width item
+few-of-one-free width (item ∷ next ∷ items) one = absurd (cc)
 
 -- none is wider where each free item is no wider
 pub within-none : (width : ℕ) (items : List Item) → AllByRecursion (IsWithin width) items → wider_count width items ≡ 0

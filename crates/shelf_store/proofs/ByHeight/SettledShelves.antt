@@ -5,7 +5,7 @@ use Rattle.std.proofs.Math.Seq.{get_or-append_seam}
 use Rattle.std.proofs.lemmas.List.{length-append, length-map, length-set}
 use Rattle.std.specs.Prelude.{not, ◌==◌}
 use Rattle.etagere_base.proofs.EachLemmas.{Each-both, Each-weaken}
-use Rattle.etagere_base.proofs.TimesLemmas.{hit}
+use Rattle.etagere_base.proofs.TimesLemmas.{hit, times-here}
 use Rattle.etagere_base.specs.Lists.{remove_number, times}
 use Rattle.etagere_base.specs.declared.frames.Frame.{Frame}
 use Rattle.etagere_links.specs.Edits.{field_at}
@@ -14,19 +14,21 @@ use Rattle.shelf_records.specs.AtlasRecords.{height_of}
 use Rattle.shelf_records.specs.RecordLists.{Records, shelf_numbers, shelf_walk, walked_lists}
 use Rattle.shelf_records.specs.Private.Kept.{AreKept, bare}
 use Rattle.shelf_records.specs.declared.records.LinkedShelf.{LinkedShelf}
-use Rattle.shelf_heights.specs.Private.ByHeight.{AreByHeight, AreInOrder, chain_order, numbers_by_height, order_of, put_in, taken_out}
-use Rattle.shelf_notes.specs.Private.Pending.{AreTied, Notes, forgotten, is_in_use, is_listed, is_noted, listed_as, once_where, unlisted}
+use Rattle.shelf_heights.specs.Private.ByHeight.{AreByHeight, AreInOrder, chain_order, numbers_by_height, order_of, put_in, taken_out, AreByHeightFor}
+use Rattle.shelf_notes.specs.Private.Pending.{AreTied, Notes, forgotten, is_in_use, is_listed, is_noted, listed_as, once_where, unlisted, NoneWaits, is_parked, parked_as, standing_at, waits}
 use Rattle.shelf_heights.specs.declared.by_height.BoundedShelf.{BoundedShelf}
 use Rattle.shelf_notes.specs.declared.pending.Standing.{Standing}
 use Rattle.shelf_heights.proofs.ByHeight.Edited.{Each-put_in, Each-taken_out, by_height-in_order, in_order-among, in_order-put_in, in_order-taken_out, numbers-taken_out, times-put_in}
 use Rattle.shelf_heights.proofs.ByHeight.Positions.{stands-within}
-use Rattle.shelf_notes.proofs.Noted.{once-false, once-true}
-use Rattle.shelf_notes.proofs.NotedShelves.{forgotten-in_use, forgotten-known, forgotten-listed, forgotten-other, listed-in_use, listed-known, listed-noted, listed-other, listed-so, unlisted-in_use, unlisted-known, unlisted-noted, unlisted-other, unlisted-so}
+use Rattle.shelf_notes.proofs.Noted.{once-false, once-true, unparked-waits, waits-so}
+use Rattle.shelf_notes.proofs.NotedShelves.{forgotten-in_use, forgotten-known, forgotten-listed, forgotten-other, listed-in_use, listed-known, listed-noted, listed-other, listed-so, unlisted-in_use, unlisted-known, unlisted-noted, unlisted-other, unlisted-so, forgotten-parked, listed-parked, parked-in_use, parked-known, parked-listed, parked-noted, parked-other, unlisted-parked}
 use Rattle.shelf_records.proofs.Judged.EqualTimes.{length-fewer}
+use Rattle.std.specs.List.{AllByRecursion}
+use Rattle.shelf_store.proofs.ByHeight.ParkedShelves.{bound-more, parked-same, parked-unlisted}
 use Rattle.shelf_store.proofs.ByHeight.RoomByHeight.{shelves-count}
 use Rattle.shelf_store.proofs.ByHeight.SplitByHeight.{used-once}
 use Rattle.shelf_store.proofs.ByHeight.SplitOrders.{StandsSame, order-stands, orders-apart}
-use Rattle.shelf_store.specs.Private.Settling.{AreByHeightExceptNoted, AreSettled, BeginAsListed, BeginsAsListed, Follows, IsBoundIn, IsBounded, IsSettled}
+use Rattle.shelf_store.specs.Private.Settling.{AreByHeightExceptNoted, AreSettled, BeginAsListed, BeginsAsListed, Follows, IsBoundIn, IsBounded, IsSettled, IsParked, IsToPark}
 
 -- how often a number stands where another was left out
 times-left : (k n : ℕ) (ns : List ℕ) → k ≢ n → times k (remove_number n ns) ≡ times k ns
@@ -155,10 +157,18 @@ module _ (frame : Frame) (records : Records) (notes : Notes) (by_height : List B
           bounds = Each-taken_out (λ (one : BoundedShelf). is_noted notes one.shelf ≡ false → IsBoundIn (bare frame records) (walked_lists records).entries one)
               (λ (one : BoundedShelf). is_noted (unlisted shelf notes) one.shelf ≡ false → IsBoundIn (bare frame records) (walked_lists records).entries one) shelf by_height
               (λ one other bounds unnoted. bounds (sym (unlisted-noted notes shelf known one.shelf) ∙ unnoted)) holds.bounds;
+          parked = λ k so.
+              let before : is_parked notes k ≡ true = sym (unlisted-parked notes shelf known k) ∙ so in
+              let is = holds.parked k before in
+              record { unlisted = unlisted-none k (k == shelf) refl is.unlisted; some = is.some; narrow = is.narrow };
           known = omega (arith, holds.known, unlisted-known notes shelf known);
           few = holds.few;
         }
       where
+        unlisted-none : (k : ℕ) (b : Bool) → (k == shelf) ≡ b → is_listed notes k ≡ false → is_listed (unlisted shelf notes) k ≡ false
+        unlisted-none k true e none = let own : k ≡ shelf = grind arith in rw own (unlisted-so notes shelf known)
+        unlisted-none k false e none = let other : k ≢ shelf = grind arith in ap (λ (s : Standing). s.listed) (unlisted-other notes shelf known k other) ∙ none
+
         by_number : (k : ℕ) (b : Bool) → (k == shelf) ≡ b → times k (numbers_by_height (taken_out shelf by_height)) ≡ once_where (is_listed (unlisted shelf notes) k)
         by_number k true e =
             let own : k ≡ shelf = grind arith in
@@ -239,8 +249,8 @@ module _ (frame : Frame) (records : Records) (notes : Notes) (by_height : List B
               let here : hit shelf k ≡ 0 = grind (arith, other) in
               omega (arith, here, times-without shelf k other, holds.listed k, ap (λ (s : Standing). once_where s.listed) (listed-other notes shelf read known k other))
 
-      pub put-holds : AreByHeightExceptNoted frame records after (put_in after.kept one Others)
-      put-holds =
+      pub put-holds : is_parked notes shelf ≡ false → AreByHeightExceptNoted frame records after (put_in after.kept one Others)
+      put-holds unparked =
           record {
             listed = listed-after;
             in_use = λ k. holds.in_use k ∙ sym (ap once_where (listed-in_use notes shelf read known k));
@@ -258,6 +268,15 @@ module _ (frame : Frame) (records : Records) (notes : Notes) (by_height : List B
                 };
             bounds = Each-put_in New after.kept one Others own
                 (Each-taken_out Old New shelf by_height (λ bounded other bounds unnoted. bounds (sym (listed-noted notes shelf read known bounded.shelf) ∙ unnoted)) holds.bounds);
+            parked = λ k so.
+                let before : is_parked notes k ≡ true = sym (listed-parked notes shelf read known k) ∙ so in
+                let other : k ≢ shelf = λ own. let none : is_parked notes k ≡ false = rw own unparked in absurd (cc) in
+                let is = holds.parked k before in
+                record {
+                  unlisted = ap (λ (s : Standing). s.listed) (listed-other notes shelf read known k other) ∙ is.unlisted;
+                  some = is.some;
+                  narrow = is.narrow;
+                };
             known = omega (arith, holds.known, listed-known notes shelf read known);
             few = holds.few;
           }
@@ -343,6 +362,9 @@ module _ (frame : Frame) (records : Records) (notes : Notes) (by_height : List B
               (λ one both unnoted. of_one one both unnoted (one.shelf == shelf) refl)
               (Each-both (λ (one : BoundedShelf). is_noted notes one.shelf ≡ false → IsBoundIn (bare frame records) (walked_lists records).entries one)
               (λ (one : BoundedShelf). one.shelf ≡ shelf → IsBoundIn (bare frame records) (walked_lists records).entries one) by_height holds.bounds bounded);
+          parked = λ k so.
+              parked-same (bare frame records) (bare frame records) (walked_lists records).entries (walked_lists records).entries notes (forgotten shelf left notes) k
+              (forgotten-listed notes shelf left known k) refl (λ bounds. bounds) (holds.parked k (sym (forgotten-parked notes shelf left known k) ∙ so));
           known = omega (arith, holds.known, forgotten-known notes shelf left known);
           few = holds.few;
         }
@@ -368,6 +390,40 @@ module _ (frame : Frame) (records : Records) (notes : Notes) (by_height : List B
         of_one one both unnoted false e =
             let other : one.shelf ≢ shelf = grind arith in
             both.0 (sym (ap (λ (s : Standing). s.noted) (forgotten-other notes shelf left known one.shelf other)) ∙ unnoted)
+
+    -- or is parked, where it isn't listed and its free items are narrow
+    pub parked-holds : (left : List ℕ) → is_listed notes shelf ≡ false → IsToPark frame records notes shelf → AreByHeightExceptNoted frame records (parked_as shelf left notes) by_height
+    parked-holds left unlisted_so to_park =
+        record {
+          listed = λ k. holds.listed k ∙ sym (ap once_where (parked-listed notes shelf left known k));
+          in_use = λ k. holds.in_use k ∙ sym (ap once_where (parked-in_use notes shelf left known k));
+          order = holds.order;
+          settled = λ k unnoted.
+              let is = holds.settled k (sym (parked-noted notes shelf left known k) ∙ unnoted) in
+              let listed = parked-listed notes shelf left known k in
+              record {
+                listed = listed ∙ is.listed ∙ sym (parked-in_use notes shelf left known k);
+                in_chain = λ stands. is.in_chain (sym listed ∙ stands);
+                height = λ stands. is.height (sym listed ∙ stands);
+              };
+          bounds = Each-weaken (λ (one : BoundedShelf). is_noted notes one.shelf ≡ false → IsBoundIn (bare frame records) (walked_lists records).entries one)
+              (λ (one : BoundedShelf). is_noted (parked_as shelf left notes) one.shelf ≡ false → IsBoundIn (bare frame records) (walked_lists records).entries one) by_height
+              (λ one bounds unnoted. bounds (sym (parked-noted notes shelf left known one.shelf) ∙ unnoted)) holds.bounds;
+          parked = λ k so. by_number k so (k == shelf) refl;
+          known = omega (arith, holds.known, parked-known notes shelf left known);
+          few = holds.few;
+        }
+      where
+        by_number : (k : ℕ) → is_parked (parked_as shelf left notes) k ≡ true → (b : Bool) → (k == shelf) ≡ b → IsParked (bare frame records) (walked_lists records).entries (parked_as shelf left notes) k
+        by_number k so true e =
+            let own : k ≡ shelf = grind arith in
+            subst (λ (n : ℕ). IsParked (bare frame records) (walked_lists records).entries (parked_as shelf left notes) n) (sym own)
+            (record { unlisted = parked-listed notes shelf left known shelf ∙ unlisted_so; some = to_park.some; narrow = to_park.narrow })
+        by_number k so false e =
+            let other : k ≢ shelf = grind arith in
+            parked-same (bare frame records) (bare frame records) (walked_lists records).entries (walked_lists records).entries notes (parked_as shelf left notes) k
+            (parked-listed notes shelf left known k) refl (λ bounds. bounds)
+            (holds.parked k (sym (ap (λ (s : Standing). s.parked) (parked-other notes shelf left known k other)) ∙ so))
 
     pub forgotten-as_listed : (left : List ℕ) → BeginAsListed records.shelves notes → BeginAsListed records.shelves (forgotten shelf left notes)
     forgotten-as_listed left as_listed k =
@@ -402,8 +458,68 @@ module _ (frame : Frame) (records : Records) (notes : Notes) (by_height : List B
         none (one ∷ others) absent =
             (λ same. let here : hit one.shelf shelf ≡ 1 = grind (arith, same) in absurd (omega (arith, absent, here)), none others (omega (arith, absent)))
 
-  -- where none has changed, the list is that by height
-  module _ (unchanged : (k : ℕ) → is_noted notes k ≡ false) where
+  -- where none waits, the list is that by height for what is as wide as the width of parked shelves
+  module _ (none : NoneWaits notes) (width : ℕ) (wide : notes.parked_below ≤ width) where
+    unnoted-listed : (k : ℕ) → is_listed notes k ≡ true → is_noted notes k ≡ false
+    unnoted-listed k so = unparked-waits _ _ (none k) (parked-unlisted (bare frame records) (walked_lists records).entries notes by_height k holds so)
+
+    unnoted-stands : (k : ℕ) → 1 ≤ times k (numbers_by_height by_height) → is_noted notes k ≡ false
+    unnoted-stands k stands = unnoted-listed k (stands-listed k stands)
+
+    left-narrow : (k : ℕ) → 1 ≤ times k (shelf_numbers (walked_lists records).entries) → times k (numbers_by_height by_height) ≡ 0
+        → IsBoundIn (bare frame records) (walked_lists records).entries (record { widest = width - 1; shelf = k })
+    left-narrow k used absent = by_mark (is_parked notes k) refl
+      where
+        unlisted_so : is_listed notes k ≡ false
+        unlisted_so = once-false (is_listed notes k) (sym (holds.listed k) ∙ absent)
+
+        used_so : is_in_use notes k ≡ true
+        used_so = once-true (is_in_use notes k) (omega (arith, used, holds.in_use k))
+
+        by_mark : (b : Bool) → is_parked notes k ≡ b → IsBoundIn (bare frame records) (walked_lists records).entries (record { widest = width - 1; shelf = k })
+        by_mark true e = bound-more (bare frame records) (walked_lists records).entries k (notes.parked_below - 1) (width - 1) (omega (arith, wide)) (holds.parked k e).narrow
+        by_mark false e =
+            let listed : is_listed notes k ≡ is_in_use notes k = (holds.settled k (unparked-waits _ _ (none k) e)).listed in
+            absurd (cc (unlisted_so, used_so))
+
+    pub for-width : AreByHeightFor frame records width by_height
+    for-width =
+        record {
+          once = λ k. by_list k (is_listed notes k) refl;
+          left_out = left-narrow;
+          rising = (in_order-among notes.kept records.shelves by_height
+              (λ k stands. in_use-there k (sym (holds.settled k (unnoted-stands k stands)).listed ∙ stands-listed k stands))
+              (λ k stands. order-stands notes.kept records.shelves k
+              (record { in_chain = sym ((holds.settled k (unnoted-stands k stands)).in_chain (stands-listed k stands)); height = sym ((holds.settled k (unnoted-stands k stands)).height (stands-listed k stands)) }))
+              holds.order).rising;
+          bounds = bounds-of by_height (λ k stands. stands) holds.bounds;
+        }
+      where
+        by_list : (k : ℕ) (b : Bool) → is_listed notes k ≡ b → times k (numbers_by_height by_height) ≤ times k (shelf_numbers (walked_lists records).entries)
+        by_list k true e = omega (arith, holds.listed k, holds.in_use k, ap once_where ((holds.settled k (unnoted-listed k e)).listed), ap once_where e)
+        by_list k false e = omega (arith, holds.listed k, ap once_where e)
+
+        bounds-of : (ones : List BoundedShelf) → ((k : ℕ) → 1 ≤ times k (numbers_by_height ones) → 1 ≤ times k (numbers_by_height by_height))
+            → AllByRecursion (λ (one : BoundedShelf). is_noted notes one.shelf ≡ false → IsBoundIn (bare frame records) (walked_lists records).entries one) ones
+            → AllByRecursion (IsBoundIn (bare frame records) (walked_lists records).entries) ones
+        bounds-of [] stand bounds = tt
+        bounds-of (one ∷ others) stand bounds = (
+          bounds.0 (unnoted-stands one.shelf (stand one.shelf (omega (arith, times-here one.shelf (numbers_by_height others))))),
+          bounds-of others (λ k stands. stand k (omega (arith, stands))) bounds.1,
+        )
+
+  -- where none is parked either, the list is that by height
+  module _ (none : NoneWaits notes) (below : notes.parked_below ≡ 0) where
+    unparked-all : (k : ℕ) → is_parked notes k ≡ false
+    unparked-all k = by_mark (is_parked notes k) refl
+      where
+        by_mark : (b : Bool) → is_parked notes k ≡ b → b ≡ false
+        by_mark true e = absurd (omega (arith, (holds.parked k e).some, below))
+        by_mark false e = refl
+
+    unchanged : (k : ℕ) → is_noted notes k ≡ false
+    unchanged k = unparked-waits _ _ (none k) (unparked-all k)
+
     pub all-by_height : AreByHeight frame records by_height
     all-by_height =
         record {
@@ -423,6 +539,8 @@ module _ (frame : Frame) (records : Records) (notes : Notes) (by_height : List B
           unchanged = unchanged;
           in_use = holds.in_use;
           settled = λ k. holds.settled k (unchanged k);
+          unparked = unparked-all;
+          parked_below = below;
           known = holds.known;
           within = listed-within;
         }
@@ -438,6 +556,8 @@ follows-settled frame records notes by_height kept are follows =
         in_chain = λ stands. ap (λ (shelves : List LinkedShelf). chain_order shelves k) follows.kept;
         height = λ stands. ap (λ (shelves : List LinkedShelf). height_of shelves k) follows.kept;
       };
+      unparked = follows.unparked;
+      parked_below = follows.parked_below;
       known = omega (arith, follows.known);
       within = λ k so. omega (
         arith,
@@ -446,9 +566,9 @@ follows-settled frame records notes by_height kept are follows =
       );
     }
 
--- where nothing is noted, none has changed
-pub none-noted : (notes : Notes) → AreTied notes → length notes.noted ≡ 0 → (k : ℕ) → is_noted notes k ≡ false
-none-noted notes tied none k = once-false (is_noted notes k) (sym (tied k) ∙ ap (times k) (empty notes.noted none))
+-- where there are no numbers of those that are to be followed, none waits
+pub none-waits : (notes : Notes) → AreTied notes → length notes.noted ≡ 0 → NoneWaits notes
+none-waits notes tied none k = once-false (waits (standing_at notes.standing k)) (sym (tied k) ∙ ap (times k) (empty notes.noted none))
   where
     empty : (ns : List ℕ) → length ns ≡ 0 → ns ≡ []
     empty [] e = refl
@@ -492,23 +612,60 @@ pub all-as_listed : (frame : Frame) (records : Records) (notes : Notes) (by_heig
 all-as_listed frame records notes by_height kept holds tied as_listed k = by_note (is_noted notes k) refl
   where
     by_note : (b : Bool) → is_noted notes k ≡ b → BeginsAsListed records.shelves notes k
-    by_note true e = as_listed k (omega (arith, tied k, ap once_where e))
+    by_note true e = by_mark (is_parked notes k) refl
+      where
+        by_mark : (b : Bool) → is_parked notes k ≡ b → BeginsAsListed records.shelves notes k
+        by_mark true f =
+            let unlisted_so : is_listed notes k ≡ false = (holds.parked k f).unlisted in
+            record { in_use = λ stands. absurd (cc); in_chain = λ stands. absurd (cc) }
+        by_mark false f = as_listed k (omega (arith, tied k, ap once_where (waits-so _ _ e f)))
     by_note false e = unnoted-as_listed frame records notes by_height kept holds k e
 
--- what holds once the number of the shelf that changed last was taken away
+-- what became of the notes once the number of the shelf that changed last was taken away
+popped-is : (change : ℕ → List ℕ → Notes → Notes) (old new : Notes) (shelf : ℕ) (result : Option ℕ)
+    → (result ≡ None → old.noted ≡ []) → IfSome result (λ s. s < length old.standing) → IfSome result (λ s. old.noted ≡ new.noted ++ s ∷ []) → IfSome result (λ s. new ≡ change s new.noted old)
+    → 0 < length old.noted → shelf ≡ get_or old.noted (length old.noted - 1) 0
+    → (new ≡ change shelf new.noted old) × (shelf < length old.standing)
+popped-is change old new shelf None none within last made some read =
+    absurd (omega (arith, some, ap (λ (ns : List ℕ). length ns) (none refl)))
+popped-is change old new shelf (Some s) none within last made some read =
+    let end : length old.noted - 1 ≡ length new.noted = omega (arith, ap (λ (ns : List ℕ). length ns) last, length-append new.noted (s ∷ [])) in
+    let same : shelf ≡ s =
+    read ∙ ap (λ n. get_or old.noted n 0) end ∙ ap (λ (ns : List ℕ). get_or ns (length new.noted) 0) last ∙ get_or-append_seam new.noted s [] 0 in
+    (made ∙ ap (λ n. change n new.noted old) (sym same), omega (arith, within, same))
+
+-- what holds then of one that is noted no more
 pub popped-holds : (frame : Frame) (records : Records) (old new : Notes) (by_height : List BoundedShelf) (shelf : ℕ) (result : Option ℕ)
     → AreKept frame records → AreByHeightExceptNoted frame records old by_height → BeginAsListed records.shelves old → IsSettled records.shelves old shelf → IsBounded frame records shelf by_height
     → (result ≡ None → old.noted ≡ []) → IfSome result (λ s. s < length old.standing) → IfSome result (λ s. old.noted ≡ new.noted ++ s ∷ []) → IfSome result (λ s. new ≡ forgotten s new.noted old)
     → 0 < length old.noted → shelf ≡ get_or old.noted (length old.noted - 1) 0
     → AreByHeightExceptNoted frame records new by_height × BeginAsListed records.shelves new
-popped-holds frame records old new by_height shelf None kept holds as_listed settled bounded none within last made some read =
-    absurd (omega (arith, some, ap (λ (ns : List ℕ). length ns) (none refl)))
-popped-holds frame records old new by_height shelf (Some s) kept holds as_listed settled bounded none within last made some read =
-    let end : length old.noted - 1 ≡ length new.noted = omega (arith, ap (λ (ns : List ℕ). length ns) last, length-append new.noted (s ∷ [])) in
-    let same : shelf ≡ s =
-    read ∙ ap (λ n. get_or old.noted n 0) end ∙ ap (λ (ns : List ℕ). get_or ns (length new.noted) 0) last ∙ get_or-append_seam new.noted s [] 0 in
-    let known : shelf < length old.standing = omega (arith, within, same) in
-    let is : new ≡ forgotten shelf new.noted old = made ∙ ap (λ n. forgotten n new.noted old) (sym same) in (
-      subst (λ (notes : Notes). AreByHeightExceptNoted frame records notes by_height) (sym is) (forgotten-holds frame records old by_height kept holds shelf known new.noted settled bounded),
-      subst (BeginAsListed records.shelves) (sym is) (forgotten-as_listed frame records old by_height kept holds shelf known new.noted as_listed),
+popped-holds frame records old new by_height shelf result kept holds as_listed settled bounded none within last made some read =
+    let is = popped-is forgotten old new shelf result none within last made some read in (
+      subst (λ (notes : Notes). AreByHeightExceptNoted frame records notes by_height) (sym is.0) (forgotten-holds frame records old by_height kept holds shelf is.1 new.noted settled bounded),
+      subst (BeginAsListed records.shelves) (sym is.0) (forgotten-as_listed frame records old by_height kept holds shelf is.1 new.noted as_listed),
     )
+
+-- and of one that is parked
+pub parked-popped : (frame : Frame) (records : Records) (old new : Notes) (by_height : List BoundedShelf) (shelf : ℕ) (result : Option ℕ)
+    → AreKept frame records → AreByHeightExceptNoted frame records old by_height
+    → (result ≡ None → old.noted ≡ []) → IfSome result (λ s. s < length old.standing) → IfSome result (λ s. old.noted ≡ new.noted ++ s ∷ []) → IfSome result (λ s. new ≡ parked_as s new.noted old)
+    → 0 < length old.noted → shelf ≡ get_or old.noted (length old.noted - 1) 0 → is_listed old shelf ≡ false → IsToPark frame records old shelf
+    → AreByHeightExceptNoted frame records new by_height
+parked-popped frame records old new by_height shelf result kept holds none within last made some read unlisted_so to_park =
+    let is = popped-is parked_as old new shelf result none within last made some read in
+    subst (λ (notes : Notes). AreByHeightExceptNoted frame records notes by_height) (sym is.0) (parked-holds frame records old by_height kept holds shelf is.1 new.noted unlisted_so to_park)
+
+pub parked-begin : (shelves : List LinkedShelf) (old new : Notes) (shelf : ℕ) (result : Option ℕ)
+    → (result ≡ None → old.noted ≡ []) → IfSome result (λ s. s < length old.standing) → IfSome result (λ s. old.noted ≡ new.noted ++ s ∷ []) → IfSome result (λ s. new ≡ parked_as s new.noted old)
+    → 0 < length old.noted → shelf ≡ get_or old.noted (length old.noted - 1) 0
+    → BeginAsListed shelves old → BeginAsListed shelves new
+parked-begin shelves old new shelf result none within last made some read as_listed =
+    let is = popped-is parked_as old new shelf result none within last made some read in
+    subst (BeginAsListed shelves) (sym is.0)
+    (λ k.
+    let listed = parked-listed old shelf new.noted is.1 k in
+    record {
+      in_use = λ stands. parked-in_use old shelf new.noted is.1 k ∙ (as_listed k).in_use (sym listed ∙ stands);
+      in_chain = λ stands. (as_listed k).in_chain (sym listed ∙ stands);
+    })

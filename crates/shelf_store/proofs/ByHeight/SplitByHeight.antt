@@ -1,5 +1,5 @@
 -- The list of shelves by height holds but for those that have changed once a shelf was split.
-use Rattle.std.proofs.Common.{◌≡◌, ◌≢◌, ℕ, zero, suc, ◌+◌, ◌*◌, ◌<◌, ◌≤◌, Bool, true, false, cond, List, [], ◌∷◌, ◌++◌, length, map, max, refl, ap, arith, ◌∙◌, sym, subst}
+use Rattle.std.proofs.Common.{◌≡◌, ◌≢◌, ℕ, zero, suc, ◌+◌, ◌-◌, ◌*◌, ◌<◌, ◌≤◌, Bool, true, false, cond, List, [], ◌∷◌, ◌++◌, length, map, max, refl, ap, arith, ◌∙◌, sym, subst}
 use Rattle.std.proofs.lemmas.List.{length-append}
 use Rattle.std.specs.Prelude.{nat_lt, ◌==◌}
 use Rattle.etagere_base.proofs.EachLemmas.{Each-weaken}
@@ -11,7 +11,7 @@ use Rattle.shelf_records.specs.RecordLists.{Records, shelf_numbers, walked_lists
 use Rattle.shelf_records.specs.declared.records.LinkedShelf.{LinkedShelf}
 use Rattle.shelf_records.specs.AtlasRecords.{height_of, spelled_shelf}
 use Rattle.shelf_heights.specs.Private.ByHeight.{AreByHeight, AreInOrder, IsBound, chain_order, numbers_by_height, order_of}
-use Rattle.shelf_notes.specs.Private.Pending.{Notes, is_in_use, is_listed, is_noted, noted_as, once_where, with_entry}
+use Rattle.shelf_notes.specs.Private.Pending.{Notes, is_in_use, is_listed, is_noted, is_parked, noted_as, once_where, with_entry}
 use Rattle.shelf_records.specs.Private.Kept.{AreKept, bare}
 use Rattle.shelf_store.specs.Private.Settling.{AreByHeightExceptNoted, AreSettled, IsSettled}
 use Rattle.shelf_model.specs.State.{Shelf}
@@ -20,7 +20,8 @@ use Rattle.shelf_notes.specs.declared.pending.Standing.{Standing}
 use Rattle.shelf_heights.proofs.ByHeight.Edited.{by_height-in_order, in_order-among}
 use Rattle.shelf_heights.proofs.ByHeight.Positions.{stands-within}
 use Rattle.shelf_notes.proofs.Noted.{in_use-within, once-true}
-use Rattle.shelf_notes.proofs.NotedShelves.{entry-known, entry-longer, entry-standing, noted-in_use, noted-known, noted-listed, noted-other, unnoted-before, unnoted-differs}
+use Rattle.shelf_notes.proofs.NotedShelves.{entry-below, entry-known, entry-longer, entry-standing, noted-in_use, noted-known, noted-listed, noted-other, parked-before, parked-differs, unnoted-before, unnoted-differs}
+use Rattle.shelf_store.proofs.ByHeight.ParkedShelves.{parked-same}
 use Rattle.shelf_store.proofs.ByHeight.NumberedShelves.{BoundsAs, HoldIn, IsBoundOf, hold-numbered, hold-split, numbered-hold}
 use Rattle.shelf_store.proofs.ByHeight.SplitOrders.{StandsSame, order-stands}
 use Rattle.shelf_records.proofs.Spelled.StandsKept.{witnesses}
@@ -76,6 +77,7 @@ settled-holds frame records notes by_height kept are settled =
       order = order-settled frame records notes by_height kept are settled;
       settled = λ k unnoted. settled.settled k;
       bounds = Each-weaken (IsBoundOf (bare frame records) (walked_lists records).entries) (λ one. is_noted notes one.shelf ≡ false → IsBoundOf (bare frame records) (walked_lists records).entries one) by_height (λ one bounds unnoted. bounds) are.bounds;
+      parked = λ k so. let none : is_parked notes k ≡ false = settled.unparked k in absurd (cc);
       known = settled.known;
       few = (witnesses kept).counts.shelves.1;
     }
@@ -260,6 +262,11 @@ module _ (frame : Frame) (records new : Records) (notes : Notes) (by_height : Li
         order = order-after;
         settled = settled-after;
         bounds = Each-weaken Before New by_height (λ bounded bounds unnoted. after bounded (bounds (unnoted-old bounded.shelf unnoted)) (not-rest bounded.shelf unnoted)) is.holds.bounds;
+        parked = λ k so.
+            let before : is_parked one k ≡ true = sym (ap (λ (s : Standing). s.parked) (entry-standing one rest any next k)) ∙ parked-before two rest true rest-known k so in
+            parked-same (bare frame records) (bare frame new) (walked_lists records).entries (walked_lists new).entries notes three k (listed-same k) (entry-below one rest any next)
+            (λ bounds. after (record { widest = notes.parked_below - 1; shelf = k }) bounds (parked-differs two rest true rest-known k so))
+            (is.holds.parked k (parked-before notes shelf true known k before));
         known = known-after;
         few = (witnesses is.new_kept).counts.shelves.1;
       }

@@ -19,6 +19,7 @@ use Rattle.shelf_model.specs.Taking.{taken_shelf}
 use Rattle.shelf_heights.specs.declared.by_height.BoundedShelf.{BoundedShelf}
 use Rattle.shelf_store.proofs.ByHeight.NumberedShelves.{BoundsAs, HoldIn, IsBoundOf, hold-changed, hold-numbered, numbered-hold}
 use Rattle.shelf_store.proofs.ByHeight.SplitOrders.{StandsSame, length-split, length-taken, same-split, same-used, stands-same, stands-taken, stands-then}
+use Rattle.shelf_store.proofs.ByHeight.ParkedShelves.{parked-same}
 use Rattle.shelf_store.proofs.ByHeight.SplitByHeight.{IsSplitByHeight, split-holds}
 use Rattle.shelf_store.proofs.ByHeight.TakenBounds.{bound-taken}
 use Rattle.shelf_store.proofs.Spelled.TakenKept.{KeepsTaken, SpellsTaken}
@@ -43,6 +44,9 @@ unsplit-holds frame records new notes by_height shelf front back fronts backs wh
           let is = holds.settled k unnoted in
           record { listed = is.listed; in_chain = λ there. is.in_chain there ∙ sym (stands k).in_chain; height = λ there. is.height there ∙ sym (stands k).height };
       bounds = Each-weaken (λ one. is_noted notes one.shelf ≡ false → Old one) (λ one. is_noted notes one.shelf ≡ false → New one) by_height (λ one bounds unnoted. after one (bounds unnoted)) holds.bounds;
+      parked = λ k so.
+          parked-same (bare frame records) (bare frame new) (walked_lists records).entries (walked_lists new).entries notes notes k refl refl
+          (after (record { widest = notes.parked_below - 1; shelf = k })) (holds.parked k so);
       known = omega (arith, few, holds.known);
       few = (witnesses new_kept).counts.shelves.1;
     }

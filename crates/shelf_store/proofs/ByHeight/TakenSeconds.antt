@@ -1,7 +1,6 @@
 -- Widths that no more than one free item of each shelf passes when a placement is taken: they stay so, and that of its shelf
 -- bounds what is left where the item that passes it is taken.
-use Rattle.std.proofs.Common.{◌≡◌, ℕ, ◌+◌, ◌-◌, ◌≤◌, Bool, true, false, None, cond, List, [], ◌∷◌, ◌++◌, map, refl, ap, subst, arith, sym, ◌∙◌}
-use Rattle.std.specs.Prelude.{◌&&◌, nat_lt}
+use Rattle.std.proofs.Common.{◌≡◌, ℕ, ◌-◌, ◌≤◌, Bool, true, false, None, cond, List, [], ◌∷◌, ◌++◌, map, refl, ap, subst, arith, sym, ◌∙◌}
 use Rattle.etagere_base.proofs.TimesLemmas.{hit, times-append}
 use Rattle.etagere_base.specs.Lists.{times}
 use Rattle.etagere_base.specs.declared.frames.Frame.{Frame}
@@ -9,7 +8,7 @@ use Rattle.shelf_heights.proofs.ByHeight.Edited.{Each-rebounded, bounded_as, in_
 use Rattle.shelf_heights.specs.Private.ByHeight.{IsBound, rebounded}
 use Rattle.shelf_heights.specs.declared.by_height.BoundedShelf.{BoundedShelf}
 use Rattle.shelf_model.specs.Choice.{Placement}
-use Rattle.shelf_model.specs.State.{Item, Shelf, empty_shelf, is_free}
+use Rattle.shelf_model.specs.State.{Item, Shelf, empty_shelf}
 use Rattle.shelf_model.specs.Taking.{taken_shelf}
 use Rattle.shelf_notes.specs.Private.Pending.{Notes, is_noted}
 use Rattle.shelf_notes.specs.Private.SecondWidths.{second_at}
@@ -17,7 +16,7 @@ use Rattle.shelf_records.specs.AtlasRecords.{AtlasRecords, item_at, spelled_shel
 use Rattle.shelf_records.specs.Private.Kept.{bare}
 use Rattle.shelf_records.specs.RecordLists.{Entry, Records, shelf_numbers, walked_lists}
 use Rattle.shelf_store.proofs.ByHeight.NumberedShelves.{BoundsAs, HoldIn, IsBoundOf, hold-append, hold-back, hold-changed, hold-numbered, hold-split, numbered-hold}
-use Rattle.shelf_store.proofs.ByHeight.SecondWidths.{only-wider-taken, wider-taken}
+use Rattle.shelf_store.proofs.ByHeight.SecondWidths.{few-of-one, only-wider-taken, wider-taken}
 use Rattle.shelf_store.proofs.ByHeight.SplitByHeight.{used-once}
 use Rattle.shelf_store.proofs.Spelled.TakenKept.{KeepsTaken}
 use Rattle.shelf_store.proofs.Spelled.TakenRests.{list_where}
@@ -29,14 +28,6 @@ use Rattle.shelf_store.specs.Private.Settling.{HoldsExceptNoted}
 abbrev SecondsAs : List ℕ → ℕ → Shelf → Type 0
 SecondsAs seconds n shelf = wider_count (second_at seconds n) shelf.items ≤ 1
 
--- one item is no more than one
-few-of-one : (width : ℕ) (item : Item) → wider_count width (item ∷ []) ≤ 1
-few-of-one width item = by_test (is_free item && nat_lt width item.width)
-  where
-    by_test : (b : Bool) → cond b 1 0 + 0 ≤ 1
-    by_test true = omega arith
-    by_test false = omega arith
-
 -- the list of shelves by height holds with a bound of a shelf that its free items don't pass
 pub rebounded-holds : (atlas : AtlasRecords) (entries : List Entry) (notes : Notes) (by_height : List BoundedShelf) (shelf width : ℕ) → IsBoundOf atlas entries (bounded_as shelf width) → HoldsExceptNoted atlas entries notes by_height → HoldsExceptNoted atlas entries notes (rebounded shelf width by_height)
 rebounded-holds atlas entries notes by_height shelf width bound holds =
@@ -47,6 +38,7 @@ rebounded-holds atlas entries notes by_height shelf width bound holds =
       settled = holds.settled;
       bounds = Each-rebounded Bounded Bounded shelf width by_height (λ one other bounds. bounds)
           (λ one same bounds unnoted. subst (λ (n : ℕ). IsBoundOf atlas entries (bounded_as n width)) (sym same) bound) holds.bounds;
+      parked = holds.parked;
       known = holds.known;
       few = holds.few;
     }

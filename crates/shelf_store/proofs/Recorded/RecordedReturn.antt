@@ -15,7 +15,7 @@ use Rattle.shelf_model.specs.Atlas.{KeepsPromises, without_id}
 use Rattle.shelf_model.specs.Places.{allocations}
 use Rattle.shelf_records.specs.AtlasRecords.{is_allocated_at, item_at, shelf_of}
 use Rattle.shelf_store.specs.Private.Settling.{AreByHeightExceptNoted}
-use Rattle.shelf_notes.specs.Private.Pending.{Notes, is_noted}
+use Rattle.shelf_notes.specs.Private.Pending.{Notes, is_noted, is_parked, is_in_use}
 use Rattle.shelf_store.specs.Private.ItemReturned.{CanReturn, item_returned, unused_by}
 use Rattle.shelf_records.specs.Private.Kept.{AreKept, bare, state_of}
 use Rattle.shelf_store.specs.Private.ReturnedNotes.{CanReturnByHeight, freed_width, returned_by_height, returned_notes}
@@ -32,6 +32,7 @@ use Rattle.shelf_store.proofs.Recorded.RecordedArea.{kept-area}
 use Rattle.shelf_records.proofs.Recorded.RecordsOfIds.{marked-within, record-marked}
 use Rattle.shelf_model.proofs.Returned.ReturnedAllocated.{returned-allocated}
 use Rattle.shelf_records.proofs.Spelled.EntryValues.{id_at}
+use Rattle.shelf_notes.proofs.Noted.{once-true}
 use Rattle.shelf_store.proofs.Spelled.ItemReturned.{ReturnsItem, allocated-id, returns-item}
 use Rattle.shelf_records.proofs.Spelled.StandsKept.{witnesses}
 
@@ -83,18 +84,25 @@ after-return frame records new id number made_unused area kept named made counts
     (item_returned-after frame records id number kept named)))
 
 -- the shelves stand by height after a return, but for those that have changed
-pub by_height-after : (frame : Frame) (records : Records) (notes : Notes) (by_height : List BoundedShelf) (id number : ℕ) → AreKept frame records → AreByHeightExceptNoted frame records notes by_height → record_of records.items id ≡ Some number
+pub by_height-after : (frame : Frame) (records : Records) (notes : Notes) (by_height : List BoundedShelf) (id number : ℕ) → AreKept frame records → is_parked notes (shelf_of records.items number) ≡ false → AreByHeightExceptNoted frame records notes by_height → record_of records.items id ≡ Some number
     → AreByHeightExceptNoted frame (item_returned number records) (returned_notes number records notes)
     (returned_by_height number records notes by_height)
-by_height-after frame records notes by_height id number kept are named = (returns-item frame records number kept (record-marked records.items id number named).0).by_height notes by_height are
+by_height-after frame records notes by_height id number kept unparked are named = (returns-item frame records number kept (record-marked records.items id number named).0).by_height notes by_height unparked are
+
+-- the shelf of the item of the record that an id names is in use
+pub return-in_use : (frame : Frame) (records : Records) (notes : Notes) (by_height : List BoundedShelf) (id number : ℕ) → AreKept frame records → AreByHeightExceptNoted frame records notes by_height → record_of records.items id ≡ Some number
+    → is_in_use notes (shelf_of records.items number) ≡ true
+return-in_use frame records notes by_height id number kept are named =
+    let returns : ReturnsItem frame records number = returns-item frame records number kept (record-marked records.items id number named).0 in
+    once-true (is_in_use notes (shelf_of records.items number)) (omega (arith, are.in_use (shelf_of records.items number), returns.used))
 
 -- the item of the record that an id names can be returned
-pub can-return : (frame : Frame) (records : Records) (notes : Notes) (by_height : List BoundedShelf) (id number : ℕ) → AreKept frame records → AreByHeightExceptNoted frame records notes by_height → record_of records.items id ≡ Some number
+pub can-return : (frame : Frame) (records : Records) (notes : Notes) (by_height : List BoundedShelf) (id number : ℕ) → AreKept frame records → is_parked notes (shelf_of records.items number) ≡ false → AreByHeightExceptNoted frame records notes by_height → record_of records.items id ≡ Some number
     → (number < 65535) × CanReturn number records × CanReturnByHeight (shelf_of records.items number) number records notes by_height
-can-return frame records notes by_height id number kept are named =
+can-return frame records notes by_height id number kept unparked are named =
     let marked : is_allocated_at records.items number ≡ true = (record-marked records.items id number named).0 in
     let returns : ReturnsItem frame records number = returns-item frame records number kept marked in
-    (omega (arith, marked-within records.items number marked, (witnesses kept).counts.items.1), returns.can, returns.can_by_height notes by_height are)
+    (omega (arith, marked-within records.items number marked, (witnesses kept).counts.items.1), returns.can, returns.can_by_height notes by_height unparked are)
 
 -- the bound that a list has of a shelf is one of those that hold of it
 bound-read : (P : ℕ → Type 0) (shelf : ℕ) (by_height : List BoundedShelf) → 1 ≤ times shelf (numbers_by_height by_height) → AllByRecursion (λ (one : BoundedShelf). one.shelf ≡ shelf → P one.widest) by_height → P (bound_of shelf by_height)
@@ -108,12 +116,12 @@ bound-read P shelf (one ∷ others) stands each = by_test (one.shelf == shelf) r
         rest (omega (arith, stands, times-other shelf one.shelf (numbers_by_height others) other))
 
 -- no more than one free item of each shelf passes the width that is kept of it after a return
-pub seconds-after-return : (frame : Frame) (records : Records) (notes : Notes) (by_height : List BoundedShelf) (seconds : List ℕ) (id number : ℕ) → AreKept frame records → AreByHeightExceptNoted frame records notes by_height → record_of records.items id ≡ Some number
+pub seconds-after-return : (frame : Frame) (records : Records) (notes : Notes) (by_height : List BoundedShelf) (seconds : List ℕ) (id number : ℕ) → AreKept frame records → is_parked notes (shelf_of records.items number) ≡ false → AreByHeightExceptNoted frame records notes by_height → record_of records.items id ≡ Some number
     → freed_width records.items number ≤ 65535 → AreSeconds records seconds → AreSeconds (item_returned number records) (returned_seconds number records notes by_height seconds)
-seconds-after-return frame records notes by_height seconds id number kept are named narrow few =
+seconds-after-return frame records notes by_height seconds id number kept unparked are named narrow few =
     let returns : ReturnsItem frame records number = returns-item frame records number kept (record-marked records.items id number named).0 in
     let shelf : ℕ = shelf_of records.items number in
-    let can = returns.can_by_height notes by_height are in
+    let can = returns.can_by_height notes by_height unparked are in
     returns.seconds seconds (is_noted (returned_notes number records notes) shelf) (bound_of shelf by_height)
     (λ later.
     let unnoted : is_noted notes shelf ≡ false = (returned-later number records notes).before shelf later in

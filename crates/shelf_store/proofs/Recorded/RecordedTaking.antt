@@ -1,7 +1,7 @@
 -- What an allocation leaves of an atlas: the state that its records spell, and what is counted beside them.
-use Rattle.std.proofs.Common.{◌≡◌, ℕ, ◌+◌, ◌<◌, ◌≤◌, false, Option, None, Some, IfSome, List, ◌∷◌, length, refl, ap, sym, subst, ◌∙◌, arith}
+use Rattle.std.proofs.Common.{◌≡◌, ℕ, ◌+◌, ◌<◌, ◌≤◌, false, Option, None, Some, IfSome, List, ◌∷◌, length, refl, ap, sym, subst, ◌∙◌, arith, Bool, true, cond}
 use Rattle.std.proofs.lemmas.List.{length-map}
-use Rattle.std.specs.Prelude.{◌^◌}
+use Rattle.std.specs.Prelude.{◌^◌, ◌&&◌, not}
 use Rattle.std.specs.Option.{option_map_or}
 use Rattle.etagere_base.specs.declared.frames.Frame.{Frame}
 use Rattle.etagere_base.specs.declared.geometry.Rectangle.{Rectangle}
@@ -10,12 +10,12 @@ use Rattle.etagere_base.specs.declared.ids.Allocation.{Allocation}
 use Rattle.shelf_heights.specs.Private.ByHeight.{numbers_by_height, rebounded}
 use Rattle.shelf_records.specs.RecordLists.{Records, shelf_numbers, walked_lists}
 use Rattle.shelf_model.specs.Choice.{Placement, area, rectangle_of_placement, splits}
-use Rattle.shelf_notes.specs.Private.Pending.{Notes, is_noted, once_where}
+use Rattle.shelf_notes.specs.Private.Pending.{Notes, is_noted, once_where, is_in_use, noted_as}
 use Rattle.shelf_notes.specs.Private.SecondWidths.{second_at}
 use Rattle.shelf_records.specs.Private.Kept.{AreKept, Finds, bare, state_of}
 use Rattle.shelf_store.specs.Private.PlacementTaken.{CanTakeFrom, id_of, placement_taken, taken_notes}
 use Rattle.shelf_store.specs.Private.SecondWidths.{AreSeconds, FollowsTaking, IsBoundLeft}
-use Rattle.shelf_store.specs.Private.Settling.{AreByHeightExceptNoted}
+use Rattle.shelf_store.specs.Private.Settling.{AreByHeightExceptNoted, HoldsExceptNoted}
 use Rattle.shelf_model.specs.Space.{allocated_space}
 use Rattle.shelf_model.specs.State.{AtlasState, items_in_use}
 use Rattle.shelf_model.specs.Taking.{taken}
@@ -35,6 +35,9 @@ use Rattle.shelf_model.proofs.Taken.Allocated.{Allocated, taken-allocated}
 use Rattle.shelf_model.proofs.Taken.TakenSpace.{space-taken}
 use Rattle.shelf_model.proofs.Taken.TakenValid.{taken-items_in_use}
 use Rattle.shelf_records.proofs.Spelled.StandsKept.{witnesses}
+use Rattle.shelf_notes.proofs.Noted.{in_use-within, once-true}
+use Rattle.shelf_store.specs.Private.FoundNotes.{found_notes, leaves_narrow}
+use Rattle.shelf_store.proofs.ByHeight.ParkedShelves.{noted-holds}
 
 -- what was found in records has the rectangle, the area and the splits of the placement that it stands for
 pub record AsPlaced (frame : Frame) (found placement : Placement) : Type 0 where
@@ -116,6 +119,29 @@ pub found-stands : (frame : Frame) (records : Records) (size : Size) (found : Pl
     → is_noted notes found.shelf ≡ false → 1 ≤ times found.shelf (numbers_by_height by_height)
 found-stands frame records size found notes by_height kept finds holds unnoted =
     omega (arith, holds.listed found.shelf, holds.in_use found.shelf, found-in_use frame records size found kept finds, ap once_where (holds.settled found.shelf unnoted).listed)
+
+-- and what was noted may be noted of it too, where it has not changed
+pub found-noted : (frame : Frame) (records new : Records) (size : Size) (found : Placement) (notes : Notes) (by_height : List BoundedShelf) → AreKept frame records → Finds frame records size found
+    → HoldsExceptNoted (bare frame records) (walked_lists records).entries notes by_height
+    → (list : List BoundedShelf) → AreByHeightExceptNoted frame new (taken_notes found records notes) list → AreByHeightExceptNoted frame new (found_notes found records notes) list
+found-noted frame records new size found notes by_height kept finds holds list after = by_width (leaves_narrow records.items notes found) refl
+  where
+    in_use : is_in_use notes found.shelf ≡ true
+    in_use = once-true (is_in_use notes found.shelf) (omega (arith, holds.in_use found.shelf, found-in_use frame records size found kept finds))
+
+    whole : (a b c : Bool) → (a && (not b && c)) ≡ true → b ≡ false
+    whole false b c so = absurd (cc)
+    whole true true c so = absurd (cc)
+    whole true false c so = refl
+
+    by_width : (b : Bool) → leaves_narrow records.items notes found ≡ b → AreByHeightExceptNoted frame new (cond b (noted_as found.shelf true (taken_notes found records notes)) (taken_notes found records notes)) list
+    by_width true e =
+        let none : found.splits_shelf ≡ false = whole notes.has_parked found.splits_shelf _ e in
+        let same : taken_notes found records notes ≡ notes = rw none refl in
+        noted-holds (bare frame new) (walked_lists new).entries (taken_notes found records notes) list found.shelf
+        (omega (arith, in_use-within notes.standing found.shelf in_use, ap (λ (n : Notes). length n.standing) same))
+        (ap (λ (n : Notes). is_in_use n found.shelf) same ∙ in_use) after
+    by_width false e = after
 
 -- what holds after what was found for a size was taken, of the records and of the id
 pub record AfterTaking (frame : Frame) (records : Records) (size : Size) (found : Placement) (allocation : Allocation) (new : Records) : Type 0 where

@@ -2,7 +2,7 @@
 use Rattle.shelf_records.proofs.AllLists.LinkedEdits.{Around, around_of, with_entry}
 use Rattle.std.proofs.Common.{◌≡◌, ◌≢◌, ℕ, zero, suc, Bool, ◌*◌, ◌+◌, ◌≤◌, true, false, set, None, Some, List, [], ◌∷◌, ◌++◌, length, map, refl, ap, subst, arith, sym, ◌∙◌}
 use Rattle.std.proofs.lemmas.List.{length-map, map-append}
-use Rattle.std.specs.Prelude.{nat_lt}
+use Rattle.std.specs.Prelude.{nat_lt, if◌then◌else◌}
 use Rattle.etagere_base.specs.declared.frames.Frame.{Frame}
 use Rattle.etagere_base.proofs.EachLemmas.{Each-front, Each-back, Each-middle, Each-weaken}
 use Rattle.etagere_base.proofs.FrameSides.{sides_low}
@@ -12,7 +12,7 @@ use Rattle.etagere_base.specs.Lists.{times}
 use Rattle.etagere_base.specs.MergingAt.{merged_at, merged_before}
 use Rattle.shelf_records.proofs.AllLists.LinkedItems.{entry_of}
 use Rattle.shelf_records.specs.declared.records.LinkedItem.{LinkedItem}
-use Rattle.shelf_records.specs.RecordLists.{Records, Entry, Lists, IsLinked, shelf_numbers, walked_lists}
+use Rattle.shelf_records.specs.RecordLists.{Records, Entry, IsEntry, Lists, IsLinked, first_item_of, shelf_numbers, walked_lists}
 use Rattle.etagere_links.specs.Edits.{field_at}
 use Rattle.shelf_records.proofs.AllLists.LinkedFrames.{shelf_numbers-append}
 use Rattle.shelf_records.proofs.AllLists.LinkedUnused.{lists_of}
@@ -21,33 +21,35 @@ use Rattle.etagere_links.proofs.ListEnds.{times-here}
 use Rattle.shelf_records.specs.AtlasRecords.{AtlasRecords, is_allocated_at, item_at, shelf_of, spelled_item, spelled_shelf, spelled_state}
 use Rattle.shelf_model.specs.Merging.{both_empty, combined_shelves, merged_shelf}
 use Rattle.shelf_model.specs.Places.{column_height}
-use Rattle.shelf_store.specs.Private.ItemReturned.{CanMergeItem, CanMergeShelves, CanReturn, IsLinkedBack, IsRemaining, Step, emptiness_said, item_merged, item_returned, merged_width, unused_by, shelves_merged}
-use Rattle.shelf_store.specs.Private.SecondWidths.{AreSecondsOf, second_after}
+use Rattle.shelf_store.specs.Private.ItemReturned.{CanMergeItem, CanMergeShelves, CanReturn, IsLinkedBack, IsRemaining, Step, emptiness_said, has_one_free, item_merged, item_returned, merged_width, unused_by, shelves_merged}
+use Rattle.shelf_store.specs.Private.SecondWidths.{AreSecondsOf, second_after, stands_alone}
 use Rattle.shelf_store.specs.Private.Settling.{AreByHeightExceptNoted, HoldsExceptNoted}
 use Rattle.shelf_heights.proofs.ByHeight.Edited.{bounded_as}
 use Rattle.shelf_heights.specs.Private.ByHeight.{IsBound}
-use Rattle.shelf_notes.specs.Private.Pending.{Notes, is_in_use, is_noted, once_where}
+use Rattle.shelf_notes.specs.Private.Pending.{Notes, is_in_use, is_noted, is_parked, once_where}
 use Rattle.shelf_notes.specs.Private.SecondWidths.{second_at}
 use Rattle.shelf_records.specs.Private.Kept.{AreKept, atlas_of, bare, state_of}
 use Rattle.shelf_records.proofs.Spelled.Witnessed.{HasFlag, IsPlaced}
 use Rattle.shelf_store.specs.Private.ReturnedNotes.{CanReturnByHeight, freed_width, raised_unless, returned_by_height, returned_notes, shelves_merged_notes}
 use Rattle.shelf_model.specs.Returning.{freed_shelf, returned}
-use Rattle.shelf_model.specs.State.{Shelf, AtlasState, items_in_use}
+use Rattle.shelf_model.specs.State.{Shelf, AtlasState, is_empty, items_in_use}
 use Rattle.shelf_records.specs.StandsFor.{HasCounts}
 use Rattle.shelf_model.specs.Valid.{IsShelf, IsValid}
 use Rattle.shelf_heights.specs.declared.by_height.BoundedShelf.{BoundedShelf}
 use Rattle.shelf_store.proofs.ByHeight.FreedByHeight.{FreesByHeight, FreesSeconds, frees-by_height, frees-seconds}
+use Rattle.shelf_store.proofs.ByHeight.KeptSeconds.{seconds-beside}
 use Rattle.shelf_store.proofs.ByHeight.LaterNotes.{merged_all-later, raised-later}
 use Rattle.shelf_store.proofs.ByHeight.NumberedShelves.{IsBoundOf}
 use Rattle.shelf_notes.proofs.Noted.{in_use-within, once-true}
 use Rattle.shelf_model.proofs.Places.Heights.{column_height-append, column_height-none}
 use Rattle.shelf_model.proofs.Returned.ReturnedValid.{returned-valid}
-use Rattle.shelf_store.proofs.Spelled.EmptinessSaid.{IsFlagged, emptiness_said-flagged, flags-same}
+use Rattle.shelf_store.proofs.Spelled.EmptinessSaid.{IsFlagged, emptiness_said-flagged, flags-same, one-free}
 use Rattle.shelf_records.proofs.Spelled.EntryValues.{id_at}
 use Rattle.shelf_store.proofs.Spelled.ItemFits.{can-merge-item}
 use Rattle.shelf_store.proofs.Spelled.RemainingItem.{item-remaining}
 use Rattle.shelf_store.proofs.Spelled.ItemLocated.{HasItem, in-use-counted, located}
 use Rattle.shelf_store.proofs.Spelled.ItemMerged.{MergesItem, merges-item}
+use Rattle.shelf_store.proofs.Spelled.ItemsAround.{map-parts}
 use Rattle.shelf_store.proofs.Spelled.NeighboursMerged.{AreLow, MergesShelves, can-merge-all-notes, can-merge-shelves, merges-shelves, shelf-before}
 use Rattle.shelf_store.proofs.Spelled.ReturnedAt.{returned-at}
 use Rattle.shelf_store.proofs.Spelled.ReturnedLengths.{SameLengths, returned-lengths, counts-same}
@@ -66,6 +68,10 @@ record IsFreed (atlas : AtlasRecords) (records : Records) (made_unused : ℕ) (a
       ≡ map (spelled_shelf atlas) around.before ++ merged_shelf (freed_shelf atlas.frame (length front) (spelled_shelf atlas (entry_of shelf (front ++ number ∷ back) free))) ∷ map (spelled_shelf atlas) around.after
   counted : length left_unused ≡ made_unused + length around.unused_items
   frees_seconds : FreesSeconds atlas (with_records atlas records) (around.before ++ entry_of shelf (front ++ number ∷ back) free ∷ around.after) (around.before ++ entry_of shelf numbers free_list ∷ around.after) (entry_of shelf (front ++ number ∷ back) free) (freed_width atlas.records.items number)
+  stay_seconds :
+      has_one_free shelf (item_merged shelf number atlas.records).records ≡ true → (seconds : List ℕ)
+      → AreSecondsOf atlas.records.items (around.before ++ entry_of shelf (front ++ number ∷ back) free ∷ around.after) seconds
+      → AreSecondsOf records.items (around.before ++ entry_of shelf numbers free_list ∷ around.after) seconds
   frees : FreesByHeight atlas (with_records atlas records) (around.before ++ entry_of shelf (front ++ number ∷ back) free ∷ around.after) (around.before ++ entry_of shelf numbers free_list ∷ around.after) shelf (freed_width atlas.records.items number)
 
 -- an item was freed and merged, and its shelf says whether it is empty
@@ -81,6 +87,10 @@ freed-flagged {atlas} around shelf number front back free valid allocated flagge
     (flags-same atlas middle around.before (λ k stands. (merges.same k).is_empty) merges.before_same (Each-front (HasFlag atlas) around.before (entry ∷ around.after) flagged.flags))
     (flags-same atlas middle around.after (λ k stands. (merges.same k).is_empty) merges.after_same (Each-back (HasFlag atlas) around.before (entry ∷ around.after) flagged.flags).1)
     merges.spelled in
+    let three : AtlasRecords = with_records atlas (emptiness_said shelf one.records) in
+    let others = map-parts (spelled_shelf three) (spelled_shelf middle) around.before new (spelled_shelf middle new) around.after (said.1 ∙ map-append (spelled_shelf middle) around.before (new ∷ around.after)) in
+    let is : IsEntry one.records new = Each-middle (IsEntry one.records) around.before new around.after merges.spelled.linked.entries in
+    let empty : has_one_free shelf one.records ≡ is_empty (spelled_shelf three new) = one-free one.records.items (first_item_of one.records.shelves shelf) merges.numbers is.items in
     record {
       numbers = merges.numbers;
       free_list = merges.free_list;
@@ -93,6 +103,7 @@ freed-flagged {atlas} around shelf number front back free valid allocated flagge
           ∙ ap (λ (ss : List Shelf). map (spelled_shelf atlas) around.before ++ merged_shelf (freed_shelf atlas.frame (length front) (spelled_shelf atlas entry)) ∷ ss) merges.after_same;
       counted = merges.counted;
       frees_seconds = frees-seconds atlas around shelf number front back free valid flagged.spelled merges said.1;
+      stay_seconds = λ alone seconds are. seconds-beside atlas three around.before around.after entry new seconds (others.0 ∙ merges.before_same) (others.1 ∙ merges.after_same) (sym empty ∙ alone) are;
       frees = frees-by_height atlas around shelf number front back free valid flagged.spelled merges said.1;
     }
 
@@ -106,51 +117,58 @@ low-valid state valid column = by_test (nat_lt column state.frame.columns) refl
         let past : state.frame.columns ≤ column = grind arith in
         omega (arith, column_height-none column state.shelves (Each-weaken (IsShelf state.frame) (λ (s : Shelf). s.column ≢ column) state.shelves (λ (s : Shelf) (is : IsShelf state.frame s) same. omega (arith, is.column, past, same)) valid.shelves))
 
--- the widths that are kept of shelves after an item of this width became free in one of them, which has this bound unless it
--- has changed
-abbrev pub ReturnsSeconds : Frame → Records → List Entry → Records → List Entry → ℕ → ℕ → Type 0
-ReturnsSeconds frame records entries new edited shelf width =
+-- the widths that are kept of shelves after an item of this width became free in one of them, where it may stand alone; that
+-- shelf has this bound unless it has changed
+abbrev pub ReturnsSeconds : Frame → Records → List Entry → Records → List Entry → ℕ → ℕ → Bool → Type 0
+ReturnsSeconds frame records entries new edited shelf width alone =
     (seconds : List ℕ) (changed : Bool) (bound : ℕ) → (changed ≡ false → IsBoundOf (bare frame records) entries (bounded_as shelf bound)) → width ≤ 65535 → AreSecondsOf records.items entries seconds
-    → AreSecondsOf new.items edited (set seconds shelf (second_after changed width bound (second_at seconds shelf)))
+    → AreSecondsOf new.items edited (if alone then seconds else set seconds shelf (second_after changed width bound (second_at seconds shelf)))
+
+-- what holds of the one where a test is true, and of the other one
+holds-either : (P : List ℕ → Type 0) (test : Bool) (one other : List ℕ) → (test ≡ true → P one) → P other → P (if test then one else other)
+holds-either P true one other first second = first refl
+holds-either P false one other first second = second
 
 -- what is known of records after the item of a number was returned
 pub record ReturnsItem (frame : Frame) (records : Records) (number : ℕ) : Type 0 where
   pub can : CanReturn number records
+  pub used : 1 ≤ times (shelf_of records.items number) (shelf_numbers (walked_lists records).entries)
   pub kept : AreKept frame (item_returned number records)
   pub state : state_of frame (item_returned number records) ≡ returned (state_of frame records) (id_at records.items number)
   pub counted : items_in_use (state_of frame (item_returned number records)).shelves + unused_by number records ≡ items_in_use (state_of frame records).shelves
-  pub can_by_height : (notes : Notes) (by_height : List BoundedShelf) → AreByHeightExceptNoted frame records notes by_height → CanReturnByHeight (shelf_of records.items number) number records notes by_height
+  pub can_by_height : (notes : Notes) (by_height : List BoundedShelf) → is_parked notes (shelf_of records.items number) ≡ false → AreByHeightExceptNoted frame records notes by_height → CanReturnByHeight (shelf_of records.items number) number records notes by_height
   pub by_height :
-      (notes : Notes) (by_height : List BoundedShelf) → AreByHeightExceptNoted frame records notes by_height
+      (notes : Notes) (by_height : List BoundedShelf) → is_parked notes (shelf_of records.items number) ≡ false → AreByHeightExceptNoted frame records notes by_height
       → AreByHeightExceptNoted frame (item_returned number records) (returned_notes number records notes)
       (returned_by_height number records notes by_height)
   pub seconds : ReturnsSeconds frame records (walked_lists records).entries (item_returned number records) (walked_lists (item_returned number records)).entries (shelf_of records.items number) (freed_width records.items number)
+      (stands_alone (shelf_of records.items number) number records)
 
 -- records after a return, by the lists that they spell
-record IsReturned (atlas : AtlasRecords) (step : Step) (old : List Entry) (change : Notes → Notes) (shelf width : ℕ) (state : AtlasState) (unused : List ℕ) : Type 0 where
+record IsReturned (atlas : AtlasRecords) (step : Step) (old : List Entry) (change : Notes → Notes) (shelf width : ℕ) (alone : Bool) (state : AtlasState) (unused : List ℕ) : Type 0 where
   lists : Lists
   flagged : IsFlagged (with_records atlas step.records) lists
   spelled : map (spelled_shelf (with_records atlas step.records)) lists.entries ≡ state.shelves
   counted : length lists.unused_items ≡ step.made_unused + length unused
   holds :
-      (notes : Notes) (by_height : List BoundedShelf) → HoldsExceptNoted atlas old notes by_height
+      (notes : Notes) (by_height : List BoundedShelf) → is_parked notes shelf ≡ false → HoldsExceptNoted atlas old notes by_height
       → HoldsExceptNoted (with_records atlas step.records) lists.entries (change notes) (raised_unless (is_noted (change notes) shelf) shelf width by_height)
-  seconds : ReturnsSeconds atlas.frame atlas.records old step.records lists.entries shelf width
+  seconds : ReturnsSeconds atlas.frame atlas.records old step.records lists.entries shelf width alone
 
 -- what holds of kept records holds of the atlas that they are of, and back
 holds-kept : (frame : Frame) (records : Records) (notes : Notes) (by_height : List BoundedShelf) → AreByHeightExceptNoted frame records notes by_height → HoldsExceptNoted (atlas_of frame records) (walked_lists records).entries notes by_height
 holds-kept frame records notes by_height holds =
-    record { listed = holds.listed; in_use = holds.in_use; order = holds.order; settled = holds.settled; bounds = holds.bounds; known = holds.known; few = holds.few }
+    record { listed = holds.listed; in_use = holds.in_use; order = holds.order; settled = holds.settled; bounds = holds.bounds; parked = λ k so. let is = holds.parked k so in record { unlisted = is.unlisted; some = is.some; narrow = is.narrow }; known = holds.known; few = holds.few }
 
 holds-walked : (frame : Frame) (records new : Records) (lists : Lists) (notes : Notes) (by_height : List BoundedShelf) → walked_lists new ≡ lists → HoldsExceptNoted (with_records (atlas_of frame records) new) lists.entries notes by_height → AreByHeightExceptNoted frame new notes by_height
 holds-walked frame records new lists notes by_height walked holds =
     subst (λ (l : Lists). HoldsExceptNoted (bare frame new) l.entries notes by_height) (sym walked)
-    (record { listed = holds.listed; in_use = holds.in_use; order = holds.order; settled = holds.settled; bounds = holds.bounds; known = holds.known; few = holds.few })
+    (record { listed = holds.listed; in_use = holds.in_use; order = holds.order; settled = holds.settled; bounds = holds.bounds; parked = λ k so. let is = holds.parked k so in record { unlisted = is.unlisted; some = is.some; narrow = is.narrow }; known = holds.known; few = holds.few })
 
 -- records that spell lists keep every rule again where what they spell is valid
-kept-again : (frame : Frame) (records new : Records) (id left_unused : ℕ) (change : Notes → Notes) (shelf width : ℕ) → AreKept frame records → SameLengths records new → IsReturned (atlas_of frame records) (record { records = new; made_unused = left_unused }) (walked_lists records).entries change shelf width (returned (state_of frame records) id) (walked_lists records).unused_items → (AreKept frame new × (state_of frame new ≡ returned (state_of frame records) id)) × (items_in_use (state_of frame new).shelves + left_unused ≡ items_in_use (state_of frame records).shelves) × ((notes : Notes) (by_height : List BoundedShelf) → AreByHeightExceptNoted frame records notes by_height → AreByHeightExceptNoted frame new (change notes) (raised_unless (is_noted (change notes) shelf) shelf width by_height))
-    × ReturnsSeconds frame records (walked_lists records).entries new (walked_lists new).entries shelf width
-kept-again frame records new id left_unused change shelf width kept lengths is =
+kept-again : (frame : Frame) (records new : Records) (id left_unused : ℕ) (change : Notes → Notes) (shelf width : ℕ) (alone : Bool) → AreKept frame records → SameLengths records new → IsReturned (atlas_of frame records) (record { records = new; made_unused = left_unused }) (walked_lists records).entries change shelf width alone (returned (state_of frame records) id) (walked_lists records).unused_items → (AreKept frame new × (state_of frame new ≡ returned (state_of frame records) id)) × (items_in_use (state_of frame new).shelves + left_unused ≡ items_in_use (state_of frame records).shelves) × ((notes : Notes) (by_height : List BoundedShelf) → is_parked notes shelf ≡ false → AreByHeightExceptNoted frame records notes by_height → AreByHeightExceptNoted frame new (change notes) (raised_unless (is_noted (change notes) shelf) shelf width by_height))
+    × ReturnsSeconds frame records (walked_lists records).entries new (walked_lists new).entries shelf width alone
+kept-again frame records new id left_unused change shelf width alone kept lengths is =
     let lists : Lists = is.lists in
     let linked : IsLinked new lists = is.flagged.spelled.linked in
     let counts : HasCounts (atlas_of frame new) = counts-same (atlas_of frame records) (atlas_of frame new) lengths (witnesses kept).counts in
@@ -181,8 +199,8 @@ kept-again frame records new id left_unused change shelf width kept lengths is =
         state,
       ),
       omega (arith, in_use, old_count, new_count, is.counted, lengths.items),
-      λ notes by_height holds. holds-walked frame records new lists (change notes) (raised_unless (is_noted (change notes) shelf) shelf width by_height) walked (is.holds notes by_height (holds-kept frame records notes by_height holds)),
-      λ seconds changed bound bounds narrow are. subst (λ (l : Lists). AreSecondsOf new.items l.entries (set seconds shelf (second_after changed width bound (second_at seconds shelf)))) (sym walked) (is.seconds seconds changed bound bounds narrow are),
+      λ notes by_height unparked holds. holds-walked frame records new lists (change notes) (raised_unless (is_noted (change notes) shelf) shelf width by_height) walked (is.holds notes by_height unparked (holds-kept frame records notes by_height holds)),
+      λ seconds changed bound bounds narrow are. subst (λ (l : Lists). AreSecondsOf new.items l.entries (if alone then seconds else set seconds shelf (second_after changed width bound (second_at seconds shelf)))) (sym walked) (is.seconds seconds changed bound bounds narrow are),
     )
 
 -- the id of an allocated item
@@ -208,12 +226,12 @@ shelves-after frame peak_items n after middle whole spelled at same merged = rw 
 
 -- what is known of a return of an item of this shelf
 record Returns (frame : Frame) (records : Records) (shelf number : ℕ) : Type 0 where
-  after : IsReturned (atlas_of frame records) (returned_in shelf number records) (walked_lists records).entries (notes_in shelf number records) shelf (freed_width records.items number) (returned (state_of frame records) (id_at records.items number)) (walked_lists records).unused_items
+  after : IsReturned (atlas_of frame records) (returned_in shelf number records) (walked_lists records).entries (notes_in shelf number records) shelf (freed_width records.items number) (stands_alone shelf number records) (returned (state_of frame records) (id_at records.items number)) (walked_lists records).unused_items
   can_item : CanMergeItem shelf number records
   remains : IsRemaining shelf number records
   can_shelves : CanMergeShelves shelf (emptiness_said shelf (item_merged shelf number records).records)
   linked : IsLinkedBack shelf (emptiness_said shelf (item_merged shelf number records).records).shelves
-  can_by_height : (notes : Notes) (by_height : List BoundedShelf) → AreByHeightExceptNoted frame records notes by_height → CanReturnByHeight shelf number records notes by_height
+  can_by_height : (notes : Notes) (by_height : List BoundedShelf) → is_parked notes shelf ≡ false → AreByHeightExceptNoted frame records notes by_height → CanReturnByHeight shelf number records notes by_height
 
 -- an allocated item was returned that stands there
 returned-there : (frame : Frame) (records : Records) (number : ℕ) (has : HasItem number (walked_lists records).entries) → AreKept frame records → is_allocated_at records.items number ≡ true → IsFlagged (atlas_of frame records) (lists_of (has.before ++ entry_of has.shelf (has.front ++ number ∷ has.back) has.free ∷ has.after) (walked_lists records).unused_items (walked_lists records).unused_shelves) → Returns frame records has.shelf number
@@ -255,19 +273,23 @@ returned-there frame records number has kept allocated flagged =
             spelled = shelves-after frame state.peak_items (length has.before) (returned state (id_at records.items number)) (map (spelled_shelf middle) (has.before ++ edited ∷ has.after)) (front ++ new ∷ back)
                 (map (spelled_shelf (with_records atlas two.records)) merges.entries) at freed.spelled merges.merged;
             counted = omega (arith, merges.counted, freed.counted);
-            holds = λ notes by_height holds. raised-later (with_records atlas two.records) merges.entries notes (shelves_merged_notes shelf three notes) shelf (freed_width records.items number) by_height (merged_all-later shelf three notes)
-                (merges.holds notes (raised_unless (is_noted notes shelf) shelf (freed_width records.items number) by_height) (freed.frees notes by_height (start notes by_height holds)));
+            holds = λ notes by_height unparked holds. raised-later (with_records atlas two.records) merges.entries notes (shelves_merged_notes shelf three notes) shelf (freed_width records.items number) by_height (merged_all-later shelf three notes)
+                (merges.holds notes (raised_unless (is_noted notes shelf) shelf (freed_width records.items number) by_height) (freed.frees notes by_height unparked (start notes by_height holds)));
             seconds = λ seconds changed bound bounds narrow are.
-                merges.seconds (set seconds shelf (second_after changed (freed_width records.items number) bound (second_at seconds shelf)))
+                let anew : List ℕ = set seconds shelf (second_after changed (freed_width records.items number) bound (second_at seconds shelf)) in
+                let before : AreSecondsOf records.items (has.before ++ entry ∷ has.after) seconds = subst (λ (es : List Entry). AreSecondsOf records.items es seconds) has.whole are in
+                merges.seconds (if stands_alone shelf number records then seconds else anew)
+                (holds-either (AreSecondsOf three.items (has.before ++ edited ∷ has.after)) (stands_alone shelf number records) seconds anew
+                (λ alone. freed.stay_seconds (remaining.0.alone ∙ alone) seconds before)
                 (freed.frees_seconds seconds changed bound
                 (λ unchanged. Each-middle (λ (e : Entry). e.number ≡ shelf → IsBound bound (spelled_shelf atlas e)) has.before entry has.after (subst (λ (es : List Entry). AllByRecursion (λ (e : Entry). e.number ≡ shelf → IsBound bound (spelled_shelf atlas e)) es) has.whole (bounds unchanged)) refl)
-                narrow (subst (λ (es : List Entry). AreSecondsOf records.items es seconds) has.whole are));
+                narrow before));
           };
       remains = remaining.0;
       can_item = can-merge-item (around_of has.before has.after unused gone) shelf number has.front has.back has.free (witnesses kept).valid.frame valid allocated flagged.spelled;
       linked = shelf-before (around_of has.before has.after freed.left_unused gone) edited freed.flagged;
       can_shelves = can-merge-shelves (around_of has.before has.after freed.left_unused gone) edited low freed.flagged;
-      can_by_height = λ notes by_height are.
+      can_by_height = λ notes by_height unparked are.
           let holds : HoldsExceptNoted atlas (has.before ++ entry ∷ has.after) notes by_height = start notes by_height (holds-kept frame records notes by_height are) in
           let in_use : 1 ≤ once_where (is_in_use notes shelf) =
           omega (
@@ -282,7 +304,7 @@ returned-there frame records number has kept allocated flagged =
             known = in_use-within notes.standing shelf (once-true (is_in_use notes shelf) in_use);
             stands = λ unnoted. omega (arith, holds.listed shelf, in_use, ap once_where (holds.settled shelf unnoted).listed);
             order = holds.order;
-            shelves = can-merge-all-notes (around_of has.before has.after freed.left_unused gone) edited notes (raised_unless (is_noted notes shelf) shelf (freed_width records.items number) by_height) freed.flagged (freed.frees notes by_height holds);
+            shelves = can-merge-all-notes (around_of has.before has.after freed.left_unused gone) edited notes (raised_unless (is_noted notes shelf) shelf (freed_width records.items number) by_height) freed.flagged (freed.frees notes by_height unparked holds);
           };
     }
 
@@ -301,9 +323,17 @@ returns-item frame records number kept allocated =
     let own : shelf_of records.items number ≡ has.shelf = (Each-back (λ item. shelf_of records.items item ≡ has.shelf) has.front (number ∷ has.back) placed.owners).0 in
     let there : Returns frame records (shelf_of records.items number) number =
     subst (λ shelf. Returns frame records shelf number) (sym own) (returned-there frame records number has kept allocated flagged) in
-    let again = kept-again frame records (item_returned number records) (id_at records.items number) (unused_by number records) (returned_notes number records) (shelf_of records.items number) (freed_width records.items number) kept (returned-lengths number records) there.after in
+    let again = kept-again frame records (item_returned number records) (id_at records.items number) (unused_by number records) (returned_notes number records) (shelf_of records.items number) (freed_width records.items number) (stands_alone (shelf_of records.items number) number records) kept (returned-lengths number records) there.after in
     record {
       can = record { item = there.can_item; remaining = there.remains; shelves = there.can_shelves; linked = there.linked };
+      used = rw own
+          (omega (
+            arith,
+            ap (λ (es : List Entry). times has.shelf (shelf_numbers es)) has.whole,
+            ap (times has.shelf) (shelf_numbers-append has.before (entry ∷ has.after)),
+            times-append has.shelf (shelf_numbers has.before) (has.shelf ∷ shelf_numbers has.after),
+            times-here has.shelf (shelf_numbers has.after),
+          ));
       kept = again.0.0;
       state = again.0.1;
       counted = again.1;

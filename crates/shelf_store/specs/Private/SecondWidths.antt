@@ -11,10 +11,11 @@ use Rattle.shelf_heights.specs.declared.by_height.BoundedShelf.{BoundedShelf}
 use Rattle.shelf_model.specs.Choice.{Placement}
 use Rattle.shelf_model.specs.State.{Item, is_free}
 use Rattle.shelf_notes.specs.Private.Pending.{Notes, is_noted}
-use Rattle.shelf_notes.specs.Private.SecondWidths.{second_at}
+use Rattle.shelf_notes.specs.Private.SecondWidths.{second_at, second_freed}
 use Rattle.shelf_records.specs.AtlasRecords.{item_at, shelf_of}
 use Rattle.shelf_records.specs.RecordLists.{Entry, Records, walked_lists}
 use Rattle.shelf_records.specs.declared.records.LinkedItem.{LinkedItem}
+use Rattle.shelf_store.specs.Private.ItemReturned.{is_alone, item_merged, remaining_in}
 use Rattle.shelf_store.specs.Private.ReturnedNotes.{freed_width, returned_notes}
 
 -- whether an item is free and wider than this, as a number
@@ -37,24 +38,26 @@ AreSecondsOf items entries seconds = AllByRecursion (IsSecondOf items seconds) e
 abbrev pub AreSeconds : Records → List ℕ → Type 0
 AreSeconds records seconds = AreSecondsOf records.items (walked_lists records).entries seconds
 
--- the width of a shelf of which this was the bound, once an item as wide as this became free: where that is the widest, no
--- other one passes the bound
+-- the width of a shelf once an item as wide as this became free; the bound of one that has changed isn't known
 abbrev pub second_after : Bool → ℕ → ℕ → ℕ → ℕ
-second_after changed width bound second =
-    if changed
-    then max second width
-    else (if nat_lt bound width then bound else max second width)
+second_after changed width bound second = if changed then max second width else second_freed bound width second
 
--- all widths then; the bound of a shelf that has changed isn't known
+-- all widths then
 abbrev pub seconds_after : Bool → ℕ → ℕ → List BoundedShelf → List ℕ → List ℕ
 seconds_after changed shelf width by_height seconds =
     set seconds shelf (second_after changed width (bound_of shelf by_height) (second_at seconds shelf))
 
--- all widths after the item of a number was returned
+-- whether the item that remains of one that was returned stands alone in its shelf
+abbrev pub stands_alone : ℕ → ℕ → Records → Bool
+stands_alone shelf number records = is_alone (item_merged shelf number records).records.items (remaining_in shelf number records)
+
+-- all widths after the item of a number was returned; any is right of a shelf with one free item
 abbrev pub returned_seconds : ℕ → Records → Notes → List BoundedShelf → List ℕ → List ℕ
 returned_seconds number records notes by_height seconds =
     let shelf = shelf_of records.items number in
-    seconds_after (is_noted (returned_notes number records notes) shelf) shelf (freed_width records.items number) by_height seconds
+    if stands_alone shelf number records
+    then seconds
+    else seconds_after (is_noted (returned_notes number records notes) shelf) shelf (freed_width records.items number) by_height seconds
 
 -- the item of a placement alone passes the width of its shelf, which has not changed, and this is the least that is not
 -- below that width nor below what is left of the item

@@ -1,5 +1,5 @@
 -- What holds of the notes beside the list of shelves by height while the list follows them, and once it has.
-use Rattle.std.specs.Prelude.{◌≡◌, ℕ, ◌<◌, ◌≤◌, Option, None, Some, List, false, true, length, [], ◌∷◌}
+use Rattle.std.specs.Prelude.{◌≡◌, ℕ, ◌-◌, ◌<◌, ◌≤◌, Bool, ◌&&◌, nat_lt, Option, None, Some, List, false, true, length, [], ◌∷◌}
 use Rattle.std.specs.Option.{option_map_or}
 use Rattle.std.specs.List.{AllByRecursion}
 use Rattle.etagere_base.specs.Lists.{times}
@@ -12,7 +12,7 @@ use Rattle.shelf_heights.specs.Private.ByHeight.{AreByHeight, AreInOrder, IsBoun
 use Rattle.shelf_heights.specs.declared.by_height.BoundedShelf.{BoundedShelf}
 use Rattle.etagere_links.specs.Links.{no_link}
 use Rattle.shelf_records.specs.AtlasRecords.{AtlasRecords, height_of, item_at, spelled_shelf}
-use Rattle.shelf_notes.specs.Private.Pending.{Notes, is_in_use, is_listed, is_noted, once_where}
+use Rattle.shelf_notes.specs.Private.Pending.{Notes, is_in_use, is_listed, is_noted, is_parked, once_where}
 
 -- a list has the shelves in use of kept records by height, whatever their frame
 pub record IsListOf (records : Records) (list : List BoundedShelf) : Type 0 where
@@ -28,6 +28,8 @@ pub record Follows (shelves : List LinkedShelf) (by_height : List BoundedShelf) 
   pub unchanged : (k : ℕ) → is_noted notes k ≡ false
   pub listed : (k : ℕ) → times k (numbers_by_height by_height) ≡ once_where (is_listed notes k)
   pub in_use : (k : ℕ) → is_in_use notes k ≡ is_listed notes k
+  pub unparked : (k : ℕ) → is_parked notes k ≡ false
+  pub parked_below : notes.parked_below ≡ 0
 
 -- a shelf is listed if it is in use, and then where its record puts it
 pub record IsSettled (shelves : List LinkedShelf) (notes : Notes) (shelf : ℕ) : Type 0 where
@@ -39,6 +41,12 @@ pub record IsSettled (shelves : List LinkedShelf) (notes : Notes) (shelf : ℕ) 
 abbrev pub IsBoundIn : AtlasRecords → List Entry → BoundedShelf → Type 0
 IsBoundIn atlas entries one =
     AllByRecursion (λ (entry : Entry). entry.number ≡ one.shelf → IsBound one.widest (spelled_shelf atlas entry)) entries
+
+-- a parked shelf isn't listed, and its free items are narrower than what is kept for all parked ones
+pub record IsParked (atlas : AtlasRecords) (entries : List Entry) (notes : Notes) (shelf : ℕ) : Type 0 where
+  pub unlisted : is_listed notes shelf ≡ false
+  pub some : 1 ≤ notes.parked_below
+  pub narrow : IsBoundIn atlas entries (record { widest = notes.parked_below - 1; shelf = shelf })
 
 -- the width of the only item of a list, 0 where it has none; none where it has more
 abbrev pub width_of_only : List LinkedItem → List ℕ → Option ℕ
@@ -56,8 +64,18 @@ bounded_anew frame records shelf =
       shelf = shelf;
     }
 
+-- whether a shelf that has changed may be parked: it is in use, and its bound is below the width of parked ones
+abbrev pub is_narrow : Frame → Records → Notes → ℕ → Bool
+is_narrow frame records notes shelf =
+    is_in_use notes shelf && nat_lt (bounded_anew frame records shelf).widest notes.parked_below
+
+-- a shelf may be parked: its free items are narrower than what is kept for all parked ones
+pub record IsToPark (frame : Frame) (records : Records) (notes : Notes) (shelf : ℕ) : Type 0 where
+  pub some : 1 ≤ notes.parked_below
+  pub narrow : IsBoundIn (bare frame records) (walked_lists records).entries (record { widest = notes.parked_below - 1; shelf = shelf })
+
 -- the list has the shelves in use in the order of their heights and of the chain, each with a bound, but for those that
--- have changed since it followed them
+-- have changed since it followed them, of which some are parked
 pub record HoldsExceptNoted (atlas : AtlasRecords) (entries : List Entry) (notes : Notes) (by_height : List BoundedShelf)
     : Type 0 where
   pub listed : (k : ℕ) → times k (numbers_by_height by_height) ≡ once_where (is_listed notes k)
@@ -65,6 +83,7 @@ pub record HoldsExceptNoted (atlas : AtlasRecords) (entries : List Entry) (notes
   pub order : AreInOrder notes.kept by_height
   pub settled : (k : ℕ) → is_noted notes k ≡ false → IsSettled atlas.records.shelves notes k
   pub bounds : AllByRecursion (λ one. is_noted notes one.shelf ≡ false → IsBoundIn atlas entries one) by_height
+  pub parked : (k : ℕ) → is_parked notes k ≡ true → IsParked atlas entries notes k
   pub known : length atlas.records.shelves ≤ length notes.standing
   pub few : length atlas.records.shelves ≤ no_link
 
@@ -84,6 +103,8 @@ pub record AreSettled (records : Records) (notes : Notes) : Type 0 where
   pub unchanged : (k : ℕ) → is_noted notes k ≡ false
   pub in_use : (k : ℕ) → times k (shelf_numbers (walked_lists records).entries) ≡ once_where (is_in_use notes k)
   pub settled : (k : ℕ) → IsSettled records.shelves notes k
+  pub unparked : (k : ℕ) → is_parked notes k ≡ false
+  pub parked_below : notes.parked_below ≡ 0
   pub known : length records.shelves ≤ length notes.standing
   pub within : (k : ℕ) → is_listed notes k ≡ true → k < length notes.kept
 

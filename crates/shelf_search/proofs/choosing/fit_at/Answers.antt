@@ -13,10 +13,6 @@ fit-found-requires-clause-bounded c =
 pub fit-found-requires-clause-tall : goal.fit-found-requires-clause-tall
 fit-found-requires-clause-tall c = rw (c.get-one.ensures, read-at c.args.by_height.now.items c.args.index c.get-one.result c.requires.index) c.requires.tall
 
-pub set-requires-clause-same : goal.set-requires-clause-same
-set-requires-clause-same c =
-    c.fit-found.ensures.shelf ∙ ap (λ (one : BoundedShelf). one.shelf) (c.get-one.ensures ∙ read-at c.args.by_height.now.items c.args.index c.get-one.result c.requires.index)
-
 pub returns-clause-value : goal.returns-clause-value
 returns-clause-value c =
     c.fit-found.ensures.value

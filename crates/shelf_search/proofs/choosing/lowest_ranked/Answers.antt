@@ -1,16 +1,15 @@
 use Rattle.std.proofs.Common.{arith, sym, ◌∙◌}
 use Rattle.etagere_base.proofs.FrameSides.{column_width-le, sides_low}
-use Rattle.shelf_heights.proofs.ByHeight.Edited.{by_height-in_order}
 use Rattle.shelf_search.proofs.ByHeight.BestByHeight.{best-by-height}
-use Rattle.shelf_search.proofs.ByHeight.SearchableShelves.{kept-whole, by_height-searchable, searchable-by_height}
+use Rattle.shelf_search.proofs.ByHeight.SearchableShelves.{kept-whole, by_height-ordered, by_height-searchable, searchable-by_height}
 use Rattle.shelf_records.proofs.Spelled.StandsKept.{witnesses}
 use Rattle.shelf_search.proofs.choosing.lowest_ranked.Goals as goal
 
 pub best_candidate-requires-clause-order : goal.best_candidate-requires-clause-order
-best_candidate-requires-clause-order c = by_height-in_order c.args.frame.now c.args.records.now c.args.by_height.now.items c.requires.kept (c.requires.by_height c.if-follows.true)
+best_candidate-requires-clause-order c = by_height-ordered c.args.frame.now c.args.records.now c.requires.kept c.args.width c.args.by_height.now.items (c.requires.by_height c.if-follows.true)
 
 pub best_candidate-requires-clause-by_height : goal.best_candidate-requires-clause-by_height
-best_candidate-requires-clause-by_height c = by_height-searchable c.args.frame.now c.args.records.now c.requires.kept c.args.by_height.now.items (c.requires.by_height c.if-follows.true)
+best_candidate-requires-clause-by_height c = by_height-searchable c.args.frame.now c.args.records.now c.requires.kept c.args.width c.args.by_height.now.items (c.requires.by_height c.if-follows.true)
 
 pub best_candidate-requires-clause-whole : goal.best_candidate-requires-clause-whole
 best_candidate-requires-clause-whole c = kept-whole c.args.frame.now c.args.records.now c.requires.kept
@@ -29,9 +28,9 @@ first_of_least_rank-requires-clause-linked c = (witnesses c.requires.kept).linke
 pub returns-then-follows-clause-value : goal.returns-then-follows-clause-value
 returns-then-follows-clause-value c =
     c.best_candidate.ensures.value
-    ∙ sym (best-by-height c.args.frame.now c.args.records.now c.args.by_height.now.items c.args.width c.args.height c.requires.kept (c.requires.by_height c.if-follows.true))
+    ∙ sym (best-by-height c.args.frame.now c.args.records.now c.args.by_height.now.items c.args.width c.args.height c.requires.wide c.requires.kept (c.requires.by_height c.if-follows.true))
 
 pub returns-then-follows-clause-by_height : goal.returns-then-follows-clause-by_height
 returns-then-follows-clause-by_height c = λ _.
-    searchable-by_height c.args.frame.now c.args.records.now c.requires.kept c.args.by_height.now.items c.best_candidate.new.by_height.items
+    searchable-by_height c.args.frame.now c.args.records.now c.requires.kept c.args.width c.args.by_height.now.items c.best_candidate.new.by_height.items
     (c.requires.by_height c.if-follows.true) c.best_candidate.ensures.numbers c.best_candidate.ensures.by_height

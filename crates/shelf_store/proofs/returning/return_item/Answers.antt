@@ -1,4 +1,5 @@
 use Rattle.std.proofs.Common.{◌≡◌, ℕ, ◌<◌, Bool, true, false, None, List, get_or, length, refl, ap, sym, arith, ◌∙◌}
+use Rattle.std.specs.Prelude.{if◌then◌else◌}
 use Rattle.shelf_records.specs.declared.records.LinkedItem.{LinkedItem}
 use Rattle.shelf_records.specs.declared.records.LinkedShelf.{LinkedShelf}
 use Rattle.shelf_records.specs.RecordEdits.{shelf_changed}
@@ -10,7 +11,7 @@ use Rattle.shelf_notes.specs.Private.Pending.{Notes, is_noted}
 use Rattle.shelf_heights.specs.declared.by_height.BoundedShelf.{BoundedShelf}
 use Rattle.shelf_store.specs.Private.ItemReturned.{emptiness_said, has_one_free, item_merged, merged_width}
 use Rattle.shelf_store.specs.Private.ReturnedNotes.{freed_width, raised_unless, returned_by_height, returned_notes, shelves_merged_notes}
-use Rattle.shelf_store.specs.Private.SecondWidths.{returned_seconds, seconds_after}
+use Rattle.shelf_store.specs.Private.SecondWidths.{returned_seconds, seconds_after, stands_alone}
 use Rattle.shelf_store.proofs.ByHeight.LaterNotes.{returned-later}
 use Rattle.shelf_store.proofs.Spelled.NotEmptied.{StaysInUse, stays-in-use}
 use Rattle.shelf_store.proofs.Spelled.ReturnedLengths.{merged-lengths}
@@ -54,20 +55,23 @@ rises shelf number width records notes before by_height new raises own wide note
     ∙ ap (λ w. raised_unless (is_noted notes (shelf_of records.items number)) (shelf_of records.items number) w by_height) wide
     ∙ ap (λ (n : Notes). raised_unless (is_noted n (shelf_of records.items number)) (shelf_of records.items number) (freed_width records.items number) by_height) noted
 
--- and the width that is kept of it is kept anew for what becomes free
-keeps : (shelf number width : ℕ) (records : Records) (notes before : Notes) (by_height : List BoundedShelf) (seconds new : List ℕ) → new ≡ seconds_after (is_noted notes shelf) shelf width by_height seconds → shelf ≡ shelf_of records.items number → width ≡ freed_width records.items number → notes ≡ returned_notes number records before
+-- and where others are free beside it the width that is kept of it is kept anew
+keeps : (shelf number width : ℕ) (records : Records) (notes before : Notes) (by_height : List BoundedShelf) (seconds new : List ℕ) → new ≡ seconds_after (is_noted notes shelf) shelf width by_height seconds → shelf ≡ shelf_of records.items number → width ≡ freed_width records.items number → notes ≡ returned_notes number records before → stands_alone (shelf_of records.items number) number records ≡ false
     → new ≡ returned_seconds number records before by_height seconds
-keeps shelf number width records notes before by_height seconds new kept own wide noted =
+keeps shelf number width records notes before by_height seconds new kept own wide noted beside =
     kept
     ∙ ap (λ s. seconds_after (is_noted notes s) s width by_height seconds) own
     ∙ ap (λ w. seconds_after (is_noted notes (shelf_of records.items number)) (shelf_of records.items number) w by_height seconds) wide
     ∙ ap (λ (n : Notes). seconds_after (is_noted n (shelf_of records.items number)) (shelf_of records.items number) (freed_width records.items number) by_height seconds) noted
+    ∙ ap (λ (b : Bool). if b then seconds else seconds_after (is_noted (returned_notes number records before) (shelf_of records.items number)) (shelf_of records.items number) (freed_width records.items number) by_height seconds) (sym beside)
 
--- the item that remains stands alone just where its shelf is empty
+-- the code says whether the item that remains stands alone
+stood : (c : After-is_alone) → stands_alone (shelf_of c.args.records.now.items c.args.number) c.args.number c.args.records.now ≡ c.is_alone.result
+stood c = sym (rw (c.is_alone.ensures, c.items-items.ensures, c.merge_item-merged.ensures.records, c.merge_item-merged.ensures.item, c.requires.shelf) refl)
+
+-- which is just where its shelf is empty
 emptied : (c : After-is_alone) → (let shelf = shelf_of c.args.records.now.items c.args.number in has_one_free shelf (item_merged shelf c.args.number c.args.records.now).records ≡ c.is_alone.result)
-emptied c =
-    c.requires.fits.remaining.alone
-    ∙ sym (rw (c.is_alone.ensures, c.items-items.ensures, c.merge_item-merged.ensures.records, c.merge_item-merged.ensures.item, c.requires.shelf) refl)
+emptied c = c.requires.fits.remaining.alone ∙ stood c
 
 -- the records once the shelf says that it is empty
 said : (c : After-set_empty_present) → (let shelf = shelf_of c.args.records.now.items c.args.number in has_one_free shelf (item_merged shelf c.args.number c.args.records.now).records ≡ true → c.set_empty_present.new.self ≡ emptiness_said shelf (item_merged shelf c.args.number c.args.records.now).records)
@@ -114,9 +118,8 @@ returns-then-is_alone-clause-by_height c =
 pub returns-then-is_alone-clause-seconds : goal.returns-then-is_alone-clause-seconds
 returns-then-is_alone-clause-seconds c =
     let at = goal.at.returns-then-is_alone-clause-seconds c in
-    keeps c.args.shelf c.args.number (get_or c.items-items.result.now c.merge_item-merged.result.item c.index-items-merged.result).width c.args.records.now c.merge_shelves-made_unused.new.pending.notes c.args.pending.now.notes c.args.by_height.now.items c.args.seconds.now c.raise_unless_noted.new.seconds
-    c.raise_unless_noted.ensures.seconds c.requires.shelf (wide at.After-index-items-merged)
-    (noted at.After-set_empty_present c.merge_shelves-made_unused.new.pending.notes (emptied at.After-is_alone ∙ c.if-is_alone.true) c.merge_shelves-made_unused.ensures.notes)
+    let alone : stands_alone (shelf_of c.args.records.now.items c.args.number) c.args.number c.args.records.now ≡ true = stood at.After-is_alone ∙ c.if-is_alone.true in
+    ap (λ (b : Bool). if b then c.args.seconds.now else seconds_after (is_noted (returned_notes c.args.number c.args.records.now c.args.pending.now.notes) (shelf_of c.args.records.now.items c.args.number)) (shelf_of c.args.records.now.items c.args.number) (freed_width c.args.records.now.items c.args.number) c.args.by_height.now.items c.args.seconds.now) (sym alone)
 
 pub returns-then-is_alone-clause-notes : goal.returns-then-is_alone-clause-notes
 returns-then-is_alone-clause-notes c =
@@ -148,15 +151,16 @@ pub returns-else-is_alone-clause-by_height : goal.returns-else-is_alone-clause-b
 returns-else-is_alone-clause-by_height c =
     let at = goal.at.returns-else-is_alone-clause-by_height c in
     let still = stays at.After-is_alone c.if-is_alone.false in
-    rises c.args.shelf c.args.number (get_or c.items-items.result.now c.merge_item-merged.result.item c.index-items-merged.result).width c.args.records.now c.args.pending.now.notes c.args.pending.now.notes c.args.by_height.now.items c.raise_unless_noted-else-is_alone.new.by_height.items
-    c.raise_unless_noted-else-is_alone.ensures.by_height c.requires.shelf (wide at.After-index-items-merged) (sym (still.unnoted c.args.pending.now.notes))
+    rises c.args.shelf c.args.number (get_or c.items-items.result.now c.merge_item-merged.result.item c.index-items-merged.result).width c.args.records.now c.args.pending.now.notes c.args.pending.now.notes c.args.by_height.now.items c.raise_both.new.by_height.items
+    c.raise_both.ensures.by_height c.requires.shelf (wide at.After-index-items-merged) (sym (still.unnoted c.args.pending.now.notes))
 
 pub returns-else-is_alone-clause-seconds : goal.returns-else-is_alone-clause-seconds
 returns-else-is_alone-clause-seconds c =
     let at = goal.at.returns-else-is_alone-clause-seconds c in
     let still = stays at.After-is_alone c.if-is_alone.false in
-    keeps c.args.shelf c.args.number (get_or c.items-items.result.now c.merge_item-merged.result.item c.index-items-merged.result).width c.args.records.now c.args.pending.now.notes c.args.pending.now.notes c.args.by_height.now.items c.args.seconds.now c.raise_unless_noted-else-is_alone.new.seconds
-    c.raise_unless_noted-else-is_alone.ensures.seconds c.requires.shelf (wide at.After-index-items-merged) (sym (still.unnoted c.args.pending.now.notes))
+    keeps c.args.shelf c.args.number (get_or c.items-items.result.now c.merge_item-merged.result.item c.index-items-merged.result).width c.args.records.now c.args.pending.now.notes c.args.pending.now.notes c.args.by_height.now.items c.args.seconds.now c.raise_both.new.seconds
+    c.raise_both.ensures.seconds c.requires.shelf (wide at.After-index-items-merged) (sym (still.unnoted c.args.pending.now.notes))
+    (stood at.After-is_alone ∙ c.if-is_alone.false)
 
 pub returns-else-is_alone-clause-notes : goal.returns-else-is_alone-clause-notes
 returns-else-is_alone-clause-notes c =

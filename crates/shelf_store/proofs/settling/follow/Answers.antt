@@ -24,11 +24,12 @@ put_to_use-requires-clause-within c = within (goal.at.put_to_use-requires-clause
 pub loop-index-preserved : goal.loop-index-preserved
 loop-index-preserved c =
     let notes : Notes = c.loop-index.pending.notes in
-    let one : Standing = record { listed = true; in_use = true; noted = false } in
+    let one : Standing = record { listed = true; in_use = true; noted = false; parked = false } in
     record {
       kept = ap (λ (n : Notes). n.kept) c.put_to_use.ensures.notes ∙ c.loop-index.invariant.kept;
       known = ap (λ (n : Notes). length n.standing) c.put_to_use.ensures.notes ∙ length-set notes.standing c.shelf.result one ∙ c.loop-index.invariant.known;
       noted = ap (λ (n : Notes). n.noted) c.put_to_use.ensures.notes ∙ c.loop-index.invariant.noted;
+      parked_below = ap (λ (n : Notes). n.parked_below) c.put_to_use.ensures.notes ∙ c.loop-index.invariant.parked_below;
       used = subst (AreUsed (c.loop-index.index + 1) c.args.by_height.now.items) (sym c.put_to_use.ensures.notes)
           (one-used c.loop-index.index c.args.by_height.now.items notes c.shelf.result (omega (arith, c.loop-index-test.true, c.len-index-end.ensures)) c.shelf.ensures (within (goal.at.loop-index-preserved c).After-shelf) c.loop-index.invariant.used);
       room = c.put_to_use.ensures.room ∙ c.loop-index.invariant.room;
@@ -47,6 +48,8 @@ returns-clause-notes c =
       unchanged = used.unchanged;
       listed = λ k. omega (arith, used.listed k, ap (times k) all, in_order-once c.args.shelves.now by_height k c.requires.order);
       in_use = used.in_use;
+      unparked = used.unparked;
+      parked_below = c.loop-index.invariant.parked_below;
     }
 
 pub returns-then-len-shelves-clause-notes : goal.returns-then-len-shelves-clause-notes

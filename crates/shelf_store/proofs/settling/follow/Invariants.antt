@@ -8,6 +8,7 @@ invariant-loop-index l = record {
   kept : l.pending.notes.kept ≡ l.shelves;
   known : length l.pending.notes.standing ≡ length l.shelves;
   noted : l.pending.notes.noted ≡ [];
+  parked_below : l.pending.notes.parked_below ≡ 0;
   used : AreUsed l.index l.by_height.items l.pending.notes;
   room : l.pending.room ≡ l.fn.pending.room;
 }

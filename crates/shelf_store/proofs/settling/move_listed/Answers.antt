@@ -66,7 +66,7 @@ followed c =
       within = own-within frame records notes by_height c.requires.kept c.requires.by_height c.args.shelf c.requires.known c.requires.noted
           (one c) (read c) named c.requires.in_use c.requires.as_listed c.list.ensures.entries (is_read c);
       holds = put-holds frame records notes by_height c.requires.kept c.requires.by_height c.args.shelf c.requires.known c.requires.noted
-          (one c) (read c) named c.requires.in_use c.requires.as_listed c.list.ensures.entries (is_read c);
+          (one c) (read c) named c.requires.in_use c.requires.as_listed c.list.ensures.entries (is_read c) c.requires.unparked;
       bounded = put-bounded frame records notes by_height c.requires.kept c.requires.by_height c.args.shelf c.requires.known c.requires.noted
           (one c) (read c) named c.requires.in_use c.requires.as_listed c.list.ensures.entries (is_read c) c.bounded_by_items-one.ensures.bounded;
       as_listed = put-as_listed frame records notes by_height c.requires.kept c.requires.by_height c.args.shelf c.requires.known c.requires.noted
@@ -77,7 +77,7 @@ followed c =
 
 pub settle-requires-clause-order : goal.settle-requires-clause-order
 settle-requires-clause-order c =
-    rw (c.bounded_by_items-one.ensures.shelf, c.kept-2.ensures, c.list.ensures.notes, c.position_of-index.ensures.same) (followed (goal.at.settle-requires-clause-order c).After-kept-2).order
+    rw (c.kept-2.ensures, c.list.ensures.notes, c.position_of-index.ensures.same, c.position_of-index.ensures.shelf) (followed (goal.at.settle-requires-clause-order c).After-kept-2).order
 
 pub settle-requires-clause-within : goal.settle-requires-clause-within
 settle-requires-clause-within c =
@@ -88,8 +88,7 @@ settled : (c : After-settle) → c.settle.new.by_height.items
     ≡ put_in (listed_as c.args.shelf c.index-shelves-shelf.result c.args.pending.now.notes).kept c.bounded_by_items-one.result (taken_out c.args.shelf c.args.by_height.now.items)
 settled c =
     c.settle.ensures.by_height
-    ∙ ap (λ n. put_in c.kept-2.result.now c.bounded_by_items-one.result (taken_out n c.position_of-index.new.by_height.items)) c.bounded_by_items-one.ensures.shelf
-    ∙ rw (c.kept-2.ensures, c.list.ensures.notes, c.position_of-index.ensures.same) refl
+    ∙ rw (c.kept-2.ensures, c.list.ensures.notes, c.position_of-index.ensures.same, c.position_of-index.ensures.shelf) refl
 
 pub returns-clause-moved : goal.returns-clause-moved
 returns-clause-moved c =

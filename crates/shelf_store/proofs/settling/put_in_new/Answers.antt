@@ -68,7 +68,7 @@ followed c =
           (one c) read c.bounded_by_items-one.ensures.shelf c.requires.in_use c.requires.as_listed c.list.ensures.entries (is_read c);
       holds = subst (λ (xs : List BoundedShelf). AreByHeightExceptNoted frame records (after c) (put_in (after c).kept (one c) xs)) (absent c)
           (put-holds frame records notes by_height c.requires.kept c.requires.by_height c.args.shelf c.requires.known c.requires.noted
-          (one c) read c.bounded_by_items-one.ensures.shelf c.requires.in_use c.requires.as_listed c.list.ensures.entries (is_read c));
+          (one c) read c.bounded_by_items-one.ensures.shelf c.requires.in_use c.requires.as_listed c.list.ensures.entries (is_read c) c.requires.unparked);
       bounded = subst (λ (xs : List BoundedShelf). IsBounded frame records c.args.shelf (put_in (after c).kept (one c) xs)) (absent c)
           (put-bounded frame records notes by_height c.requires.kept c.requires.by_height c.args.shelf c.requires.known c.requires.noted
           (one c) read c.bounded_by_items-one.ensures.shelf c.requires.in_use c.requires.as_listed c.list.ensures.entries (is_read c) c.bounded_by_items-one.ensures.bounded);

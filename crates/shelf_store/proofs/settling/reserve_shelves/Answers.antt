@@ -8,3 +8,9 @@ overflow_add-room c =
     let records = c.args.records.now in
     let few = missing-le shelf_chain c.args.wanted records.unused_shelves records.shelves in
     search (rules, few)
+
+pub overflow_add-room-2 : goal.overflow_add-room-2
+overflow_add-room-2 c =
+    let records = c.args.records.now in
+    let few = missing-le shelf_chain c.args.wanted records.unused_shelves records.shelves in
+    search (rules, few)

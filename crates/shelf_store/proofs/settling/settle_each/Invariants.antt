@@ -10,6 +10,7 @@ invariant-loop-by_height l = record {
   room : length l.records.shelves ≤ l.by_height.capacity;
   capacity : l.fn.by_height.capacity ≤ l.by_height.capacity;
   room_to_note : l.pending.room ≡ l.fn.pending.room;
+  parked_below : l.pending.notes.parked_below ≡ l.fn.pending.notes.parked_below;
 }
 
 abbrev pub decreases-loop-by_height : goal.decreases-loop-by_height

@@ -1,20 +1,13 @@
-use Rattle.std.proofs.Common.{ap, arith, length}
-use Rattle.shelf_records.proofs.AllLists.LinkedWalks.{walked-numbers}
-use Rattle.shelf_records.specs.RecordLists.{shelf_walk}
-use Rattle.shelf_store.proofs.ByHeight.RoomByHeight.{shelves-count}
+use Rattle.shelf_store.proofs.ByHeight.ParkedShelves.{settled-none}
+use Rattle.shelf_store.proofs.ByHeight.SplitByHeight.{settled-holds}
 use Rattle.shelf_store.proofs.settling.settle_noted.Goals as goal
-
-pub sort_shelves-requires-clause-room : goal.sort_shelves-requires-clause-room
-sort_shelves-requires-clause-room c =
-    omega (
-      arith,
-      shelves-count c.args.frame.now c.args.records.now c.requires.kept,
-      ap length (walked-numbers c.args.records.now (shelf_walk c.args.records.now).met),
-      c.requires.room,
-    )
-
-pub settle_notes-requires-clause-list : goal.settle_notes-requires-clause-list
-settle_notes-requires-clause-list c = record { frame = c.args.frame.now; kept = c.requires.kept; by_height = c.sort_shelves.ensures.by_height }
 
 pub take_out_moved-requires : goal.take_out_moved-requires
 take_out_moved-requires c = record { list = record { frame = c.args.frame.now; kept = c.requires.kept; by_height = c.requires.by_height } }
+
+pub returns-then-are_many-clause-by_height : goal.returns-then-are_many-clause-by_height
+returns-then-are_many-clause-by_height c =
+    settled-holds c.args.frame.now c.args.records.now c.list_all.new.pending.notes c.list_all.new.by_height.items c.requires.kept c.list_all.ensures.by_height c.list_all.ensures.settled
+
+pub returns-then-are_many-clause-none_waits : goal.returns-then-are_many-clause-none_waits
+returns-then-are_many-clause-none_waits c = settled-none c.args.records.now c.list_all.new.pending.notes c.list_all.ensures.settled

@@ -1,9 +1,14 @@
-use Rattle.std.proofs.Common.{◌+◌, ◌<◌, ℕ, List, ap, arith, length, subst, sym, take, ◌∙◌}
+use Rattle.std.proofs.Common.{◌≡◌, ◌+◌, ◌<◌, ℕ, Bool, List, ap, arith, length, subst, sym, take, ◌∙◌}
 use Rattle.std.proofs.lemmas.List.{take_all}
+use Rattle.std.specs.Prelude.{◌&&◌, not}
 use Rattle.etagere_base.specs.Lists.{times}
 use Rattle.shelf_notes.specs.Private.Pending.{Notes, once_where}
 use Rattle.shelf_store.proofs.ByHeight.SettledShelves.{BeginAsListedAmong, all-as_listed, one-more-as_listed}
 use Rattle.shelf_store.proofs.settling.take_out_moved.Goals as goal
+
+-- what waits does so still where both marks are the same
+waits-same : {noted other parked another : Bool} → noted ≡ other → parked ≡ another → (noted && not parked) ≡ (other && not another)
+waits-same same both = cc
 
 pub take_out_if_moved-requires-clause-list : goal.take_out_if_moved-requires-clause-list
 take_out_if_moved-requires-clause-list c =
@@ -22,6 +27,8 @@ loop-index-preserved c =
           (one-more-as_listed c.args.records.now.shelves old new c.loop-index.index c.noted_at-shelf.result below c.noted_at-shelf.ensures.value c.take_out_if_moved.ensures.others c.take_out_if_moved.ensures.as_listed c.loop-index.invariant.as_listed);
       noted = c.take_out_if_moved.ensures.noted ∙ c.loop-index.invariant.noted;
       same = λ k. c.take_out_if_moved.ensures.same k ∙ c.loop-index.invariant.same k;
+      parked = λ k. c.take_out_if_moved.ensures.parked k ∙ c.loop-index.invariant.parked k;
+      parked_below = c.take_out_if_moved.ensures.parked_below ∙ c.loop-index.invariant.parked_below;
       capacity = omega (arith, c.loop-index.invariant.capacity, c.take_out_if_moved.ensures.capacity);
       room = c.take_out_if_moved.ensures.room ∙ c.loop-index.invariant.room;
     }
@@ -32,5 +39,5 @@ returns-clause-as_listed c =
     let notes : Notes = c.loop-index.pending.notes in
     let all = take_all c.loop-index.index notes.noted (omega (arith, c.loop-index-test.false, c.len-index-end.ensures.len, ap (λ (ns : List ℕ). length ns) c.loop-index.invariant.noted)) in
     all-as_listed list.frame c.args.records.now notes c.loop-index.by_height.items list.kept (c.loop-index.invariant.holds list.frame list.kept list.by_height)
-    (λ k. ap (times k) c.loop-index.invariant.noted ∙ c.len-index-end.ensures.tied k ∙ sym (ap once_where (c.loop-index.invariant.same k)))
+    (λ k. ap (times k) c.loop-index.invariant.noted ∙ c.len-index-end.ensures.tied k ∙ sym (ap once_where (waits-same (c.loop-index.invariant.same k) (c.loop-index.invariant.parked k))))
     (subst (BeginAsListedAmong c.args.records.now.shelves notes) all c.loop-index.invariant.as_listed)

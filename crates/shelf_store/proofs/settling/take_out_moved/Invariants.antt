@@ -2,7 +2,7 @@ use Rattle.std.proofs.Common.{◌≡◌, ◌≤◌, ℕ, take}
 use Rattle.etagere_base.specs.declared.frames.Frame.{Frame}
 use Rattle.shelf_records.specs.Private.Kept.{AreKept}
 use Rattle.shelf_store.specs.Private.Settling.{AreByHeightExceptNoted}
-use Rattle.shelf_notes.specs.Private.Pending.{is_noted}
+use Rattle.shelf_notes.specs.Private.Pending.{is_noted, is_parked}
 use Rattle.shelf_store.proofs.ByHeight.SettledShelves.{BeginAsListedAmong}
 use Rattle.shelf_store.proofs.settling.take_out_moved.Given as goal
 
@@ -14,6 +14,8 @@ invariant-loop-index l = record {
   as_listed : BeginAsListedAmong l.records.shelves l.pending.notes (take l.index l.pending.notes.noted);
   noted : l.pending.notes.noted ≡ l.fn.pending.notes.noted;
   same : (k : ℕ) → is_noted l.pending.notes k ≡ is_noted l.fn.pending.notes k;
+  parked : (k : ℕ) → is_parked l.pending.notes k ≡ is_parked l.fn.pending.notes k;
+  parked_below : l.pending.notes.parked_below ≡ l.fn.pending.notes.parked_below;
   capacity : l.fn.by_height.capacity ≤ l.by_height.capacity;
   room : l.pending.room ≡ l.fn.pending.room;
 }

@@ -12,7 +12,6 @@ use Rattle.shelf_records.specs.Private.Kept.{AreKept, state_of}
 use Rattle.shelf_model.specs.Space.{allocated_space}
 use Rattle.shelf_model.specs.State.{AtlasState, items_in_use}
 use Rattle.shelf_store.proofs.ByHeight.KeptSeconds.{unknown-seconds}
-use Rattle.shelf_store.proofs.ByHeight.NewByHeight.{columns-by_height}
 use Rattle.shelf_store.proofs.ByHeight.SplitByHeight.{settled-holds}
 use Rattle.shelf_model.proofs.Places.FreshLemmas.{fresh-allocated, fresh-valid, items_in_use-empty_columns, space-fresh}
 use Rattle.shelf_model.proofs.Promises.{promises}
@@ -32,9 +31,9 @@ reset_records-requires c =
       items = kept-item_records inside.frame inside.records kept;
     }
 
-pub reset_by_height-requires-clause-many : goal.reset_by_height-requires-clause-many
-reset_by_height-requires-clause-many c =
-    c.self.invariant.columns
+pub reset_by_height-requires-clause-room : goal.reset_by_height-requires-clause-room
+reset_by_height-requires-clause-room c =
+    omega (arith, kept-shelf_records c.self.inside.frame c.self.inside.records c.self.invariant.kept, c.self.invariant.room)
 
 -- fresh records keep every rule, and their shelves stand by height
 kept-fresh : (inside : Inside) (records : Records) → IsConsistent inside → records ≡ fresh_records inside.frame → AreKept inside.frame records
@@ -81,7 +80,6 @@ invariant_of-self c =
     record {
       kept = kept;
       by_height = settled-holds frame records c.settle_notes.new.pending.notes by_height kept are c.settle_notes.ensures.settled;
-      columns = columns-by_height frame records by_height kept are;
       room = omega (
         arith,
         ap (λ (r : Records). length r.shelves) c.reset_records.ensures,

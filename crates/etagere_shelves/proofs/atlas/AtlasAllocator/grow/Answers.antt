@@ -10,7 +10,6 @@ use Rattle.shelf_model.specs.Growing.{atlas_grown, grow_fault, grown_frame, reco
 use Rattle.shelf_model.specs.Places.{allocations}
 use Rattle.shelf_heights.specs.Private.ByHeight.{AreByHeight}
 use Rattle.shelf_store.specs.Private.Settling.{AreByHeightExceptNoted, AreSettled}
-use Rattle.shelf_store.proofs.ByHeight.NewByHeight.{columns-by_height}
 use Rattle.shelf_store.proofs.ByHeight.SplitByHeight.{settled-holds}
 use Rattle.etagere_shelves.specs.Private.Consistent.{IsConsistent, state_in}
 use Rattle.shelf_records.specs.Private.Kept.{AreKept, state_of}
@@ -125,7 +124,6 @@ invariant_of-self c =
       by_height = subst (λ (r : Records). AreByHeightExceptNoted inside.frame r c.grow_shelves-done.new.pending.notes c.grow_shelves-done.new.by_height.items) same
           (settled-holds inside.frame inside.records c.grow_shelves-done.new.pending.notes c.grow_shelves-done.new.by_height.items c.self.invariant.kept are
           (subst (AreSettled inside.records) (sym notes) c.settle_shelves.ensures.settled));
-      columns = columns-by_height inside.frame inside.records c.grow_shelves-done.new.by_height.items c.self.invariant.kept are;
       room = c.grow_shelves-done.ensures.room;
       room_to_note = c.grow_shelves-done.ensures.room_to_note;
       seconds = c.grow_shelves-done.ensures.seconds c.self.invariant.seconds;
@@ -175,7 +173,6 @@ invariant_of-self-2 c =
       kept = kept;
       by_height = settled-holds grown c.grow_shelves-done.new.records c.grow_shelves-done.new.pending.notes c.grow_shelves-done.new.by_height.items kept are
           (on_ok c.grow_shelves-done.result (sym c.is_err.ensures.value ∙ c.if-is_err.false) c.grow_shelves-done.ensures.settled);
-      columns = columns-by_height grown c.grow_shelves-done.new.records c.grow_shelves-done.new.by_height.items kept are;
       room = c.grow_shelves-done.ensures.room;
       room_to_note = c.grow_shelves-done.ensures.room_to_note;
       seconds = c.grow_shelves-done.ensures.seconds c.self.invariant.seconds;

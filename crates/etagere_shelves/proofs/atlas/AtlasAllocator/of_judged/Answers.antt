@@ -7,7 +7,6 @@ use Rattle.shelf_model.specs.Atlas.{KeepsPromises}
 use Rattle.shelf_store.specs.Private.SecondWidths.{AreSeconds}
 use Rattle.shelf_store.specs.Private.Settling.{AreByHeightExceptNoted}
 use Rattle.shelf_store.proofs.ByHeight.KeptSeconds.{unknown-seconds}
-use Rattle.shelf_store.proofs.ByHeight.NewByHeight.{columns-by_height}
 use Rattle.shelf_store.proofs.ByHeight.SplitByHeight.{settled-holds}
 use Rattle.shelf_records.specs.Private.Kept.{AreKept}
 use Rattle.shelf_model.specs.Space.{space_in}
@@ -25,8 +24,6 @@ invariant_of-result c =
       kept = subst (λ (atlas : AtlasRecords). AreKept atlas.frame atlas.records) same c.requires.kept;
       by_height = subst (λ (atlas : AtlasRecords). AreByHeightExceptNoted atlas.frame atlas.records c.args.pending.notes c.args.by_height.items) same
           (settled-holds c.args.atlas.frame c.args.atlas.records c.args.pending.notes c.args.by_height.items c.requires.kept c.requires.by_height c.requires.settled);
-      columns = subst (λ (atlas : AtlasRecords). atlas.frame.columns ≤ length c.args.by_height.items) same
-          (columns-by_height c.args.atlas.frame c.args.atlas.records c.args.by_height.items c.requires.kept c.requires.by_height);
       room = subst (λ (atlas : AtlasRecords). length atlas.records.shelves ≤ c.args.by_height.capacity) same c.requires.room;
       room_to_note = subst (λ (atlas : AtlasRecords). length atlas.records.shelves ≤ c.args.pending.room) same c.requires.room_to_note;
       seconds = subst (λ (atlas : AtlasRecords). AreSeconds atlas.records c.args.seconds) same (unknown-seconds c.args.atlas.frame c.args.atlas.records c.args.seconds c.requires.kept c.requires.seconds);

@@ -12,7 +12,6 @@ use Rattle.shelf_model.specs.State.{AtlasState, items_in_use}
 use Rattle.shelf_model.proofs.Places.FreshLemmas.{fresh-allocated, fresh-valid, items_in_use-empty_columns, space-fresh}
 use Rattle.shelf_model.proofs.Promises.{promises}
 use Rattle.shelf_store.proofs.ByHeight.KeptSeconds.{unknown-seconds}
-use Rattle.shelf_store.proofs.ByHeight.NewByHeight.{columns-by_height}
 use Rattle.shelf_store.proofs.ByHeight.SplitByHeight.{settled-holds}
 use Rattle.shelf_store.proofs.Spelled.FreshKept.{fresh-kept}
 use Rattle.shelf_store.proofs.Spelled.NumberedLists.{numbered-length}
@@ -53,7 +52,6 @@ invariant_of-result c =
     record {
       kept = kept c;
       by_height = settled-holds frame c.in-Ok.records c.in-Ok-settled_notes.pending.notes c.in-Ok-fresh_by_height.by_height.items (kept c) (are c) c.in-Ok-settled_notes.ensures.settled;
-      columns = columns-by_height frame c.in-Ok.records c.in-Ok-fresh_by_height.by_height.items (kept c) (are c);
       room = omega (arith, ap (λ (r : Records). length r.shelves) c.in-Ok.ensures, numbered-length (fresh_shelf frame) 0 frame.columns, c.in-Ok-fresh_by_height.ensures.room);
       room_to_note = c.in-Ok-settled_notes.ensures.room;
       seconds = unknown-seconds frame c.in-Ok.records c.in-Ok-unknown_seconds.seconds (kept c) c.in-Ok-unknown_seconds.ensures;

@@ -5,10 +5,10 @@ use Rattle.shelf_heights.proofs.ByHeight.UsedLists.{used-few, used-within}
 use Rattle.shelf_heights.proofs.by_height.ShelvesByHeight.set.Goals as goal
 
 pub overflow_add-self-inside : goal.overflow_add-self-inside
-overflow_add-self-inside c = omega (arith, used-few c.self.inside c.args.self.now c.self.invariant c.self.view_is c.args.index (omega (arith, c.requires.within)))
+overflow_add-self-inside c = omega (arith, used-few c.self.inside c.args.self.now c.self.invariant c.self.view_is c.args.index (omega (arith, c.requires)))
 
 pub set-requires : goal.set-requires
-set-requires c = used-within c.self.inside c.args.self.now c.self.invariant c.self.view_is c.args.index c.requires.within
+set-requires c = used-within c.self.inside c.args.self.now c.self.invariant c.self.view_is c.args.index c.requires
 
 pub returns-clause-items : goal.returns-clause-items
 returns-clause-items c =

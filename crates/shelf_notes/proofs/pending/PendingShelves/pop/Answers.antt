@@ -1,6 +1,6 @@
 use Rattle.std.proofs.Common.{◌≡◌, ◌<◌, ℕ, [], ◌∷◌, ◌++◌, false, arith, ap, ◌∙◌, refl, sym, length, set}
 use Rattle.std.proofs.lemmas.List.{length-set}
-use Rattle.shelf_notes.specs.Private.Pending.{AreCounted, RoomyNotes}
+use Rattle.shelf_notes.specs.Private.Pending.{AreCounted, RoomyNotes, waits}
 use Rattle.shelf_notes.specs.declared.pending.Standing.{Standing}
 use Rattle.shelf_notes.proofs.Noted.{counted-forgotten, last-within}
 use Rattle.shelf_notes.proofs.pending.PendingShelves.pop.Goals as goal
@@ -17,12 +17,12 @@ pub index_mut-requires : goal.index_mut-requires
 index_mut-requires c = omega (arith, within (goal.at.index_mut-requires c).After-from-shelf)
 
 -- the others are counted still, whatever else is known of the shelf
-others : (c : After-from-shelf) (one : Standing) → one.noted ≡ false → AreCounted (set c.self.inside.standing.items c.from-shelf.result one) c.pop.new.self.items
+others : (c : After-from-shelf) (one : Standing) → waits one ≡ false → AreCounted (set c.self.inside.standing.items c.from-shelf.result one) c.pop.new.self.items
 others c one none = counted-forgotten c.self.inside.standing.items c.self.inside.noted.items c.pop.new.self.items c.from-shelf.result one c.self.invariant.counts (last c) none
 
 pub invariant_of-self-2 : goal.invariant_of-self-2
 invariant_of-self-2 c =
-    let one : Standing = record { listed = c.index_mut.result.now.listed; in_use = c.index_mut.result.now.in_use; noted = false } in
+    let one : Standing = record { listed = c.index_mut.result.now.listed; in_use = c.index_mut.result.now.in_use; noted = false; parked = c.index_mut.result.now.parked } in
     let long = length-set c.self.inside.standing.items c.from-shelf.result one in
     record {
       equal = omega (arith, c.self.invariant.equal, long);
@@ -37,5 +37,5 @@ returns-clause-within c =
 
 pub returns-clause-tied : goal.returns-clause-tied
 returns-clause-tied c =
-    let one : Standing = record { listed = c.index_mut.result.now.listed; in_use = c.index_mut.result.now.in_use; noted = false } in
+    let one : Standing = record { listed = c.index_mut.result.now.listed; in_use = c.index_mut.result.now.in_use; noted = false; parked = c.index_mut.result.now.parked } in
     (others (goal.at.returns-clause-tied c).After-from-shelf one refl).tied

@@ -2,7 +2,7 @@ use Rattle.std.proofs.Common.{ℕ, List, ap, arith, length, replicate, subst, sy
 use Rattle.std.proofs.lemmas.List.{length-replicate}
 use Rattle.shelf_notes.specs.Private.Pending.{AreCounted, RoomyNotes}
 use Rattle.shelf_notes.specs.declared.pending.Standing.{Standing}
-use Rattle.shelf_notes.proofs.Noted.{counted-unchanged}
+use Rattle.shelf_notes.proofs.Noted.{counted-unchanged, unnoted-waits}
 use Rattle.shelf_notes.proofs.pending.PendingShelves.restart.Goals as goal
 
 pub invariant_of-self : goal.invariant_of-self
@@ -13,7 +13,7 @@ invariant_of-self c =
     record {
       equal = omega (arith, ap length c.copy_all.ensures.items, long, entries);
       counts = subst (λ (l : List Standing). AreCounted l c.clear.new.self.items) (sym c.know_all.ensures.items)
-          (subst (AreCounted (replicate count c.args.known)) (sym c.clear.ensures.items) (counted-unchanged count c.args.known c.requires.unchanged));
+          (subst (AreCounted (replicate count c.args.known)) (sym c.clear.ensures.items) (counted-unchanged count c.args.known (unnoted-waits _ _ c.requires.unchanged)));
       fits = omega (arith, long, entries, c.requires.room, c.clear.ensures.capacity, ap (λ (v : RoomyNotes). v.room) c.self.view_is);
       few = omega (arith, long, entries, c.requires.few);
     }
