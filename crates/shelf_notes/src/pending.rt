@@ -6,7 +6,7 @@
 //! A shelf whose free items are all narrower than what was asked for of late is parked in place of being listed: it stays
 //! noted, and no search goes through it until it has changed or something as narrow is asked for.
 
-ghost use Rattle.std.specs.Prelude.{◌≡◌, ℕ, ◌+◌, ◌<◌, ◌≤◌, ◌++◌, ◌∷◌, [], IfOk, IfSome, OnOk, false, true, get_or, length, max, replicate, vec_capacity, if◌then◌else◌};
+ghost use Rattle.std.specs.Prelude.{◌≡◌, ℕ, ◌+◌, ◌<◌, ◌≤◌, ◌++◌, ◌∷◌, [], IfOk, IfSome, OnOk, false, true, get_or, length, nat_lt, replicate, vec_capacity, if◌then◌else◌};
 ghost use Rattle.etagere_links.specs.Links.{no_link};
 ghost use Rattle.shelf_notes.specs.Private.Pending as spec;
 ghost use Rattle.shelf_notes.specs.Private.Pending.{AreTied, is_noted, is_parked, waits};
@@ -77,10 +77,10 @@ pub struct PendingShelves {
     standing: Vec<Standing>,
     /// The numbers of those that have changed since and aren't parked, each once.
     noted: Vec<u16>,
-    /// No free item of a parked shelf is as wide.
+    /// No free item of a parked shelf is as wide. It is 0 where none was parked since all were listed.
     parked_below: u16,
-    /// Whether some were parked since all were listed.
-    has_parked: bool,
+    /// A shelf is parked where its free items are narrower than this.
+    narrow_below: u16,
     /// How many searches were counted since something was noted, up to `MOST_SEARCHES`. Nothing rests on it.
     searches: u32,
     /// What was asked for of late. Nothing rests on it.
@@ -128,7 +128,7 @@ impl PendingShelves {
             standing,
             noted,
             parked_below: 0,
-            has_parked: false,
+            narrow_below: 0,
             searches: 0,
             watch: UNWATCHED,
         })
@@ -166,7 +166,7 @@ impl PendingShelves {
             standing: self.standing.clone()?,
             noted,
             parked_below: self.parked_below,
-            has_parked: self.has_parked,
+            narrow_below: self.narrow_below,
             searches: self.searches,
             watch: self.watch,
         };
@@ -248,18 +248,6 @@ impl PendingShelves {
         known.noted = true;
         known.parked = false;
         self.searches = 0;
-    }
-
-    /// Notes a shelf in use where that is so.
-    pub fn note_where(&mut self, so: bool, shelf: usize)
-        requires { so ≡ true → shelf < length self.old.notes.standing }
-        ensures notes { self.new.notes
-            ≡ (if so then spec.noted_as shelf true self.old.notes else self.old.notes) }
-        ensures room { self.new.room ≡ self.old.room }
-    {
-        if so {
-            self.note(shelf, true);
-        }
     }
 
     /// Notes that a shelf has changed if it is parked, so that the list follows it again. It is in use.
@@ -347,11 +335,11 @@ impl PendingShelves {
     {
         let shelf = usize::from(self.noted.pop()?);
         self.standing[shelf].parked = true;
-        self.has_parked = true;
+        self.parked_below = self.parked_below.max(self.narrow_below);
         Some(shelf)
     }
 
-    /// No free item of a parked shelf is as wide. It is 0 where none is parked.
+    /// No free item of a parked shelf is as wide. It is 0 where none was parked since all were listed.
     pub fn parked_below(&self) -> u32
         ensures value { result ≡ self.now.notes.parked_below }
         ensures small { result ≤ 65535 }
@@ -359,35 +347,56 @@ impl PendingShelves {
         u32::from(self.parked_below)
     }
 
+    /// A shelf is to be parked where its free items are narrower than this.
+    pub fn narrow_below(&self) -> u32
+        ensures value { result ≡ self.now.notes.narrow_below }
+        ensures small { result ≤ 65535 }
+    {
+        u32::from(self.narrow_below)
+    }
+
     /// Whether some were parked since all were listed.
     pub fn has_parked(&self) -> bool
-        ensures { result ≡ self.now.notes.has_parked }
+        ensures { result ≡ nat_lt 0 self.now.notes.parked_below }
     {
-        self.has_parked
+        self.parked_below > 0
     }
 
     /// Watches that something so wide is asked for, where so many shelves are listed. Once a time of watching is over,
     /// shelves are parked whose free items are narrower than all that was asked for in it, unless that was narrower than
-    /// the least width for which it is worth while.
+    /// the least width for which it is worth while. What is narrower than these ends that.
     pub fn watch(&mut self, width: u32, listed: usize, least: u32)
         requires { width ≤ 65535 }
         ensures notes { self.new.notes
-            ≡ record self.old.notes { parked_below = self.new.notes.parked_below } }
-        ensures more { self.old.notes.parked_below ≤ self.new.notes.parked_below }
-        ensures width { self.new.notes.parked_below ≤ max self.old.notes.parked_below width }
+            ≡ record self.old.notes { narrow_below = self.new.notes.narrow_below } }
+        ensures width { self.new.notes.narrow_below ≤ width }
         ensures room { self.new.room ≡ self.old.room }
     {
-        if listed < LISTED_TO_PARK {
-            return;
+        if width < u32::from(self.narrow_below) {
+            self.narrow_below = 0;
+            self.watch_longer();
         }
-        self.watch.narrowest = self.watch.narrowest.min(width as u16);
+        if listed >= LISTED_TO_PARK {
+            self.watch_listed(width as u16, listed, least);
+        }
+    }
+
+    /// The same where shelves enough are listed to park some, and what is asked for is no narrower than these.
+    fn watch_listed(&mut self, width: u16, listed: usize, least: u32)
+        requires { self.old.notes.narrow_below ≤ width }
+        ensures notes { self.new.notes
+            ≡ record self.old.notes { narrow_below = self.new.notes.narrow_below } }
+        ensures width { self.new.notes.narrow_below ≤ width }
+        ensures room { self.new.room ≡ self.old.room }
+    {
+        self.watch.narrowest = self.watch.narrowest.min(width);
         if self.watch.left > 0 {
             self.watch.left -= 1;
             return;
         }
         let below = self.watch.narrowest - self.watch.narrowest / MARGIN;
         if u32::from(below) >= least {
-            self.parked_below = self.parked_below.max(below);
+            self.narrow_below = self.narrow_below.max(below);
         }
         self.watch.narrowest = u16::MAX;
         self.watch.left = time_of_watching(listed, self.watch.patience);
@@ -415,12 +424,12 @@ impl PendingShelves {
               standing = replicate (length shelves.now) known;
               noted = [];
               parked_below = 0;
-              has_parked = false;
+              narrow_below = 0;
             } }
         ensures room { self.new.room ≡ self.old.room }
     {
         self.parked_below = 0;
-        self.has_parked = false;
+        self.narrow_below = 0;
         self.noted.clear();
         copy_all(&mut self.kept, shelves);
         know_all(&mut self.standing, shelves.len(), known);

@@ -4,7 +4,7 @@
 //! record of the earlier place. It looks only at the neighbours of the item and of its shelf, moves none in the list by
 //! height, and takes no memory: all have to stay so.
 
-ghost use Rattle.std.specs.Prelude.{◌≡◌, ℕ, ◌<◌, ◌≤◌, false, Some, IfSome, length};
+ghost use Rattle.std.specs.Prelude.{◌≡◌, ℕ, ◌<◌, ◌≤◌, false, None, Some, IfSome, length};
 ghost use Rattle.etagere_base.specs.Lists.{times};
 ghost use Rattle.shelf_records.specs.AtlasRecords.{shelf_of};
 ghost use Rattle.shelf_store.specs.Private.ItemReturned as returned;
@@ -222,7 +222,7 @@ fn free_after(records: &mut Records, shelf: usize, number: usize) -> Merged
     }
 }
 
-/// Merges a shelf with its neighbours, where it and they are empty and stand in one column.
+/// Merges a shelf with its neighbours, where it and they are empty and stand in one column. It mostly is, as its item went.
 fn merge_shelves(records: &mut Records, pending: &mut PendingShelves, shelf: usize) -> u32
     requires fits { CanMergeShelves shelf records.old }
     requires notes { CanMergeAllNotes shelf records.old pending.old.notes }
@@ -233,7 +233,8 @@ fn merge_shelves(records: &mut Records, pending: &mut PendingShelves, shelf: usi
     ensures few { result < 3 }
     ensures room { pending.new.room ≡ pending.old.room }
 {
-    let one = merge_shelf(records, pending, shelf);
+    let next = empty_behind(records.shelves(), shelf);
+    let one = merge_shelf(records, pending, shelf, next);
     let previous = previous_link(records.shelves(), shelf);
     one + merge_named_shelf(records, pending, previous)
 }
@@ -257,14 +258,23 @@ fn merge_named_shelf(records: &mut Records, pending: &mut PendingShelves, link: 
     ensures few { result < 2 }
     ensures room { pending.new.room ≡ pending.old.room }
 {
-    match link.number() {
-        None => 0,
-        Some(shelf) => merge_shelf(records, pending, shelf),
+    let shelf = number_or_none(link);
+    if shelf == NO_NUMBER {
+        return 0;
     }
+    let next = empty_next(records.shelves(), shelf);
+    merge_shelf(records, pending, shelf, next)
 }
 
-/// Merges a shelf with the next one, where both are empty and stand in one column.
-fn merge_shelf(records: &mut Records, pending: &mut PendingShelves, shelf: usize) -> u32
+/// Merges a shelf with the next one, where both are empty and stand in one column: then this is its number.
+fn merge_shelf(
+    records: &mut Records,
+    pending: &mut PendingShelves,
+    shelf: usize,
+    next: Option<usize>,
+) -> u32
+    requires next { next ≡ returned.empty_next records.old.shelves shelf }
+    requires small { IfSome next (λ number. number < no_link) }
     requires fits { HeightsFit shelf records.old.shelves }
     requires notes { CanMergeNotes shelf records.old pending.old.notes }
     ensures records { records.new ≡ (returned.shelf_merged shelf records.old).records }
@@ -274,7 +284,7 @@ fn merge_shelf(records: &mut Records, pending: &mut PendingShelves, shelf: usize
     ensures few { result < 2 }
     ensures room { pending.new.room ≡ pending.old.room }
 {
-    match empty_next(records.shelves(), shelf) {
+    match next {
         None => 0,
         Some(next) => absorb_shelf(records, pending, shelf, next),
     }
@@ -301,8 +311,7 @@ fn absorb_shelf(
     ensures room { pending.new.room ≡ pending.old.room }
 {
     let absorbed = &records.shelves()[next];
-    // By its bits, since a number that may be none takes more instructions.
-    let item = usize::from(absorbed.first_item.bits());
+    let item = number_or_none(absorbed.first_item);
     if item == NO_NUMBER {
         return 0;
     }
@@ -320,15 +329,42 @@ fn empty_next(shelves: &[LinkedShelf], shelf: usize) -> Option<usize>
     ensures small { IfSome result (λ number. number < no_link) }
 {
     let here = &shelves[shelf];
-    if !here.is_empty {
+    let next = number_or_none(here.next);
+    if !here.is_empty || next == NO_NUMBER {
         return None;
     }
-    let next = here.next.number()?;
     if are_both_empty(shelves, shelf, next) {
         Some(next)
     } else {
         None
     }
+}
+
+/// The shelf after one, which mostly is empty, where both are and stand in one column. Both are there.
+fn empty_behind(shelves: &[LinkedShelf], shelf: usize) -> Option<usize>
+    requires { HasNeighbours shelf_chain shelves.now shelf }
+    ensures value { result ≡ returned.empty_next shelves.now shelf }
+    ensures small { IfSome result (λ number. number < no_link) }
+{
+    let next = number_or_none(shelves[shelf].next);
+    if next == NO_NUMBER || !shelves[next].is_empty {
+        return None;
+    }
+    if are_both_empty(shelves, shelf, next) {
+        Some(next)
+    } else {
+        None
+    }
+}
+
+/// The number of the record that a link names, `NO_NUMBER` where it names none: where that is tested at once, a number that
+/// may be none takes more instructions.
+fn number_or_none(link: Link) -> usize
+    ensures none { result ≡ no_link → link ≡ None }
+    ensures some { result < no_link → link ≡ Some result }
+    ensures small { result ≤ no_link }
+{
+    usize::from(link.bits())
 }
 
 /// Whether two shelves are empty and stand in one column. Both are there.

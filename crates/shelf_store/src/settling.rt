@@ -6,7 +6,7 @@
 //! one may have room, all shelves in use are sorted anew. Nothing here changes the records, and nothing but
 //! `reserve_shelves` and `settled_notes` takes memory.
 
-ghost use Rattle.std.specs.Prelude.{◌≡◌, ℕ, ◌+◌, ◌<◌, ◌≤◌, ◌&&◌, ◌||◌, ◌-◌, not, IfOk, IfSome, OnErr, OnOk, false, get_or, length, true};
+ghost use Rattle.std.specs.Prelude.{◌≡◌, ℕ, ◌+◌, ◌<◌, ◌≤◌, ◌&&◌, ◌||◌, ◌-◌, nat_lt, not, IfOk, IfSome, OnErr, OnOk, false, get_or, length, max, true};
 ghost use Rattle.shelf_records.specs.RecordUses.{missing};
 ghost use Rattle.shelf_records.specs.RecordLists.{IsLinked, free_walk, shelf_walk, walked_lists};
 ghost use Rattle.shelf_records.specs.Records.{shelf_chain};
@@ -291,7 +291,7 @@ pub fn settle_shelves(
     ensures capacity { by_height.old.capacity ≤ by_height.new.capacity }
     ensures room { pending.new.room ≡ pending.old.room }
 {
-    if pending.parked_below() > 0 {
+    if pending.parked_below() > 0 || pending.narrow_below() > 0 {
         list_all(frame, records, by_height, pending);
         return;
     }
@@ -333,7 +333,8 @@ fn settle_noted(
     requires room_to_note { length records.now.shelves ≤ pending.old.room }
     ensures by_height { AreByHeightExceptNoted frame.now records.now pending.new.notes by_height.new.items }
     ensures none_waits { NoneWaits pending.new.notes }
-    ensures parked_below { pending.new.notes.parked_below ≤ pending.old.notes.parked_below }
+    ensures parked_below { pending.new.notes.parked_below
+        ≤ max pending.old.notes.parked_below pending.old.notes.narrow_below }
     ensures capacity { by_height.old.capacity ≤ by_height.new.capacity }
     ensures room { pending.new.room ≡ pending.old.room }
 {
@@ -359,6 +360,7 @@ fn take_out_moved(records: &Records, by_height: &mut ShelvesByHeight, pending: &
         → AreByHeightExceptNoted frame records.now pending.new.notes by_height.new.items }
     ensures as_listed { BeginAsListed records.now.shelves pending.new.notes }
     ensures parked_below { pending.new.notes.parked_below ≡ pending.old.notes.parked_below }
+    ensures narrow_below { pending.new.notes.narrow_below ≡ pending.old.notes.narrow_below }
     ensures capacity { by_height.old.capacity ≤ by_height.new.capacity }
     ensures room { pending.new.room ≡ pending.old.room }
 {
@@ -389,6 +391,7 @@ fn take_out_if_moved(
     ensures same { (k : ℕ) → is_noted pending.new.notes k ≡ is_noted pending.old.notes k }
     ensures parked { (k : ℕ) → is_parked pending.new.notes k ≡ is_parked pending.old.notes k }
     ensures parked_below { pending.new.notes.parked_below ≡ pending.old.notes.parked_below }
+    ensures narrow_below { pending.new.notes.narrow_below ≡ pending.old.notes.narrow_below }
     ensures capacity { by_height.old.capacity ≤ by_height.new.capacity }
     ensures room { pending.new.room ≡ pending.old.room }
 {
@@ -422,6 +425,7 @@ fn take_out_if_listed(
     ensures parked { (k : ℕ) → is_parked pending.new.notes k ≡ is_parked pending.old.notes k }
     ensures in_use { (k : ℕ) → is_in_use pending.new.notes k ≡ is_in_use pending.old.notes k }
     ensures parked_below { pending.new.notes.parked_below ≡ pending.old.notes.parked_below }
+    ensures narrow_below { pending.new.notes.narrow_below ≡ pending.old.notes.narrow_below }
     ensures capacity { by_height.old.capacity ≤ by_height.new.capacity }
     ensures room { pending.new.room ≡ pending.old.room }
 {
@@ -454,7 +458,9 @@ fn settle_each(
     requires room { length records.now.shelves ≤ by_height.old.capacity }
     ensures by_height { AreByHeightExceptNoted frame.now records.now pending.new.notes by_height.new.items }
     ensures none_waits { NoneWaits pending.new.notes }
-    ensures parked_below { pending.new.notes.parked_below ≡ pending.old.notes.parked_below }
+    ensures parked_below { pending.new.notes.parked_below
+        ≤ max pending.old.notes.parked_below pending.old.notes.narrow_below }
+    ensures narrow_below { pending.new.notes.narrow_below ≤ pending.old.notes.narrow_below }
     ensures capacity { by_height.old.capacity ≤ by_height.new.capacity }
     ensures room { pending.new.room ≡ pending.old.room }
 {
@@ -478,7 +484,9 @@ fn settle_last(
     ensures by_height { AreByHeightExceptNoted frame.now records.now pending.new.notes by_height.new.items }
     ensures as_listed { BeginAsListed records.now.shelves pending.new.notes }
     ensures fewer { length pending.new.notes.noted + 1 ≡ length pending.old.notes.noted }
-    ensures parked_below { pending.new.notes.parked_below ≡ pending.old.notes.parked_below }
+    ensures parked_below { pending.new.notes.parked_below
+        ≤ max pending.old.notes.parked_below pending.old.notes.narrow_below }
+    ensures narrow_below { pending.new.notes.narrow_below ≤ pending.old.notes.narrow_below }
     ensures capacity { by_height.old.capacity ≤ by_height.new.capacity }
     ensures room { pending.new.room ≡ pending.old.room }
 {
@@ -500,14 +508,16 @@ fn is_to_park(frame: &Frame, records: &Records, pending: &PendingShelves, shelf:
     requires within { is_in_use pending.now.notes shelf ≡ true → shelf < length records.now.shelves }
     requires few { length records.now.shelves ≤ no_link }
     ensures value { result
-        ≡ ((not (is_listed pending.now.notes shelf) || pending.now.notes.has_parked)
+        ≡ ((not (is_listed pending.now.notes shelf) || nat_lt 0 pending.now.notes.parked_below)
         && spec.is_narrow frame.now records.now pending.now.notes shelf) }
     ensures to_park { result ≡ true → IsToPark frame.now records.now pending.now.notes shelf }
 {
-    (!pending.lists(shelf) || pending.has_parked()) && is_narrow(frame, records, pending, shelf)
+    pending.narrow_below() > 0
+        && (!pending.standing(shelf).listed || pending.has_parked())
+        && is_narrow(frame, records, pending, shelf)
 }
 
-/// Whether a shelf that has changed may be parked: it is in use, and its bound is below the width of parked ones.
+/// Whether a shelf that has changed may be parked: it is in use, and its bound is below the width of those to be parked.
 fn is_narrow(frame: &Frame, records: &Records, pending: &PendingShelves, shelf: usize) -> bool
     requires kept { AreKept frame.now records.now }
     requires known { shelf < length pending.now.notes.standing }
@@ -517,7 +527,7 @@ fn is_narrow(frame: &Frame, records: &Records, pending: &PendingShelves, shelf: 
     ensures value { result ≡ spec.is_narrow frame.now records.now pending.now.notes shelf }
     ensures to_park { result ≡ true → IsToPark frame.now records.now pending.now.notes shelf }
 {
-    let below = pending.parked_below();
+    let below = pending.narrow_below();
     below > 0
         && pending.standing(shelf).in_use
         && u32::from(bounded_by_items(frame, records, shelf).widest) < below
@@ -542,7 +552,9 @@ fn park_last(
     ensures as_listed { BeginAsListed records.now.shelves pending.old.notes
         → BeginAsListed records.now.shelves pending.new.notes }
     ensures fewer { length pending.new.notes.noted + 1 ≡ length pending.old.notes.noted }
-    ensures parked_below { pending.new.notes.parked_below ≡ pending.old.notes.parked_below }
+    ensures parked_below { pending.new.notes.parked_below
+        ≤ max pending.old.notes.parked_below pending.old.notes.narrow_below }
+    ensures narrow_below { pending.new.notes.narrow_below ≤ pending.old.notes.narrow_below }
     ensures capacity { by_height.old.capacity ≤ by_height.new.capacity }
     ensures room { pending.new.room ≡ pending.old.room }
 {
@@ -571,6 +583,7 @@ fn settle_one(
     ensures bounded { IsBounded frame.now records.now shelf by_height.new.items }
     ensures noted { pending.new.notes.noted ≡ pending.old.notes.noted }
     ensures parked_below { pending.new.notes.parked_below ≡ pending.old.notes.parked_below }
+    ensures narrow_below { pending.new.notes.narrow_below ≡ pending.old.notes.narrow_below }
     ensures capacity { by_height.old.capacity ≤ by_height.new.capacity }
     ensures room { pending.new.room ≡ pending.old.room }
 {
@@ -611,6 +624,9 @@ fn leaving_before(
     ensures noted { IfSome result (λ left. is_noted pending.now.notes left ≡ true) }
     ensures same { by_height.new ≡ by_height.old }
 {
+    if pending.narrow_below() == 0 {
+        return None;
+    }
     let left = records.shelves()[shelf].prev.number()?;
     if !pending.lists(left) || !pending.is_noted(left) {
         return None;
@@ -673,6 +689,7 @@ fn put_in_place(
     ensures bounded { IsBounded frame.now records.now shelf by_height.new.items }
     ensures noted { pending.new.notes.noted ≡ pending.old.notes.noted }
     ensures parked_below { pending.new.notes.parked_below ≡ pending.old.notes.parked_below }
+    ensures narrow_below { pending.new.notes.narrow_below ≡ pending.old.notes.narrow_below }
     ensures capacity { by_height.old.capacity ≤ by_height.new.capacity }
     ensures room { pending.new.room ≡ pending.old.room }
 {
@@ -708,6 +725,7 @@ fn move_listed(
     ensures bounded { IsBounded frame.now records.now shelf by_height.new.items }
     ensures noted { pending.new.notes.noted ≡ pending.old.notes.noted }
     ensures parked_below { pending.new.notes.parked_below ≡ pending.old.notes.parked_below }
+    ensures narrow_below { pending.new.notes.narrow_below ≡ pending.old.notes.narrow_below }
     ensures capacity { by_height.old.capacity ≤ by_height.new.capacity }
     ensures room { pending.new.room ≡ pending.old.room }
 {
@@ -778,6 +796,7 @@ fn put_in_new(
     ensures bounded { IsBounded frame.now records.now shelf by_height.new.items }
     ensures noted { pending.new.notes.noted ≡ pending.old.notes.noted }
     ensures parked_below { pending.new.notes.parked_below ≡ pending.old.notes.parked_below }
+    ensures narrow_below { pending.new.notes.narrow_below ≡ pending.old.notes.narrow_below }
     ensures capacity { by_height.old.capacity ≤ by_height.new.capacity }
     ensures room { pending.new.room ≡ pending.old.room }
 {

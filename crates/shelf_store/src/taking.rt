@@ -4,7 +4,7 @@
 //! the first change, so an `Err` changes nothing; this has to stay so. In the list by height no shelf is moved: that they
 //! have changed is noted.
 
-ghost use Rattle.std.specs.Prelude.{◌≡◌, ℕ, ◌+◌, ◌<◌, ◌≤◌, Some, IfOk, OnOk, OnErr, IfSome, false, is_some, length};
+ghost use Rattle.std.specs.Prelude.{◌≡◌, ℕ, ◌+◌, ◌<◌, ◌≤◌, None, Some, IfOk, OnOk, OnErr, IfSome, false, is_some, length};
 ghost use Rattle.etagere_base.specs.Frames.{longest_side};
 ghost use Rattle.etagere_links.specs.Links.{no_link};
 ghost use Rattle.shelf_notes.specs.Private.SecondWidths.{second_at};
@@ -65,14 +65,65 @@ pub fn take_found(
     ensures short { OnErr result
         (0 < rests_missing found.now.splits_shelf found.now.splits_item records.old) }
 {
-    let left = bound_left(records, pending, seconds, found);
-    let narrow = leaves_narrow(records, pending, found);
+    let follows = what_follows(records, pending, seconds, found);
     let id = take_placement(records, by_height, pending, seconds, found, column_width)?;
-    if let Some(bound) = left {
-        rebound(pending.kept(), by_height, found.shelf, bound);
+    match follows {
+        Following::Nothing => {}
+        Following::Bound(bound) => rebound(pending.kept(), by_height, found.shelf, bound),
+        Following::Note => pending.note(found.shelf, true),
     }
-    pending.note_where(narrow, found.shelf);
     Ok(id)
+}
+
+/// What follows beside the records once a placement was taken.
+#[derive(Clone, Copy)]
+enum Following {
+    /// Nothing.
+    Nothing,
+    /// The bound of its shelf falls to this width.
+    Bound(u16),
+    /// Its shelf is noted, so that it is parked.
+    Note,
+}
+
+/// What follows once a placement is taken: nothing of a shelf that has changed, which the list isn't to follow yet.
+fn what_follows(
+    records: &Records,
+    pending: &PendingShelves,
+    seconds: &SecondWidths,
+    found: &Placement,
+) -> Following
+    requires item { found.now.item < length records.now.items }
+    requires known { found.now.shelf < length pending.now.notes.standing }
+    ensures due { is_some (notes.bound_of result)
+        ≡ leaves_bound records.now.items pending.now.notes seconds.now found.now }
+    ensures bound { IfSome (notes.bound_of result)
+        (IsBoundLeft records.now.items pending.now.notes seconds.now found.now) }
+    ensures notes { notes.notes_shelf result
+        ≡ notes.leaves_narrow records.now.items pending.now.notes found.now }
+{
+    if is_only_free(records.items(), found.item) {
+        return following_only(records, pending, found);
+    }
+    match bound_left(records, pending, seconds, found) {
+        Some(bound) => Following::Bound(bound),
+        None => Following::Nothing,
+    }
+}
+
+/// The same where the item of the placement is the only free one of its shelf.
+fn following_only(records: &Records, pending: &PendingShelves, found: &Placement) -> Following
+    requires item { found.now.item < length records.now.items }
+    requires known { found.now.shelf < length pending.now.notes.standing }
+    ensures bound { notes.bound_of result ≡ None }
+    ensures notes { notes.notes_shelf result
+        ≡ notes.leaves_narrow records.now.items pending.now.notes found.now }
+{
+    if leaves_narrow(records, pending, found) {
+        Following::Note
+    } else {
+        Following::Nothing
+    }
 }
 
 /// Takes a placement, which names its shelf and its item by their records' numbers, and gives the id. An
@@ -150,8 +201,8 @@ fn bound_left(
     Some(second.max(rest as u16))
 }
 
-/// Whether the shelf of a placement, which has not changed, has no free item left as wide as what is kept for parked ones, of
-/// which there are some.
+/// Whether the shelf of a placement, which has not changed, has no free item left as wide as what is to be parked, where some
+/// are parked.
 fn leaves_narrow(records: &Records, pending: &PendingShelves, found: &Placement) -> bool
     requires item { found.now.item < length records.now.items }
     requires known { found.now.shelf < length pending.now.notes.standing }
@@ -161,7 +212,7 @@ fn leaves_narrow(records: &Records, pending: &PendingShelves, found: &Placement)
         return false;
     }
     let rest = u32::from(records.items()[found.item].width).saturating_sub(found.width);
-    is_only_free(records.items(), found.item) && rest < pending.parked_below()
+    is_only_free(records.items(), found.item) && rest < pending.narrow_below()
 }
 
 /// Whether an item is the only free one of its shelf.

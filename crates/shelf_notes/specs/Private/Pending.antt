@@ -1,19 +1,19 @@
 -- What is noted beside the list of shelves by height, so that a shelf that changes need not be moved in it at once.
-use Rattle.std.specs.Prelude.{◌≡◌, ℕ, ◌≤◌, Bool, ◌&&◌, not, true, false, List, [], ◌∷◌, ◌++◌, get_or, length, min, set, vec_capacity, ◌==◌, if◌then◌else◌}
+use Rattle.std.specs.Prelude.{◌≡◌, ℕ, ◌≤◌, Bool, ◌&&◌, not, true, false, List, [], ◌∷◌, ◌++◌, get_or, length, max, min, set, vec_capacity, ◌==◌, if◌then◌else◌}
 use Rattle.etagere_base.specs.Lists.{times, total}
 use Rattle.shelf_records.specs.declared.records.LinkedShelf.{LinkedShelf}
 use Rattle.shelf_notes.specs.declared.pending.PendingShelves.TheInside.{Inside}
 use Rattle.shelf_notes.specs.declared.pending.Standing.{Standing}
 
 -- the records of shelves as they were when the list followed them, what is known of each shelf, the numbers of those that
--- have changed since and aren't parked, a width that no free item of a parked shelf has, and whether some were parked since
--- all were listed
+-- have changed since and aren't parked, a width that no free item of a parked shelf has (0 where none was parked since all
+-- were listed), and the width below which shelves are to be parked
 pub record Notes : Type 0 where
   pub kept : List LinkedShelf
   pub standing : List Standing
   pub noted : List ℕ
   pub parked_below : ℕ
-  pub has_parked : Bool
+  pub narrow_below : ℕ
 
 -- notes, and for how many shelves there is room
 pub record RoomyNotes : Type 0 where
@@ -78,7 +78,7 @@ notes_in pending =
         standing = pending.standing.items;
         noted = pending.noted.items;
         parked_below = pending.parked_below;
-        has_parked = pending.has_parked;
+        narrow_below = pending.narrow_below;
       };
       room = min (min (vec_capacity pending.kept) (vec_capacity pending.standing)) (vec_capacity pending.noted);
     }
@@ -137,7 +137,7 @@ parked_as shelf noted notes =
     record notes {
       standing = set notes.standing shelf (record (standing_at notes.standing shelf) { parked = true });
       noted = noted;
-      has_parked = true;
+      parked_below = max notes.parked_below notes.narrow_below;
     }
 
 -- the notes once a shelf in use was listed, which has not changed

@@ -96,7 +96,7 @@ all-stand n ns once within long k below = by_count (times k ns) refl
     by_count (suc c) some = omega (arith, some, once k)
 
 -- a list as long as the records that it follows has them all, each as it is
-pub follows-all : (shelves : List LinkedShelf) (by_height : List BoundedShelf) (notes : Notes) → AreInOrder shelves by_height → length by_height ≡ length shelves → notes ≡ record { kept = shelves; standing = replicate (length shelves) (record { listed = true; in_use = true; noted = false; parked = false }); noted = []; parked_below = 0; has_parked = false } → Follows shelves by_height notes
+pub follows-all : (shelves : List LinkedShelf) (by_height : List BoundedShelf) (notes : Notes) → AreInOrder shelves by_height → length by_height ≡ length shelves → notes ≡ record { kept = shelves; standing = replicate (length shelves) (record { listed = true; in_use = true; noted = false; parked = false }); noted = []; parked_below = 0; narrow_below = 0 } → Follows shelves by_height notes
 follows-all shelves by_height notes order long all =
     subst (Follows shelves by_height) (sym all)
     (record {

@@ -33,6 +33,15 @@ parked-same atlas new entries edited notes later k listed below bounds is =
       narrow = subst (λ (p : ℕ). IsBoundIn new edited (record { widest = p - 1; shelf = k })) (sym below) (bounds is.narrow);
     }
 
+-- so it does where wider ones are parked too
+pub parked-raised : (atlas : AtlasRecords) (entries : List Entry) (notes later : Notes) (k : ℕ) → is_listed later k ≡ is_listed notes k → notes.parked_below ≤ later.parked_below → IsParked atlas entries notes k → IsParked atlas entries later k
+parked-raised atlas entries notes later k listed more is =
+    record {
+      unlisted = listed ∙ is.unlisted;
+      some = omega (arith, is.some, more);
+      narrow = bound-more atlas entries k (notes.parked_below - 1) (later.parked_below - 1) (omega (arith, more)) is.narrow;
+    }
+
 -- a parked shelf isn't listed
 pub parked-unlisted : (atlas : AtlasRecords) (entries : List Entry) (notes : Notes) (by_height : List BoundedShelf) (k : ℕ) → HoldsExceptNoted atlas entries notes by_height → is_listed notes k ≡ true → is_parked notes k ≡ false
 parked-unlisted atlas entries notes by_height k holds so = by_mark (is_parked notes k) refl
@@ -81,23 +90,17 @@ unparked-holds atlas entries notes by_height shelf known so holds = by_mark (is_
     by_mark true e = (noted-holds atlas entries notes by_height shelf known so holds, parked-no notes shelf true known)
     by_mark false e = (holds, e)
 
--- the width of parked shelves may rise
-pub watched-holds : (atlas : AtlasRecords) (entries : List Entry) (notes : Notes) (by_height : List BoundedShelf) (below : ℕ) → notes.parked_below ≤ below → HoldsExceptNoted atlas entries notes by_height
-    → HoldsExceptNoted atlas entries (record notes { parked_below = below }) by_height
-watched-holds atlas entries notes by_height below more holds =
+-- which shelves are to be parked is left open
+pub watched-holds : (atlas : AtlasRecords) (entries : List Entry) (notes : Notes) (by_height : List BoundedShelf) (below : ℕ) → HoldsExceptNoted atlas entries notes by_height
+    → HoldsExceptNoted atlas entries (record notes { narrow_below = below }) by_height
+watched-holds atlas entries notes by_height below holds =
     record {
       listed = holds.listed;
       in_use = holds.in_use;
       order = holds.order;
       settled = λ k none. let is = holds.settled k none in record { listed = is.listed; in_chain = is.in_chain; height = is.height };
       bounds = holds.bounds;
-      parked = λ k so.
-          let is = holds.parked k so in
-          record {
-            unlisted = is.unlisted;
-            some = omega (arith, is.some, more);
-            narrow = bound-more atlas entries k (notes.parked_below - 1) (below - 1) (omega (arith, more)) is.narrow;
-          };
+      parked = λ k so. let is = holds.parked k so in record { unlisted = is.unlisted; some = is.some; narrow = is.narrow };
       known = holds.known;
       few = holds.few;
     }

@@ -24,7 +24,7 @@ use Rattle.shelf_notes.proofs.Noted.{once-false, once-true, unparked-waits, wait
 use Rattle.shelf_notes.proofs.NotedShelves.{forgotten-in_use, forgotten-known, forgotten-listed, forgotten-other, listed-in_use, listed-known, listed-noted, listed-other, listed-so, unlisted-in_use, unlisted-known, unlisted-noted, unlisted-other, unlisted-so, forgotten-parked, listed-parked, parked-in_use, parked-known, parked-listed, parked-noted, parked-other, unlisted-parked}
 use Rattle.shelf_records.proofs.Judged.EqualTimes.{length-fewer}
 use Rattle.std.specs.List.{AllByRecursion}
-use Rattle.shelf_store.proofs.ByHeight.ParkedShelves.{bound-more, parked-same, parked-unlisted}
+use Rattle.shelf_store.proofs.ByHeight.ParkedShelves.{bound-more, parked-raised, parked-same, parked-unlisted}
 use Rattle.shelf_store.proofs.ByHeight.RoomByHeight.{shelves-count}
 use Rattle.shelf_store.proofs.ByHeight.SplitByHeight.{used-once}
 use Rattle.shelf_store.proofs.ByHeight.SplitOrders.{StandsSame, order-stands, orders-apart}
@@ -418,11 +418,15 @@ module _ (frame : Frame) (records : Records) (notes : Notes) (by_height : List B
         by_number k so true e =
             let own : k ≡ shelf = grind arith in
             subst (λ (n : ℕ). IsParked (bare frame records) (walked_lists records).entries (parked_as shelf left notes) n) (sym own)
-            (record { unlisted = parked-listed notes shelf left known shelf ∙ unlisted_so; some = to_park.some; narrow = to_park.narrow })
+            (record {
+              unlisted = parked-listed notes shelf left known shelf ∙ unlisted_so;
+              some = omega (arith, to_park.some);
+              narrow = bound-more (bare frame records) (walked_lists records).entries shelf (notes.narrow_below - 1) ((parked_as shelf left notes).parked_below - 1) (omega arith) to_park.narrow;
+            })
         by_number k so false e =
             let other : k ≢ shelf = grind arith in
-            parked-same (bare frame records) (bare frame records) (walked_lists records).entries (walked_lists records).entries notes (parked_as shelf left notes) k
-            (parked-listed notes shelf left known k) refl (λ bounds. bounds)
+            parked-raised (bare frame records) (walked_lists records).entries notes (parked_as shelf left notes) k
+            (parked-listed notes shelf left known k) (omega arith)
             (holds.parked k (sym (ap (λ (s : Standing). s.parked) (parked-other notes shelf left known k other)) ∙ so))
 
     pub forgotten-as_listed : (left : List ℕ) → BeginAsListed records.shelves notes → BeginAsListed records.shelves (forgotten shelf left notes)

@@ -1,7 +1,7 @@
 -- What an allocation leaves of an atlas: the state that its records spell, and what is counted beside them.
 use Rattle.std.proofs.Common.{◌≡◌, ℕ, ◌+◌, ◌<◌, ◌≤◌, false, Option, None, Some, IfSome, List, ◌∷◌, length, refl, ap, sym, subst, ◌∙◌, arith, Bool, true, cond}
 use Rattle.std.proofs.lemmas.List.{length-map}
-use Rattle.std.specs.Prelude.{◌^◌, ◌&&◌, not}
+use Rattle.std.specs.Prelude.{◌^◌, ◌&&◌, nat_lt, not}
 use Rattle.std.specs.Option.{option_map_or}
 use Rattle.etagere_base.specs.declared.frames.Frame.{Frame}
 use Rattle.etagere_base.specs.declared.geometry.Rectangle.{Rectangle}
@@ -136,7 +136,7 @@ found-noted frame records new size found notes by_height kept finds holds list a
 
     by_width : (b : Bool) → leaves_narrow records.items notes found ≡ b → AreByHeightExceptNoted frame new (cond b (noted_as found.shelf true (taken_notes found records notes)) (taken_notes found records notes)) list
     by_width true e =
-        let none : found.splits_shelf ≡ false = whole notes.has_parked found.splits_shelf _ e in
+        let none : found.splits_shelf ≡ false = whole (nat_lt 0 notes.parked_below) found.splits_shelf _ e in
         let same : taken_notes found records notes ≡ notes = rw none refl in
         noted-holds (bare frame new) (walked_lists new).entries (taken_notes found records notes) list found.shelf
         (omega (arith, in_use-within notes.standing found.shelf in_use, ap (λ (n : Notes). length n.standing) same))

@@ -64,15 +64,15 @@ bounded_anew frame records shelf =
       shelf = shelf;
     }
 
--- whether a shelf that has changed may be parked: it is in use, and its bound is below the width of parked ones
+-- whether a shelf that has changed may be parked: it is in use, and its bound is below the width of those to be parked
 abbrev pub is_narrow : Frame → Records → Notes → ℕ → Bool
 is_narrow frame records notes shelf =
-    is_in_use notes shelf && nat_lt (bounded_anew frame records shelf).widest notes.parked_below
+    is_in_use notes shelf && nat_lt (bounded_anew frame records shelf).widest notes.narrow_below
 
--- a shelf may be parked: its free items are narrower than what is kept for all parked ones
+-- a shelf may be parked: its free items are narrower than those to be parked may be
 pub record IsToPark (frame : Frame) (records : Records) (notes : Notes) (shelf : ℕ) : Type 0 where
-  pub some : 1 ≤ notes.parked_below
-  pub narrow : IsBoundIn (bare frame records) (walked_lists records).entries (record { widest = notes.parked_below - 1; shelf = shelf })
+  pub some : 1 ≤ notes.narrow_below
+  pub narrow : IsBoundIn (bare frame records) (walked_lists records).entries (record { widest = notes.narrow_below - 1; shelf = shelf })
 
 -- the list has the shelves in use in the order of their heights and of the chain, each with a bound, but for those that
 -- have changed since it followed them, of which some are parked

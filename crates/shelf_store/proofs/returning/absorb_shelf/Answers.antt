@@ -1,6 +1,5 @@
-use Rattle.std.proofs.Common.{◌≡◌, ◌≢◌, ℕ, ◌<◌, Bool, true, false, cond, Option, None, Some, List, ap, arith, get_or, length, refl, sym, ◌∙◌}
-use Rattle.std.specs.Prelude.{◌==◌}
-use Rattle.etagere_links.specs.Links.{link_of, no_link}
+use Rattle.std.proofs.Common.{◌≡◌, ◌≢◌, ℕ, ◌<◌, false, None, Some, List, ap, arith, get_or, length, refl, sym, ◌∙◌}
+use Rattle.etagere_links.specs.Links.{no_link}
 use Rattle.etagere_links.specs.Edits.{field_at}
 use Rattle.shelf_records.specs.Neighbours.{HasNeighbours}
 use Rattle.etagere_links.proofs.FieldChanges.{field_at-within}
@@ -10,7 +9,7 @@ use Rattle.shelf_records.specs.RecordLists.{first_item_of}
 use Rattle.shelf_records.specs.Records.{shelf_chain}
 use Rattle.shelf_notes.proofs.NotedShelves.{noted-known}
 use Rattle.shelf_store.proofs.returning.absorb_shelf.Goals as goal
-use Rattle.shelf_store.proofs.returning.absorb_shelf.Goals.{After-from-item, Start}
+use Rattle.shelf_store.proofs.returning.absorb_shelf.Goals.{After-number_or_none-item, Start}
 
 -- both shelves are there
 both-there : (c : Start) → (c.args.shelf < length c.args.records.now.shelves) × HasNeighbours shelf_chain c.args.records.now.shelves c.args.next
@@ -22,25 +21,18 @@ read field other shelves found shelf here same within =
     field_at-within field other shelves shelf here within ∙ ap (λ (all : List LinkedShelf). field (get_or all shelf here)) (sym same)
 
 -- the first item of the next shelf
-first : (c : After-from-item) → c.args.next < length c.args.records.now.shelves → c.from-item.result ≢ no_link → first_item_of c.args.records.now.shelves c.args.next ≡ Some c.from-item.result
+first : (c : After-number_or_none-item) → c.args.next < length c.args.records.now.shelves → c.number_or_none-item.result ≢ no_link → first_item_of c.args.records.now.shelves c.args.next ≡ Some c.number_or_none-item.result
 first c there some =
     read (λ (s : LinkedShelf). s.first_item) None c.args.records.now.shelves c.shelves.result.now c.args.next c.index-shelves-next.result c.shelves.ensures there
     ∙ ap (λ (s : LinkedShelf). s.first_item) (sym c.index-shelves-next.is)
-    ∙ named c.bits.result c.from-item.result c.index-shelves-next.result.first_item c.bits.ensures.link c.from-item.ensures some
-  where
-    named : (bits number : ℕ) (link : Option ℕ) → link_of bits ≡ link → number ≡ bits → number ≢ no_link → link ≡ Some number
-    named bits number link of is other = sym of ∙ by_test (bits == no_link) refl
-      where
-        by_test : (b : Bool) → (bits == no_link) ≡ b → cond b None (Some bits) ≡ Some number
-        by_test true e = absurd (other (grind (arith, is)))
-        by_test false e = ap Some (sym is)
+    ∙ c.number_or_none-item.ensures.some (omega (arith, c.number_or_none-item.ensures.small, some))
 
 pub returns-clause-records : goal.returns-clause-records
 returns-clause-records c =
     let shelves : List LinkedShelf = c.args.records.now.shelves in
     let at = goal.at.returns-clause-records c in
     let there = both-there at.Start in
-    let item : first_item_of shelves c.args.next ≡ Some c.from-item.result = first at.After-from-item there.1.here c.if-item-eq-NO_NUMBER.false in
+    let item : first_item_of shelves c.args.next ≡ Some c.number_or_none-item.result = first at.After-number_or_none-item there.1.here c.if-item-eq-NO_NUMBER.false in
     let height : height_of shelves c.args.shelf ≡ (get_or c.shelves-2.result.now c.args.shelf c.index-shelves-shelf.result).height =
     read (λ (s : LinkedShelf). s.height) 0 shelves c.shelves-2.result.now c.args.shelf c.index-shelves-shelf.result c.shelves-2.ensures there.0 in
     let next_height : height_of shelves c.args.next ≡ c.index-shelves-next.result.height =
@@ -57,7 +49,7 @@ returns-clause-records c =
 pub returns-clause-notes : goal.returns-clause-notes
 returns-clause-notes c =
     let at = goal.at.returns-clause-notes c in
-    let item = first at.After-from-item (both-there at.Start).1.here c.if-item-eq-NO_NUMBER.false in
+    let item = first at.After-number_or_none-item (both-there at.Start).1.here c.if-item-eq-NO_NUMBER.false in
     rw (c.note-2.ensures.notes, c.note.ensures.notes, c.requires.next, item) refl
 
 pub note-requires : goal.note-requires
@@ -78,4 +70,4 @@ absorb_shelf-requires-clause-next c = (both-there (goal.at.absorb_shelf-requires
 pub absorb_shelf-requires-clause-item : goal.absorb_shelf-requires-clause-item
 absorb_shelf-requires-clause-item c =
     let at = goal.at.absorb_shelf-requires-clause-item c in
-    c.requires.notes.there.item c.args.next c.requires.next c.from-item.result (first at.After-from-item (both-there at.Start).1.here c.if-item-eq-NO_NUMBER.false)
+    c.requires.notes.there.item c.args.next c.requires.next c.number_or_none-item.result (first at.After-number_or_none-item (both-there at.Start).1.here c.if-item-eq-NO_NUMBER.false)

@@ -12,5 +12,5 @@ previous_link-previous-requires c =
       c.requires.notes.next.there.here.here,
       (shelf-next-lengths c.args.shelf (empty_next records.shelves c.args.shelf) records).shelves,
       ap (λ (r : Records). length r.shelves) c.merge_shelf-one.ensures.records,
-      ap length c.shelves.ensures,
+      ap length c.shelves-2.ensures,
     )

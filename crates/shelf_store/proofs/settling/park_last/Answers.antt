@@ -16,7 +16,7 @@ last c = c.requires.last ∙ sym (ap (λ (ns : List ℕ). get_or ns (length ns -
 pub returns-clause-by_height : goal.returns-clause-by_height
 returns-clause-by_height c frame kept to_park holds =
     let at = (goal.at.returns-clause-by_height c).After-park_last in
-    let below = c.take_out_if_listed.ensures.parked_below in
+    let below = c.take_out_if_listed.ensures.narrow_below in
     parked-popped frame c.args.records.now c.take_out_if_listed.new.pending.notes c.park_last.new.self.notes c.take_out_if_listed.new.by_height.items c.args.shelf c.park_last.result
     kept (c.take_out_if_listed.ensures.by_height frame kept holds)
     c.park_last.ensures.none c.park_last.ensures.within c.park_last.ensures.last c.park_last.ensures.notes (some at) (last at) c.take_out_if_listed.ensures.unlisted

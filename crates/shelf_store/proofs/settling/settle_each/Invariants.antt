@@ -1,4 +1,4 @@
-use Rattle.std.proofs.Common.{◌≡◌, ◌≤◌, length}
+use Rattle.std.proofs.Common.{◌≡◌, ◌≤◌, length, max}
 use Rattle.shelf_store.specs.Private.Settling.{AreByHeightExceptNoted, BeginAsListed}
 use Rattle.shelf_store.proofs.settling.settle_each.Given as goal
 
@@ -10,7 +10,8 @@ invariant-loop-by_height l = record {
   room : length l.records.shelves ≤ l.by_height.capacity;
   capacity : l.fn.by_height.capacity ≤ l.by_height.capacity;
   room_to_note : l.pending.room ≡ l.fn.pending.room;
-  parked_below : l.pending.notes.parked_below ≡ l.fn.pending.notes.parked_below;
+  parked_below : l.pending.notes.parked_below ≤ max l.fn.pending.notes.parked_below l.fn.pending.notes.narrow_below;
+  narrow_below : l.pending.notes.narrow_below ≤ l.fn.pending.notes.narrow_below;
 }
 
 abbrev pub decreases-loop-by_height : goal.decreases-loop-by_height

@@ -1,4 +1,4 @@
-use Rattle.std.proofs.Common.{arith, subst, sym}
+use Rattle.std.proofs.Common.{ap, arith, subst, sym}
 use Rattle.shelf_records.specs.Private.Kept.{bare}
 use Rattle.shelf_records.specs.RecordLists.{walked_lists}
 use Rattle.shelf_notes.specs.Private.Pending.{Notes}
@@ -19,13 +19,13 @@ returns-then-width-parked_below-clause-follows c =
 pub settle_noted-requires-clause-by_height : goal.settle_noted-requires-clause-by_height
 settle_noted-requires-clause-by_height c =
     subst (λ (n : Notes). AreByHeightExceptNoted c.args.frame.now c.args.records.now n c.args.by_height.now.items) (sym c.watch.ensures.notes)
-    (watched-holds (bare c.args.frame.now c.args.records.now) (walked_lists c.args.records.now).entries c.args.pending.now.notes c.args.by_height.now.items c.watch.new.self.notes.parked_below
-    c.watch.ensures.more c.requires.by_height)
+    (watched-holds (bare c.args.frame.now c.args.records.now) (walked_lists c.args.records.now).entries c.args.pending.now.notes c.args.by_height.now.items c.watch.new.self.notes.narrow_below
+    c.requires.by_height)
 
 pub returns-then-len-gt0-clause-follows : goal.returns-then-len-gt0-clause-follows
 returns-then-len-gt0-clause-follows c =
     for-width c.args.frame.now c.args.records.now c.settle_noted.new.pending.notes c.settle_noted.new.by_height.items c.requires.kept c.settle_noted.ensures.by_height c.settle_noted.ensures.none_waits
-    c.args.width (omega (arith, c.settle_noted.ensures.parked_below, c.watch.ensures.width, c.if-width-parked_below.false, c.parked_below.ensures.value))
+    c.args.width (omega (arith, c.settle_noted.ensures.parked_below, c.watch.ensures.width, ap (λ (n : Notes). n.parked_below) c.watch.ensures.notes, c.if-width-parked_below.false, c.parked_below.ensures.value))
 
 pub returns-else-len-gt0-clause-follows : goal.returns-else-len-gt0-clause-follows
 returns-else-len-gt0-clause-follows c =

@@ -29,6 +29,7 @@ loop-index-preserved c =
       same = λ k. c.take_out_if_moved.ensures.same k ∙ c.loop-index.invariant.same k;
       parked = λ k. c.take_out_if_moved.ensures.parked k ∙ c.loop-index.invariant.parked k;
       parked_below = c.take_out_if_moved.ensures.parked_below ∙ c.loop-index.invariant.parked_below;
+      narrow_below = c.take_out_if_moved.ensures.narrow_below ∙ c.loop-index.invariant.narrow_below;
       capacity = omega (arith, c.loop-index.invariant.capacity, c.take_out_if_moved.ensures.capacity);
       room = c.take_out_if_moved.ensures.room ∙ c.loop-index.invariant.room;
     }

@@ -16,6 +16,7 @@ invariant-loop-index l = record {
   same : (k : ℕ) → is_noted l.pending.notes k ≡ is_noted l.fn.pending.notes k;
   parked : (k : ℕ) → is_parked l.pending.notes k ≡ is_parked l.fn.pending.notes k;
   parked_below : l.pending.notes.parked_below ≡ l.fn.pending.notes.parked_below;
+  narrow_below : l.pending.notes.narrow_below ≡ l.fn.pending.notes.narrow_below;
   capacity : l.fn.by_height.capacity ≤ l.by_height.capacity;
   room : l.pending.room ≡ l.fn.pending.room;
 }
