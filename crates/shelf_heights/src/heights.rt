@@ -89,7 +89,7 @@ pub fn order_or_zero(shelves: &[LinkedShelf], shelf: usize) -> u64
 }
 
 /// Where the shelves begin that don't come before this height and order in the chain, by binary search.
-pub fn first_from(
+fn first_from(
     shelves: &[LinkedShelf],
     by_height: &ShelvesByHeight,
     height: u32,

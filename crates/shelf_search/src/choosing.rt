@@ -21,7 +21,7 @@ ghost use Rattle.shelf_model.specs.Fresh.{fresh};
 ghost use Rattle.shelf_heights.specs.Private.ByHeight.{AreInOrder, AreByHeightFor, bounded_at, numbers_by_height};
 ghost use Rattle.shelf_records.specs.Private.Kept.{AreKept, Finds, state_of};
 ghost use Rattle.shelf_search.specs.Private.Opening as opening;
-ghost use Rattle.shelf_search.specs.Private.Opening.{AreInChain, AreSearchable, AreTall, AreWhole, IsBehind, IsEarliest, IsSearchable, earlier_position, looked_into};
+ghost use Rattle.shelf_search.specs.Private.Opening.{AreInChain, AreLowered, AreSearchable, AreTall, AreWhole, IsBehind, IsEarliest, IsSearchable, bounded_full, earlier_position, looked_into};
 ghost use Rattle.shelf_search.specs.Private.Searching as searching;
 ghost use Rattle.shelf_search.specs.Private.Searching.{AreTooTall, IsFirstGood};
 ghost use Rattle.shelf_model.specs.State as state;
@@ -29,7 +29,7 @@ ghost use Rattle.shelf_model.specs.State as state;
 use crate::by_place::first_of_least_rank;
 use etagere_base::{Frame, Sides, Size, asked, step};
 use shelf_heights::by_height::{BoundedShelf, ShelvesByHeight};
-use shelf_heights::heights::{chain_order_of, first_as_tall, first_from};
+use shelf_heights::heights::{chain_order_of, first_as_tall};
 use shelf_model::placements::Placement;
 use shelf_records::{LinkedShelf, Records};
 
@@ -385,7 +385,7 @@ fn first_placed(
     ensures by_height { AreSearchable records.now by_height.new.items }
     ensures capacity { by_height.old.capacity ≤ by_height.new.capacity }
 {
-    while let Some(index) = earliest_wide(records.shelves(), by_height, start, width) {
+    while let Some(index) = earliest_wide(records, by_height, start, width) {
         let found = fit_at(records, by_height, index, width, height);
         if found.is_some() {
             return found;
@@ -395,28 +395,59 @@ fn first_placed(
 }
 
 /// The position of the earliest shelf in the chain from this one on whose bound is not below this width. Shelves of one
-/// height stand in the order of the chain, so only the first such one of each height is looked at.
+/// height stand in the order of the chain, so only the first such one of each height is looked at. Where that is full, its
+/// bound falls, and the next one is.
 fn earliest_wide(
-    shelves: &[LinkedShelf],
+    records: &Records,
     by_height: &mut ShelvesByHeight,
     start: usize,
     width: u32,
 ) -> Option<usize>
-    requires order { AreInOrder shelves.now by_height.old.items }
-    requires in_chain { AreInChain shelves.now by_height.old.items }
+    requires linked { IsLinked records.now (walked_lists records.now) }
+    requires order { AreInOrder records.now.shelves by_height.old.items }
     requires few { length by_height.old.items < 2 ^ 64 }
     requires start { start ≤ length by_height.old.items }
-    ensures value { IsEarliest shelves.now by_height.old.items start (length by_height.old.items) width result }
-    ensures items { by_height.new.items ≡ by_height.old.items }
+    requires by_height { AreSearchable records.now by_height.old.items }
+    requires wide { 1 ≤ width }
+    ensures value { IsEarliest records.now.shelves by_height.new.items start (length by_height.new.items) width
+        result }
+    ensures numbers { numbers_by_height by_height.new.items ≡ numbers_by_height by_height.old.items }
+    ensures by_height { AreSearchable records.now by_height.new.items }
+    ensures lowered { AreLowered by_height.old.items by_height.new.items }
     ensures capacity { by_height.old.capacity ≤ by_height.new.capacity }
 {
     let mut first = None;
     let mut from = start;
-    while let Some(index) = by_height.first_as_wide(from, width) {
-        first = Some(earlier(shelves, by_height, first, index));
-        from = behind_height(shelves, by_height, index);
+    while let Some(index) = by_height.first_near_as_wide(from, width) {
+        if lower_if_full(records, by_height, index) {
+            from = index + 1;
+        } else {
+            first = Some(earlier(records.shelves(), by_height, first, index));
+            from = behind_height(records.shelves(), by_height, index);
+        }
     }
     first
+}
+
+/// Whether the shelf at this position has no free item. Then its bound falls to 0.
+fn lower_if_full(records: &Records, by_height: &mut ShelvesByHeight, index: usize) -> bool
+    requires linked { IsLinked records.now (walked_lists records.now) }
+    requires index { index < length by_height.old.items }
+    requires by_height { AreSearchable records.now by_height.old.items }
+    ensures full { result ≡ true → by_height.new.items
+        ≡ set by_height.old.items index (bounded_full (bounded_at by_height.old.items index)) }
+    ensures same { result ≡ false → by_height.new.items ≡ by_height.old.items }
+    ensures by_height { AreSearchable records.now by_height.new.items }
+    ensures capacity { by_height.old.capacity ≤ by_height.new.capacity }
+{
+    let mut one = by_height.get(index);
+    let shelf = &records.shelves()[usize::from(one.shelf)];
+    if shelf.first_unallocated.number().is_some() {
+        return false;
+    }
+    one.widest = 0;
+    by_height.set(index, one);
+    true
 }
 
 /// Of two positions the one whose shelf is earlier in the chain.
@@ -450,19 +481,20 @@ fn chain_order_at(shelves: &[LinkedShelf], by_height: &ShelvesByHeight, index: u
 
 /// A position behind this one, up to which all shelves have its height, and so are later in the chain. Where the
 /// next shelf has its height, it is that behind all shelves of it.
-fn behind_height(shelves: &[LinkedShelf], by_height: &ShelvesByHeight, index: usize) -> usize
-    requires order { AreInOrder shelves.now by_height.now.items }
-    requires in_chain { AreInChain shelves.now by_height.now.items }
-    requires few { length by_height.now.items < 2 ^ 64 }
-    requires index { index < length by_height.now.items }
-    ensures { IsBehind shelves.now by_height.now.items index result }
+fn behind_height(shelves: &[LinkedShelf], by_height: &mut ShelvesByHeight, index: usize) -> usize
+    requires order { AreInOrder shelves.now by_height.old.items }
+    requires in_chain { AreInChain shelves.now by_height.old.items }
+    requires few { length by_height.old.items < 2 ^ 64 }
+    requires index { index < length by_height.old.items }
+    ensures behind { IsBehind shelves.now by_height.old.items index result }
+    ensures same { by_height.new ≡ by_height.old }
 {
     let height = own_height(shelves, by_height.shelf(index));
     let next = index + 1;
     if next == by_height.len() || own_height(shelves, by_height.shelf(next)) != height {
         return next;
     }
-    first_from(shelves, by_height, height + 1, 0).index
+    first_as_tall(shelves, by_height, height + 1)
 }
 
 /// How tall a shelf is.

@@ -3,6 +3,7 @@ use Rattle.std.proofs.Common.{◌≡◌, ◌≢◌, ℕ, zero, suc, ◌+◌, ◌
 use Rattle.std.proofs.lemmas.Bool.Decides.{nat_tests}
 use Rattle.std.proofs.lemmas.List.{drop-take, get_or_past}
 use Rattle.std.proofs.lemmas.List.Edits.{get_or-insert_above, get_or-insert_at, get_or-insert_below, get_or-remove_above, get_or-remove_below}
+use Rattle.std.proofs.Math.Seq.{take-length}
 use Rattle.std.specs.List.{AllByRecursion}
 use Rattle.shelf_heights.specs.Private.ListFields.{AreCovered, AreRaised, IsFirstWide}
 use Rattle.shelf_heights.proofs.ByHeight.PassedBounds.{joined}
@@ -67,6 +68,21 @@ first-behind from width at bounds (Some index) after low found first = (
   joined (λ bound. bound < width) bounds from at index after first.0 (stretch-read (λ bound. bound < width) bounds from at low) first.2,
   first.3,
 )
+
+-- so it is where one was found or none
+pub first-after : (from width at : ℕ) (bounds : List ℕ) (result : Option ℕ) → from ≤ at → ((k : ℕ) → from ≤ k → k < at → k < length bounds → get_or bounds k 0 < width)
+    → IfSome result (λ index. IsFirstWide at width bounds (Some index)) → IfSome result (λ index. IsFirstWide from width bounds (Some index))
+first-after from width at bounds None after low first = tt
+first-after from width at bounds (Some index) after low first = first-behind from width at bounds (Some index) after low refl first
+
+-- where none is found behind what was passed, there is none at all
+pub first-joined : (from width at : ℕ) (bounds : List ℕ) (result : Option ℕ) → from ≤ at → at ≤ length bounds → ((k : ℕ) → from ≤ k → k < at → k < length bounds → get_or bounds k 0 < width)
+    → IsFirstWide at width bounds result → IsFirstWide from width bounds result
+first-joined from width at bounds None after within low none =
+    subst (λ (xs : List ℕ). AllByRecursion (λ bound. bound < width) (drop from xs)) (take-length bounds)
+    (joined (λ bound. bound < width) bounds from at (length bounds) after within (stretch-read (λ bound. bound < width) bounds from at low)
+    (subst (λ (xs : List ℕ). AllByRecursion (λ bound. bound < width) (drop at xs)) (sym (take-length bounds)) none))
+first-joined from width at bounds (Some index) after within low first = first-behind from width at bounds (Some index) after low refl first
 
 -- what is low up to a position and from there up to another is low up to that
 pub low-joined : (from at end width : ℕ) (bounds : List ℕ) → ((k : ℕ) → from ≤ k → k < at → k < length bounds → get_or bounds k 0 < width)

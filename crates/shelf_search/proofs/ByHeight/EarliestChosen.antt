@@ -1,15 +1,15 @@
 -- That what the shelf in the first place offers is chosen, and that each search of a free list in vain leaves fewer bounds
 -- that are as wide.
-use Rattle.std.proofs.Common.{◌≡◌, ℕ, zero, suc, ◌+◌, ◌-◌, ◌<◌, ◌≤◌, Bool, true, false, cond, Option, None, Some, option_map, List, [], ◌∷◌, drop, get_or, length, map, set, refl, ap, arith, sym, ◌∙◌, subst}
+use Rattle.std.proofs.Common.{◌≡◌, ℕ, zero, suc, ◌+◌, ◌-◌, ◌<◌, ◌≤◌, Bool, true, false, cond, Option, None, Some, option_map, List, [], ◌∷◌, drop, get_or, get_or-set_other, get_or-set_same, length, map, set, refl, ap, arith, sym, ◌∙◌, ◌≢◌, subst}
 use Rattle.std.proofs.lemmas.Bool.Decides.{nat_tests}
 use Rattle.std.proofs.lemmas.List.{length-map, get_or-drop, get_or-map, length-drop}
 use Rattle.std.specs.Option.{is_some}
-use Rattle.std.specs.Prelude.{find, nat_le, nat_lt, if◌then◌else◌}
+use Rattle.std.specs.Prelude.{◌==◌, find, nat_le, nat_lt, if◌then◌else◌}
 use Rattle.shelf_records.specs.RecordLists.{Records, free_walk}
 use Rattle.shelf_records.specs.declared.records.LinkedShelf.{LinkedShelf}
 use Rattle.shelf_records.specs.AtlasRecords.{height_of, item_at}
 use Rattle.shelf_heights.specs.Private.ByHeight.{chain_order, bounded_at, numbers_by_height}
-use Rattle.shelf_search.specs.Private.Opening.{AreSearchable, IsEarliestWide, IsSearchable, looked_into, chain_order_at, widest_of}
+use Rattle.shelf_search.specs.Private.Opening.{AreLowered, AreSearchable, IsEarliestWide, IsSearchable, bounded_full, looked_into, chain_order_at, widest_of}
 use Rattle.shelf_search.specs.Private.Searching.{earlier, earliest, first_wide, offered, rank_of}
 use Rattle.shelf_search.specs.declared.choosing.Candidate.{Candidate}
 use Rattle.shelf_heights.specs.declared.by_height.BoundedShelf.{BoundedShelf}
@@ -31,6 +31,41 @@ count-fallen width zero (first ∷ others) one within wide narrow =
     let low : nat_le width one.widest ≡ false = grind (arith, nat_tests) in
     rw (high, low) (omega arith)
 count-fallen width (suc index) (first ∷ others) one within wide narrow = omega (arith, count-fallen width index others one (omega arith) wide narrow)
+
+-- with bounds that are not above what they were they are no more
+pub count-lowered : (width : ℕ) (old new : List BoundedShelf) → length new ≡ length old → AreLowered old new → wide_count width new ≤ wide_count width old
+count-lowered width [] [] size lowered = omega arith
+count-lowered width [] (one ∷ others) size lowered = absurd (omega (arith, size))
+count-lowered width (one ∷ others) [] size lowered = absurd (omega (arith, size))
+count-lowered width (one ∷ others) (low ∷ lows) size lowered =
+    by_tests (nat_le width low.widest) (nat_le width one.widest) refl refl (count-lowered width others lows (omega (arith, size)) (λ k. lowered (suc k)))
+  where
+    by_tests : (a b : Bool) → nat_le width low.widest ≡ a → nat_le width one.widest ≡ b → wide_count width lows ≤ wide_count width others → wide_count width (low ∷ lows) ≤ wide_count width (one ∷ others)
+    by_tests true true e f fewer = rw (e, f) (omega (arith, fewer))
+    by_tests true false e f fewer =
+        let high : width ≤ low.widest = grind (arith, nat_tests) in
+        let narrow : one.widest < width = grind (arith, nat_tests) in
+        absurd (omega (arith, high, narrow, lowered 0))
+    by_tests false true e f fewer = rw (e, f) (omega (arith, fewer))
+    by_tests false false e f fewer = rw (e, f) (omega (arith, fewer))
+
+-- a bound of 0 for one lowers no other
+pub full-lowered : (by_height : List BoundedShelf) (index : ℕ) → index < length by_height → AreLowered by_height (set by_height index (bounded_full (bounded_at by_height index)))
+full-lowered by_height index within k = by_test (k == index) refl
+  where
+    nothing : BoundedShelf
+    nothing = record { widest = 0; shelf = 0 }
+
+    full : BoundedShelf
+    full = bounded_full (bounded_at by_height index)
+
+    by_test : (b : Bool) → (k == index) ≡ b → (bounded_at (set by_height index full) k).widest ≤ (bounded_at by_height k).widest
+    by_test true e =
+        let same : k ≡ index = grind arith in
+        omega (arith, ap (λ n. (bounded_at (set by_height index full) n).widest) same, ap (λ (one : BoundedShelf). one.widest) (get_or-set_same by_height index full nothing within))
+    by_test false e =
+        let other : k ≢ index = λ same. absurd (grind arith) in
+        omega (arith, ap (λ (one : BoundedShelf). one.widest) (get_or-set_other by_height index k full nothing other))
 
 -- where no item is wide enough, the widest is below the width
 widest-low : (records : Records) (width : ℕ) (numbers : List ℕ) → 1 ≤ width → find (is_wide records width) numbers ≡ None → widest_of records.items numbers < width

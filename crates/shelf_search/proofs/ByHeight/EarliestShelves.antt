@@ -1,6 +1,6 @@
 -- The shelf in the first place of those that are wide enough: how it is found height by height, and that what it offers is
 -- what the model chooses.
-use Rattle.std.proofs.Common.{◌≡◌, ℕ, zero, suc, ◌+◌, ◌<◌, ◌≤◌, Bool, true, false, cond, Option, None, Some, List, [], ◌∷◌, drop, length, map, take, refl, arith, sym, subst}
+use Rattle.std.proofs.Common.{◌≡◌, ◌≢◌, ℕ, zero, suc, ◌+◌, ◌<◌, ◌≤◌, Bool, true, false, cond, Option, None, Some, List, [], ◌∷◌, drop, get_or-set_other, get_or-set_same, length, map, set, take, refl, ap, arith, sym, subst}
 use Rattle.shelf_records.proofs.Spelled.Witnesses.{Each-unmap}
 use Rattle.std.proofs.lemmas.List.{drop-map}
 use Rattle.std.proofs.Math.Seq.{take-length}
@@ -10,8 +10,8 @@ use Rattle.std.specs.List.{AllByRecursion}
 use Rattle.shelf_records.specs.declared.records.LinkedShelf.{LinkedShelf}
 use Rattle.shelf_records.specs.AtlasRecords.{height_of}
 use Rattle.shelf_model.specs.Listing.{RiseFrom}
-use Rattle.shelf_heights.specs.Private.ByHeight.{AreInOrder, IsFirstAsWide, IsStart, order_at, order_of, chain_order, bounded_at, numbers_by_height}
-use Rattle.shelf_search.specs.Private.Opening.{AreInChain, IsBehind, IsEarliest, IsEarliestWide, earlier_position, chain_order_at}
+use Rattle.shelf_heights.specs.Private.ByHeight.{AreInOrder, IsFirstAsWide, order_at, order_of, chain_order, bounded_at, numbers_by_height}
+use Rattle.shelf_search.specs.Private.Opening.{AreInChain, IsBehind, bounded_full, IsEarliest, IsEarliestWide, earlier_position, chain_order_at}
 use Rattle.shelf_search.specs.Private.Searching.{earliest}
 use Rattle.shelf_heights.specs.declared.by_height.BoundedShelf.{BoundedShelf}
 use Rattle.shelf_heights.proofs.ByHeight.Positions.{rise-read}
@@ -129,6 +129,67 @@ module _ (shelves : List LinkedShelf) (by_height : List BoundedShelf) where
               let less : chain_order_at shelves by_height index ≤ chain_order_at shelves by_height one = grind (arith, nat_tests) in
               new (before_later one is less)
 
+  -- where a full shelf is found, it is passed with a bound of 0, and what was found stays
+  pub passed-full : (start from index width : ℕ) (first : Option ℕ) → 1 ≤ width → start ≤ from → IsEarliest shelves by_height start from width first → IsFirstAsWide from width by_height (Some index)
+      → IsEarliest shelves (set by_height index (bounded_full (bounded_at by_height index))) start (index + 1) width first
+  passed-full start from index width first some after earliest reached = by_first first earliest
+    where
+      full : List BoundedShelf
+      full = set by_height index (bounded_full (bounded_at by_height index))
+
+      -- another one has the bound that it had
+      other : (k : ℕ) → k ≢ index → bounded_at full k ≡ bounded_at by_height k
+      other k differs = get_or-set_other by_height index k (bounded_full (bounded_at by_height index)) nothing differs
+
+      here : bounded_at full index ≡ bounded_full (bounded_at by_height index)
+      here = get_or-set_same by_height index (bounded_full (bounded_at by_height index)) nothing reached.1
+
+      -- none of those from here on is as wide
+      passed : (k : ℕ) → from ≤ k → k < index + 1 → (bounded_at full k).widest < width
+      passed k beyond before = by_test (nat_lt k index) refl
+        where
+          by_test : (b : Bool) → nat_lt k index ≡ b → (bounded_at full k).widest < width
+          by_test true e =
+              let front : k < index = grind (arith, nat_tests) in
+              omega (arith, ap (λ (one : BoundedShelf). one.widest) (other k (λ same. omega (arith, same, front))), each-between (λ (one : BoundedShelf). one.widest < width) by_height from index k beyond front (omega (arith, front, reached.1)) reached.2)
+          by_test false e =
+              let high : index ≤ k = grind (arith, nat_tests) in
+              let same : k ≡ index = omega (arith, high, before) in
+              omega (arith, some, ap (λ n. (bounded_at full n).widest) same, ap (λ (one : BoundedShelf). one.widest) here)
+
+      -- those before stay as they are
+      stays : (k : ℕ) → k < from → bounded_at full k ≡ bounded_at by_height k
+      stays k before = other k (λ same. omega (arith, same, before, reached.0))
+
+      order : (k : ℕ) → k < from → chain_order_at shelves full k ≡ chain_order_at shelves by_height k
+      order k before = ap (λ (one : BoundedShelf). chain_order shelves one.shelf) (stays k before)
+
+      by_first : (o : Option ℕ) → IsEarliest shelves by_height start from width o → IsEarliest shelves full start (index + 1) width o
+      by_first None none = λ k beyond before. by_test k beyond before (nat_lt k from) refl
+        where
+          by_test : (k : ℕ) → start ≤ k → k < index + 1 → (b : Bool) → nat_lt k from ≡ b → (bounded_at full k).widest < width
+          by_test k beyond before true e =
+              let front : k < from = grind (arith, nat_tests) in
+              omega (arith, ap (λ (one : BoundedShelf). one.widest) (stays k front), none k beyond front)
+          by_test k beyond before false e = let high : from ≤ k = grind (arith, nat_tests) in passed k high before
+      by_first (Some one) is = record {
+        after = is.after;
+        within = omega (arith, is.within, reached.0);
+        wide = omega (arith, ap (λ (x : BoundedShelf). x.widest) (stays one is.within), is.wide);
+        before = λ k beyond before wide.
+            let front : k < from = omega (arith, before, is.within) in
+            omega (arith, order one is.within, order k front, is.before k beyond before (omega (arith, wide, ap (λ (x : BoundedShelf). x.widest) (stays k front))));
+        behind = λ k beyond before wide. by_test k beyond before wide (nat_lt k from) refl;
+      }
+        where
+          by_test : (k : ℕ) → one < k → k < index + 1 → width ≤ (bounded_at full k).widest → (b : Bool) → nat_lt k from ≡ b → chain_order_at shelves full one < chain_order_at shelves full k
+          by_test k beyond before wide true e =
+              let front : k < from = grind (arith, nat_tests) in
+              omega (arith, order one is.within, order k front, is.behind k beyond front (omega (arith, wide, ap (λ (x : BoundedShelf). x.widest) (stays k front))))
+          by_test k beyond before wide false e =
+              let high : from ≤ k = grind (arith, nat_tests) in
+              absurd (omega (arith, wide, passed k high before))
+
   -- where no bound behind is as wide, what was found is that of all
   pub ended-earliest : (start from width : ℕ) (first : Option ℕ) → from ≤ length by_height → IsEarliest shelves by_height start from width first → IsFirstAsWide from width by_height None → IsEarliest shelves by_height start (length by_height) width first
   ended-earliest start from width None within none low = λ k beyond before. by_test k beyond before (nat_lt k from) refl
@@ -151,14 +212,17 @@ module _ (shelves : List LinkedShelf) (by_height : List BoundedShelf) where
           let here : from ≤ k = grind (arith, nat_tests) in
           absurd (omega (arith, wide, each-from (λ (one : BoundedShelf). one.widest < width) by_height from k here before low))
 
-  pub height-behind : (index next probes : ℕ) → AreInOrder shelves by_height → AreInChain shelves by_height → index < length by_height → IsStart shelves by_height (order_at (height_of shelves (bounded_at by_height index).shelf + 1) 0) next probes → IsBehind shelves by_height index next
-  height-behind index next probes order placed within start =
+  pub height-behind : (index next : ℕ) → AreInOrder shelves by_height → AreInChain shelves by_height → index < length by_height → next ≤ length by_height
+      → AllByRecursion (λ (one : BoundedShelf). order_of shelves one.shelf < order_at (height_of shelves (bounded_at by_height index).shelf + 1) 0) (take next by_height)
+      → AllByRecursion (λ (one : BoundedShelf). order_at (height_of shelves (bounded_at by_height index).shelf + 1) 0 ≤ order_of shelves one.shelf) (drop next by_height)
+      → IsBehind shelves by_height index next
+  height-behind index next order placed within behind lower taller =
       record {
         after = by_test (nat_lt index next) refl;
-        within = start.within;
+        within = behind;
         later = λ k beyond before.
-            let inside : k < length by_height = omega (arith, before, start.within) in
-            let below = each-to (λ (one : BoundedShelf). order_of shelves one.shelf < order_at (height_of shelves (bounded_at by_height index).shelf + 1) 0) by_height next k before inside start.before in
+            let inside : k < length by_height = omega (arith, before, behind) in
+            let below = each-to (λ (one : BoundedShelf). order_of shelves one.shelf < order_at (height_of shelves (bounded_at by_height index).shelf + 1) 0) by_height next k before inside lower in
             let above = orders-rise shelves 0 by_height index k beyond inside order.rising in
             let here = each-at (λ (one : BoundedShelf). chain_order shelves one.shelf < 65536 * 65536) by_height index within placed in
             let there = each-at (λ (one : BoundedShelf). chain_order shelves one.shelf < 65536 * 65536) by_height k inside placed in
@@ -172,7 +236,7 @@ module _ (shelves : List LinkedShelf) (by_height : List BoundedShelf) where
       by_test true e = grind (arith, nat_tests)
       by_test false e =
           let low : next ≤ index = grind (arith, nat_tests) in
-          let high = each-from (λ (one : BoundedShelf). order_at (height_of shelves (bounded_at by_height index).shelf + 1) 0 ≤ order_of shelves one.shelf) by_height next index low within start.after in
+          let high = each-from (λ (one : BoundedShelf). order_at (height_of shelves (bounded_at by_height index).shelf + 1) 0 ≤ order_of shelves one.shelf) by_height next index low within taller in
           let here = each-at (λ (one : BoundedShelf). chain_order shelves one.shelf < 65536 * 65536) by_height index within placed in
           absurd (too_high (height_of shelves (bounded_at by_height index).shelf) (chain_order_at shelves by_height index) here high)
         where

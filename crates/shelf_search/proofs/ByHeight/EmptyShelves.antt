@@ -7,10 +7,13 @@ use Rattle.std.specs.Option.{is_some, option_map_or}
 use Rattle.std.specs.Prelude.{◌/◌, nat_le}
 use Rattle.std.specs.List.{AllByRecursion}
 use Rattle.etagere_base.proofs.EachLemmas.{Each-front, Each-weaken}
-use Rattle.shelf_records.specs.RecordLists.{Records, free_walk}
+use Rattle.shelf_records.specs.Records.{free_list}
+use Rattle.shelf_records.specs.RecordLists.{IsLinked, Records, first_free_of, free_walk, walked_lists}
+use Rattle.shelf_records.proofs.AllLists.Following.{none-left}
+use Rattle.shelf_records.proofs.AllLists.LinkedParts.{free-left}
 use Rattle.shelf_records.specs.AtlasRecords.{height_of, is_empty_at, item_at}
 use Rattle.shelf_heights.specs.Private.ByHeight.{IsFirstAsWide, bounded_at, numbers_by_height}
-use Rattle.shelf_search.specs.Private.Opening.{AreSearchable, AreWhole, IsSearchable}
+use Rattle.shelf_search.specs.Private.Opening.{AreSearchable, AreWhole, IsSearchable, bounded_full}
 use Rattle.shelf_search.specs.Private.Searching.{AreTooTall, first_offer, good_offer}
 use Rattle.shelf_search.specs.declared.choosing.Candidate.{Candidate}
 use Rattle.shelf_heights.specs.declared.by_height.BoundedShelf.{BoundedShelf}
@@ -83,3 +86,15 @@ module _ (records : Records) (column_width width height from : ℕ) (numbers : L
       none-first : (ns : List ℕ) → AllByRecursion (λ shelf. good_offer records width height shelf ≡ None) ns → first_offer (good_offer records width height) ns ≡ None
       none-first [] vain = refl
       none-first (n ∷ ns) vain = ap (λ o. option_map_or Some o (first_offer (good_offer records width height) ns)) vain.0 ∙ none-first ns vain.1
+
+-- a shelf that has no free item is bounded by 0
+pub full-bounded : (records : Records) (one : BoundedShelf) → IsLinked records (walked_lists records) → IsSearchable records one → first_free_of records.shelves one.shelf ≡ None → IsSearchable records (bounded_full one)
+full-bounded records one linked searchable none =
+    let full : (free_walk records one.shelf).met ≡ [] = none-left free_list.next records.items (first_free_of records.shelves one.shelf) 0 (free_walk records one.shelf).met (free-left records one.shelf linked searchable.stands) none in
+    record {
+      stands = searchable.stands;
+      within = searchable.within;
+      low = searchable.low;
+      in_chain = searchable.in_chain;
+      bound = subst (AllByRecursion (λ item. (item_at records.items item).width ≤ 0)) (sym full) tt;
+    }

@@ -63,6 +63,14 @@ looked_into records width one =
     option_map_or (λ _. one) (first_wide records width one.shelf)
     (record one { widest = widest_of records.items (free_walk records one.shelf).met })
 
+-- a full shelf, of which no item is free
+abbrev pub bounded_full : BoundedShelf → BoundedShelf
+bounded_full one = record one { widest = 0 }
+
+-- no bound is above what it was
+abbrev pub AreLowered : List BoundedShelf → List BoundedShelf → Type 0
+AreLowered old new = (k : ℕ) → (bounded_at new k).widest ≤ (bounded_at old k).widest
+
 -- the orders of these shelves in the chain are below the unit of heights
 abbrev pub AreInChain : List LinkedShelf → List BoundedShelf → Type 0
 AreInChain shelves by_height =
