@@ -61,9 +61,8 @@ use shelf_search::tallying::{largest_free, usage};
 use shelf_store::growing::counting::needed_for;
 use shelf_store::growing::{grow_shelves, size_fault};
 use shelf_store::returning::return_item;
-use shelf_store::settling::{
-    settle_notes, settle_shelves, settle_unless_few, settled_notes, unknown_seconds,
-};
+use shelf_store::settling::noting::{settle_notes, settled_notes, unknown_seconds};
+use shelf_store::settling::{settle_shelves, settle_unless_few};
 use shelf_store::starting::{fresh_by_height, fresh_records, reset_by_height, reset_records};
 use shelf_store::taking::take_found;
 use snapshot_records::shelves::AtlasSnapshot;
@@ -236,14 +235,16 @@ impl AtlasAllocator {
     /// `Err` comes only where the item or shelf must be split, too few records are unused for that, and there was no
     /// memory. After an `Err` or none nothing has changed. Memory is taken only for records that are made: of items,
     /// and of a shelf with its entry in the list by height, a note and a width, for which there is then room for a quarter
-    /// more. A split for which there are unused records takes none, nor does a size that needs no split. Finds the first shelf that is tall enough where it did
-    /// last time, or by binary search, and goes on by height; of each shelf that may have an item wide enough it
-    /// searches the free list up to the first that is. Before that the list by height follows the shelves that were
-    /// split or merged since the last search: each goes where it belongs by binary search, and an end of the list
-    /// moves; many are sorted anew. In the first searches after a change, where there are no more than some dozen
-    /// shelves and 128 items, all shelves are gone through instead. Of more than some dozen, those whose free items are all
-    /// narrower than what was asked for of late stay out of the list; what is as narrow has all shelves sorted anew, the
-    /// more rarely the more often it came.
+    /// more. A split for which there are unused records takes none, nor does a size that needs no split.
+    ///
+    /// Finds the first shelf that is tall enough where it did last time, or by binary search, and goes on by height; of
+    /// each shelf that may have an item wide enough it searches the free list up to the first that is. Where all that fit
+    /// are much too tall, it looks at the first such shelf of each height, and searches the free list of the earliest.
+    /// Before that the list by height follows the shelves that were split or merged since the last search: each goes where
+    /// it belongs by binary search, and an end of the list moves; many are sorted anew. In the first searches after a
+    /// change, where there are no more than some dozen shelves and 128 items, all shelves are gone through instead. Of
+    /// more than some dozen, those whose free items are all narrower than what was asked for of late stay out of the list;
+    /// where some do, what is as narrow has all shelves sorted anew, the more rarely the more often it came.
     #[inline(always)]
     pub fn allocate(&mut self, size: Size) -> Result<Option<Allocation>, AllocError>
         ensures placed { IfOk result

@@ -24,7 +24,7 @@ use shelf_restoring::loaded_atlas::LoadedAtlas;
 use shelf_restoring::rules::judge_rules;
 use shelf_restoring::walked_lists::walked_shelves;
 use shelf_restoring::walking::{WalkedRecords, walk_records};
-use shelf_store::settling::{settled_notes, unknown_seconds};
+use shelf_store::settling::noting::{settled_notes, unknown_seconds};
 use shelf_store::starting::newly_bounded;
 use snapshot_records::shelves::AtlasSnapshot;
 use std::alloc::{AllocError, Global};

@@ -79,7 +79,7 @@ pub struct PendingShelves {
     noted: Vec<u16>,
     /// No free item of a parked shelf is as wide. It is 0 where none was parked since all were listed.
     parked_below: u16,
-    /// A shelf is parked where its free items are narrower than this.
+    /// A shelf whose free items are narrower than this may be parked; none where it is 0.
     narrow_below: u16,
     /// How many searches were counted since something was noted, up to `MOST_SEARCHES`. Nothing rests on it.
     searches: u32,

@@ -22,7 +22,7 @@ pub mod widening;
 use crate::growing::appending::append_columns;
 use crate::growing::heightening::heighten_columns;
 use crate::growing::widening::widen_shelves;
-use crate::settling::{reserve_shelves, settle_notes};
+use crate::settling::noting::{reserve_shelves, settle_notes};
 use crate::starting::{reorder_shelves, sort_shelves};
 use etagere_base::{Frame, LONGEST_SIDE, ResizeFault, Size, resize_fault};
 use shelf_heights::by_height::ShelvesByHeight;

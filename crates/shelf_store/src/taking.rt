@@ -19,7 +19,7 @@ ghost use Rattle.shelf_heights.specs.Private.ByHeight.{AreInOrder, numbers_by_he
 ghost use Rattle.shelf_notes.specs.Private.Pending.{is_noted};
 ghost use Rattle.shelf_store.specs.Private.PlacementTaken.{AreRestsThere, CanTakeFrom, IsItemSplittable, IsItemThere, IsShelfSplittable, placement_taken, taken_notes};
 
-use crate::settling::reserve_shelves;
+use crate::settling::noting::reserve_shelves;
 use etagere_base::{AllocId, INDEX_MODULUS};
 use etagere_links::Link;
 use shelf_heights::by_height::ShelvesByHeight;
