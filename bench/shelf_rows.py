@@ -29,12 +29,12 @@ def small_after_large(side, large, small=(8, 14)):
     return make
 
 
-def narrow_gaps(shelves, gaps, height_of, asked):
-    """Shelves that are full but for narrow free items, and an item that comes and goes."""
+def narrow_gaps(shelves, gaps, height_of, asked, side=65528):
+    """Shelves that are full but for narrow free items, in an atlas that is so tall, and an item that comes and goes."""
 
     def make(_program):
         heights = [height_of(shelf) for shelf in range(shelves)]
-        filling = [f"atlas {gaps * 4} 65528 1 1 1 h"]
+        filling = [f"atlas {gaps * 4} {side} 1 1 1 h"]
         for height in heights:
             filling += [f"a 2 {height}"] * (2 * gaps)
         filling += [f"r {position}" for position in range(shelves * 2 * gaps) if position % 2]
@@ -123,8 +123,10 @@ ROWS = {
     "180 shelves with 180 narrow free items each, a bad fit": Row(
         narrow_gaps(180, 180, lambda _: 320, "1 8"), 1857, before=200600
     ),
-    # Counted likewise.
+    # Counted likewise, as the next two.
     "10 shelves with 81": Row(narrow_gaps(10, 81, lambda _: 800, "1 8"), 365),
+    "3 shelves with 81": Row(narrow_gaps(3, 81, lambda _: 800, "1 8"), 325),
+    "a shelf with 81 that fills its atlas": Row(narrow_gaps(1, 81, lambda _: 320, "1 8", 320), 215),
     "2000 with 15": Row(narrow_gaps(2000, 15, lambda _: 32, "1 8"), 17710, before=435207),
     "1600 shelves with room that are too tall": Row(too_tall(1600, 40), 13902, before=213654),
     "8000 such shelves": Row(too_tall(8000, 16), 68318, before=1112996),
