@@ -319,7 +319,7 @@ fn first_empty(
     ensures capacity { by_height.old.capacity ≤ by_height.new.capacity }
 {
     let mut from = start;
-    while let Some(index) = by_height.first_as_wide(from, column_width) {
+    while let Some(index) = by_height.first_rarely_as_wide(from, column_width) {
         let found = empty_at(records, by_height, index, column_width, width, height);
         if found.is_some() {
             return found;

@@ -23,7 +23,7 @@ use crate::starting::sort_shelves;
 use etagere_base::Frame;
 use shelf_heights::by_height::ShelvesByHeight;
 use shelf_notes::pending::{MOST_SEARCHES, PendingShelves};
-use shelf_records::Records;
+use shelf_records::{LinkedItem, LinkedShelf, Records};
 
 /// Where no more than so many have changed, each is moved by itself.
 const FEW: usize = 4;
@@ -40,8 +40,11 @@ const WALKED: usize = 12;
 /// Where what is asked for is narrower than this part of a column, no shelves are parked: few are so full.
 const PARKED_PART: u32 = 8;
 
-/// More items than this aren't gone through.
+/// More items than this aren't gone through, unless free lists begin with items that are wide enough.
 const WALKED_ITEMS: u32 = 128;
+
+/// No more free lists than this are looked at for that.
+const WALKED_LISTS: usize = 6;
 
 /// Makes the list follow what was noted, for a search of something so wide, and says whether it follows: where shelves and
 /// items are so few that it is less work to go through all of them, it is left alone. Shelves that have no room for what is
@@ -93,7 +96,16 @@ fn settle_changed_unless_few(
     ensures capacity { by_height.old.capacity ≤ by_height.new.capacity }
     ensures room { pending.new.room ≡ pending.old.room }
 {
-    if by_height.len() <= WALKED_AT_FIRST && are_few(by_height, pending, items_in_use) {
+    let few_items = items_in_use <= WALKED_ITEMS;
+    let most = if few_items {
+        WALKED_AT_FIRST
+    } else {
+        WALKED_LISTS
+    };
+    if by_height.len() <= most
+        && are_few(by_height, pending)
+        && (few_items || begin_wide(records, by_height, width))
+    {
         return false;
     }
     settle_for(frame, records, by_height, pending, width);
@@ -130,13 +142,30 @@ fn settle_for(
     }
 }
 
-/// Whether shelves and items are so few that all shelves are gone through in this search.
-fn are_few(by_height: &ShelvesByHeight, pending: &mut PendingShelves, items_in_use: u32) -> bool
+/// Whether shelves are so few that all are gone through in this search.
+fn are_few(by_height: &ShelvesByHeight, pending: &mut PendingShelves) -> bool
     ensures notes { pending.new.notes ≡ pending.old.notes }
     ensures room { pending.new.room ≡ pending.old.room }
 {
     let most = most_walked(pending.count_search());
-    pending.len() <= most && by_height.len() <= most && items_in_use <= WALKED_ITEMS
+    pending.len() <= most && by_height.len() <= most
+}
+
+/// Whether the free list of each listed shelf begins with an item that is wide enough, or has none: then no long list is gone
+/// through, however many items there are.
+fn begin_wide(records: &Records, by_height: &ShelvesByHeight, width: u32) -> bool {
+    let shelves = records.shelves();
+    let items = records.items();
+    (0..by_height.len()).all(|index| begins_wide(shelves, items, by_height.shelf(index), width))
+}
+
+/// Whether the free list of a shelf begins with an item that is wide enough, or has none.
+fn begins_wide(shelves: &[LinkedShelf], items: &[LinkedItem], shelf: usize, width: u32) -> bool {
+    if shelf >= shelves.len() {
+        return false;
+    }
+    let first = usize::from(shelves[shelf].first_unallocated.bits());
+    first >= items.len() || u32::from(items[first].width) >= width
 }
 
 /// How many shelves are gone through at most, where so many searches were counted since one has changed.

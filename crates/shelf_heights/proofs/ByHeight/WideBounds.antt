@@ -100,6 +100,19 @@ pub none-found : (at end width : ℕ) (bounds : List ℕ) (found : Option ℕ) �
 none-found at end width bounds None none low k after before within = stretch-at (λ bound. bound < width) bounds at end k after before within (low refl)
 none-found at end width bounds (Some index) none low k after before within = absurd (cc)
 
+-- where all bounds are low from a position on, there is no first
+pub none-left : (from width : ℕ) (bounds : List ℕ) → ((k : ℕ) → from ≤ k → k < length bounds → get_or bounds k 0 < width) → IsFirstWide from width bounds None
+none-left from width bounds low =
+    subst (λ (xs : List ℕ). AllByRecursion (λ bound. bound < width) (drop from xs)) (take-length bounds)
+    (stretch-read (λ bound. bound < width) bounds from (length bounds) (λ k after before within. low k after before))
+
+-- the first up to the end is the first of all
+pub first-to-end : (from width : ℕ) (bounds : List ℕ) (found : Option ℕ) → (found ≡ None → AllByRecursion (λ bound. bound < width) (drop from (take (length bounds) bounds)))
+    → IfSome found (λ index. IsFirstWide from width bounds (Some index)) → IsFirstWide from width bounds found
+first-to-end from width bounds None low first =
+    subst (λ (xs : List ℕ). AllByRecursion (λ bound. bound < width) (drop from xs)) (take-length bounds) (low refl)
+first-to-end from width bounds (Some index) low first = first
+
 -- a bound does not pass the widest of its block
 pub covered-at : (widest bounds : List ℕ) (block k : ℕ) → AreCovered widest bounds → block * 64 ≤ k → k < (block + 1) * 64 → get_or bounds k 0 ≤ get_or widest block 0
 covered-at widest bounds block k covered after before =
