@@ -43,6 +43,29 @@ def narrow_gaps(shelves, gaps, height_of, asked, side=65528):
     return make
 
 
+def split_beside(items, gap=2):
+    """A shelf filled with narrow items, of which every other goes, while the shelf behind it splits and merges, and then
+    wide items that come and go, some in each of these two shelves.
+    """
+
+    def make(_program):
+        filling = [f"atlas {items * gap} 4000 1 1 1 h", f"a {items * gap} 8"]
+        narrow = []
+        for number in range(items):
+            narrow.append(len(filling) - 1)
+            filling.append(f"a {gap} 16")
+            if number % 3 == 2:
+                filling += ["a 50 64", f"r {len(filling) - 1}"]
+        filling += [f"r {position}" for position in narrow[::2]]
+        later, count = [], len(filling) - 1
+        for _ in range(ROUNDS // 2):
+            for height in (16, 64):
+                later += [f"a 50 {height}", f"r {count + len(later)}"]
+        return filling, later
+
+    return make
+
+
 def too_tall(shelves, height, taller=None):
     """Shelves that have room and are too tall for what comes and goes, and perhaps an empty one that is taller."""
 
@@ -66,6 +89,23 @@ def drained(shelves, in_order):
         if not in_order:
             random.Random(11).shuffle(positions)
         return filling, [f"r {position}" for position in positions]
+
+    return make
+
+
+def first_ones_empty(shelves, empty):
+    """Shelves of one item each, of two heights, of which the first go two at a time, and one behind them that splits and
+    merges, meanwhile and after that.
+    """
+
+    def make(_program):
+        chooser = random.Random(3)
+        filling = ["atlas 8 65528 1 1 1 h"]
+        filling += [f"a 8 {chooser.choice((8, 16))}" for _ in range(shelves)]
+        for position in range(0, empty, 2):
+            filling += [f"r {position}", f"r {position + 1}", "a 8 64"]
+            filling.append(f"r {len(filling) - 2}")
+        return filling, comes_and_goes(len(filling) - 1, "a 8 24")
 
     return make
 
@@ -123,10 +163,12 @@ ROWS = {
     "180 shelves with 180 narrow free items each, a bad fit": Row(
         narrow_gaps(180, 180, lambda _: 320, "1 8"), 1857, before=200600
     ),
-    # Counted likewise, as the next two.
+    # Counted likewise, as the next four.
     "10 shelves with 81": Row(narrow_gaps(10, 81, lambda _: 800, "1 8"), 365),
     "3 shelves with 81": Row(narrow_gaps(3, 81, lambda _: 800, "1 8"), 325),
     "a shelf with 81 that fills its atlas": Row(narrow_gaps(1, 81, lambda _: 320, "1 8", 320), 215),
+    "a shelf with 2000 beside one that splits and merges": Row(split_beside(4000), 6266),
+    "5000 full shelves of which the first 132 went: a split and a merge": Row(first_ones_empty(5000, 132), 31905),
     "2000 with 15": Row(narrow_gaps(2000, 15, lambda _: 32, "1 8"), 17710, before=435207),
     "1600 shelves with room that are too tall": Row(too_tall(1600, 40), 13902, before=213654),
     "8000 such shelves": Row(too_tall(8000, 16), 68318, before=1112996),

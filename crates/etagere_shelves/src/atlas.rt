@@ -243,9 +243,9 @@ impl AtlasAllocator {
     /// Before that the list by height follows the shelves that were split or merged since the last search: each goes where
     /// it belongs by binary search, and an end of the list moves; many are sorted anew. In the first searches after a
     /// change all shelves are gone through instead where there are no more than some dozen and 128 items, or no more than
-    /// six of which each free list begins with an item that is wide enough. Of more than some dozen, those whose free items
-    /// are all narrower than what was asked for of late stay out of the list; where some do, what is as narrow has all
-    /// shelves sorted anew, the more rarely the more often it came.
+    /// six, and as many that were split off since, of which each free list begins with an item that is wide enough. Of more
+    /// than some dozen, those whose free items are all narrower than what was asked for of late stay out of the list; where
+    /// some do, what is as narrow has all shelves sorted anew, the more rarely the more often it came.
     #[inline(always)]
     pub fn allocate(&mut self, size: Size) -> Result<Option<Allocation>, AllocError>
         ensures placed { IfOk result

@@ -12,7 +12,7 @@ ghost use Rattle.shelf_records.specs.RecordLists.{IsLinked, shelf_walk, walked_l
 ghost use Rattle.shelf_records.specs.Records.{shelf_chain};
 ghost use Rattle.shelf_search.specs.Private.Searching as searching;
 
-use crate::choosing::{Candidate, Searched, rank_of, search_free_list};
+use crate::choosing::{Candidate, NO_NUMBER, Searched, rank_of, search_free_list};
 use etagere_links::Link;
 use shelf_records::{LinkedShelf, Records};
 
@@ -24,18 +24,15 @@ pub(crate) fn first_of_least_rank(records: &Records, width: u32, height: u32) ->
     ensures { result ≡ searching.best_candidate records.now width height }
 {
     let mut best = None;
-    let mut at = records.first_shelf();
-    for _step in 0..records.shelves().len() {
-        let Some(shelf) = at.number() else {
-            return best;
-        };
+    let mut shelf = usize::from(records.first_shelf().bits());
+    while shelf < NO_NUMBER {
         if let Some(candidate) = lower_at(records, width, height, shelf, &best) {
             if candidate.rank <= height {
                 return Some(candidate);
             }
             best = Some(candidate);
         }
-        at = next_link(records.shelves(), shelf);
+        shelf = usize::from(next_link(records.shelves(), shelf).bits());
     }
     best
 }

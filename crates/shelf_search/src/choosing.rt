@@ -46,7 +46,7 @@ const SHELF_SLACK: u32 = 8;
 const ITEM_SLACK: u32 = 8;
 
 /// The bits of a link that names no record, as a number.
-const NO_NUMBER: usize = 65535;
+pub(crate) const NO_NUMBER: usize = 65535;
 
 /// A place makes no more splits than this.
 pub(crate) const MOST_SPLITS: u32 = 2;

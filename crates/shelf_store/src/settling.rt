@@ -31,11 +31,15 @@ const FEW: usize = 4;
 /// Where more than so many have changed, and more than an eighth, all shelves in use are sorted anew.
 const MANY: usize = 32;
 
-/// To go through so many shelves in the first search after one has changed is less work than to make the list follow.
-const WALKED_AT_FIRST: usize = 32;
+/// To go through so many listed shelves in the first searches after one has changed is less work than to make the list
+/// follow: in as many searches as half of those that have changed.
+const WALKED_AT_FIRST: usize = 40;
 
 /// So many are gone through in further searches, unless there are many of these.
 const WALKED: usize = 12;
+
+/// Where more have changed than this, shelves aren't gone through: each may be one that the list hasn't.
+const WALKED_CHANGES: usize = 64;
 
 /// Where what is asked for is narrower than this part of a column, no shelves are parked: few are so full.
 const PARKED_PART: u32 = 8;
@@ -43,7 +47,7 @@ const PARKED_PART: u32 = 8;
 /// More items than this aren't gone through, unless free lists begin with items that are wide enough.
 const WALKED_ITEMS: u32 = 128;
 
-/// No more free lists than this are looked at for that.
+/// No more free lists than this are looked at for that, of the listed shelves and of those that have changed.
 const WALKED_LISTS: usize = 6;
 
 /// Makes the list follow what was noted, for a search of something so wide, and says whether it follows: where shelves and
@@ -96,16 +100,12 @@ fn settle_changed_unless_few(
     ensures capacity { by_height.old.capacity ≤ by_height.new.capacity }
     ensures room { pending.new.room ≡ pending.old.room }
 {
-    let few_items = items_in_use <= WALKED_ITEMS;
-    let most = if few_items {
-        WALKED_AT_FIRST
+    let is_left_alone = if items_in_use <= WALKED_ITEMS {
+        are_few(by_height, pending)
     } else {
-        WALKED_LISTS
+        are_few_that_begin_wide(records, by_height, pending, width)
     };
-    if by_height.len() <= most
-        && are_few(by_height, pending)
-        && (few_items || begin_wide(records, by_height, width))
-    {
+    if is_left_alone {
         return false;
     }
     settle_for(frame, records, by_height, pending, width);
@@ -142,21 +142,53 @@ fn settle_for(
     }
 }
 
-/// Whether shelves are so few that all are gone through in this search.
+/// Whether shelves are so few that all are gone through in this search, where items are few: none is parked, and to make the
+/// list follow those that have changed would be more work.
 fn are_few(by_height: &ShelvesByHeight, pending: &mut PendingShelves) -> bool
     ensures notes { pending.new.notes ≡ pending.old.notes }
     ensures room { pending.new.room ≡ pending.old.room }
 {
-    let most = most_walked(pending.count_search());
-    pending.len() <= most && by_height.len() <= most
+    if by_height.len() > WALKED_AT_FIRST || pending.len() > WALKED_CHANGES || pending.has_parked() {
+        return false;
+    }
+    let searches = pending.count_search();
+    searches < MOST_SEARCHES
+        && (by_height.len() <= WALKED || 2 * searches as usize <= pending.len())
 }
 
-/// Whether the free list of each listed shelf begins with an item that is wide enough, or has none: then no long list is gone
-/// through, however many items there are.
-fn begin_wide(records: &Records, by_height: &ShelvesByHeight, width: u32) -> bool {
+/// The same where items are many: shelves are fewer then, and the free list of each begins with an item that is wide enough.
+fn are_few_that_begin_wide(
+    records: &Records,
+    by_height: &ShelvesByHeight,
+    pending: &mut PendingShelves,
+    width: u32,
+) -> bool
+    ensures notes { pending.new.notes ≡ pending.old.notes }
+    ensures room { pending.new.room ≡ pending.old.room }
+{
+    let shelves = by_height.len().max(pending.len());
+    shelves <= WALKED_LISTS
+        && !pending.has_parked()
+        && pending.count_search() < MOST_SEARCHES
+        && begin_wide(records, by_height, pending, width)
+}
+
+/// Whether the free list of each shelf that is listed or has changed begins with an item that is wide enough, or has none:
+/// then no long list is gone through, however many items there are.
+fn begin_wide(
+    records: &Records,
+    by_height: &ShelvesByHeight,
+    pending: &PendingShelves,
+    width: u32,
+) -> bool {
     let shelves = records.shelves();
     let items = records.items();
     (0..by_height.len()).all(|index| begins_wide(shelves, items, by_height.shelf(index), width))
+        && (0..pending.len()).all(|index| {
+            let shelf = pending.noted_at(index);
+            let known = pending.standing(shelf);
+            known.listed || !known.in_use || begins_wide(shelves, items, shelf, width)
+        })
 }
 
 /// Whether the free list of a shelf begins with an item that is wide enough, or has none.
@@ -166,17 +198,6 @@ fn begins_wide(shelves: &[LinkedShelf], items: &[LinkedItem], shelf: usize, widt
     }
     let first = usize::from(shelves[shelf].first_unallocated.bits());
     first >= items.len() || u32::from(items[first].width) >= width
-}
-
-/// How many shelves are gone through at most, where so many searches were counted since one has changed.
-fn most_walked(searches: u32) -> usize {
-    if searches == 0 {
-        WALKED_AT_FIRST
-    } else if searches < MOST_SEARCHES {
-        WALKED
-    } else {
-        0
-    }
 }
 
 /// Makes the list follow what was noted.

@@ -5,7 +5,7 @@ use Rattle.etagere_base.specs.Lists.{times}
 use Rattle.etagere_base.proofs.TimesLemmas.{times-append}
 use Rattle.etagere_links.specs.Edits.{link_at}
 use Rattle.etagere_links.proofs.ListEnds.{times-here}
-use Rattle.shelf_records.proofs.AllLists.Following.{IsLeft, IsStep, all-left, none-left, step-left}
+use Rattle.shelf_records.proofs.AllLists.Following.{IsLeft, IsStep, all-left, count_from, none-left, step-left, step-nearer}
 
 -- where a walk has come to after so many steps, and what is known now
 pub record Passes {T V : Type 0} (next : T → Option ℕ) (records : List T) (all : List ℕ) (value : List ℕ → V) (now : V) (at : Option ℕ) (steps : ℕ) : Type 0 where
@@ -15,6 +15,11 @@ pub record Passes {T V : Type 0} (next : T → Option ℕ) (records : List T) (a
   pub whole : passed ++ rest ≡ all
   pub count : length passed ≡ steps
   pub holds : now ≡ value passed
+
+-- where a walk has come to after some steps
+pub record Walks {T V : Type 0} (next : T → Option ℕ) (records : List T) (all : List ℕ) (value : List ℕ → V) (now : V) (at : Option ℕ) : Type 0 where
+  pub steps : ℕ
+  pub walk : Passes next records all value now at steps
 
 -- the record at hand: what was passed before it, and what comes after
 pub record Meets {T V : Type 0} (records : List T) (all : List ℕ) (value : List ℕ → V) (now : V) (number steps : ℕ) : Type 0 where
@@ -74,3 +79,8 @@ module _ {T V : Type 0} (next : T → Option ℕ) (records : List T) (all : List
         count = omega (arith, length-append walk.passed (number ∷ []), walk.count);
         holds = more walk.passed walk.holds;
       }
+
+  -- a step leaves fewer, where no number stands twice
+  pub walk-nearer : (now : V) (at : Option ℕ) (number steps : ℕ) → Passes next records all value now at steps → ((k : ℕ) → times k all ≤ 1) → at ≡ Some number → count_from (link_at next records number) all < count_from at all
+  walk-nearer now at number steps walk once is =
+      rw (← walk.whole) (step-nearer next records at number steps walk.passed walk.rest (λ k. rw walk.whole (once k)) walk.left is)
