@@ -2,7 +2,7 @@
 //!
 //! Definitions: `Store`, `StoreEdits`. `Store` also says when records spell a state.
 
-ghost use Rattle.std.specs.Prelude.{IsTrue, ◌≡◌, ◌+◌, ◌-◌, ◌*◌, ◌<◌, ◌≤◌, ◌^◌, [], None, Some, IfOk, IsSome, OnOk, OnErr, false, length, slice_get, vec_len, vec_capacity, map};
+ghost use Rattle.std.specs.Prelude.{IsTrue, List, ◌≡◌, ◌+◌, ◌-◌, ◌*◌, ◌<◌, ◌≤◌, ◌^◌, [], None, Some, IfOk, IsSome, OnOk, OnErr, false, length, slice_get, vec_len, vec_capacity, map};
 ghost use Rattle.etagere_links.specs.Edits.{changed_by};
 ghost use Rattle.etagere_links.specs.Links.{no_link};
 ghost use Rattle.bucketed_model.specs.Adding as adding;
@@ -361,6 +361,7 @@ impl Store {
         );
         self.blocks.follow_dropped(&self.shelves, shelf);
         self.filled.forget();
+        forget_where_none(&self.shelves, &mut self.spans);
         Returned {
             area,
             drops: true,
@@ -625,6 +626,19 @@ fn take_from(buckets: &mut [LinkedBucket], number: usize, width: u32)
     bucket.free_space -= width as u16;
     bucket.refcount += 1;
     bucket.item_count += 1;
+}
+
+/// Forgets the spans where no shelf is left: they would be of unused buckets alone, and making those again would
+/// forget them one by one.
+fn forget_where_none(shelves: &[KeptShelf], spans: &mut Spans)
+    ensures kept { (buckets : List LinkedBucket)
+        → AreSpans spans.old buckets → AreSpans spans.new buckets }
+    ensures none { length shelves.now ≡ 0
+        → (buckets : List LinkedBucket) → AreSpans spans.new buckets }
+{
+    if shelves.is_empty() {
+        spans.forget_all();
+    }
 }
 
 /// The width that the bucket of a number can give to one item.

@@ -118,6 +118,6 @@ invariant_of-self-2 c =
     let buckets : (with_items (with_items inside.buckets c.return_item.new.buckets) c.drop_idle_end-dropped.new.buckets).items ≡ c.drop_idle_end-dropped.new.buckets =
     with_items_is (with_items inside.buckets c.return_item.new.buckets) c.drop_idle_end-dropped.new.buckets (omega (arith, c.drop_idle_end-dropped.auto.buckets, c.deref_mut-3.ensures.len)) in (
       subst (AreKnown c.follow_dropped.new.self) c.deref-7.ensures.value c.follow_dropped.ensures,
-      subst (AreSpans c.drop_idle_end-dropped.new.spans) (sym buckets) c.drop_idle_end-dropped.ensures.spans,
+      c.forget_where_none.ensures.kept _ (subst (AreSpans c.drop_idle_end-dropped.new.spans) (sym buckets) c.drop_idle_end-dropped.ensures.spans),
       c.forget.ensures _,
     )
