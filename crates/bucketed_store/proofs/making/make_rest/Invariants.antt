@@ -2,7 +2,7 @@ use Rattle.std.proofs.Common.{◌≡◌, ◌+◌, ◌*◌, ◌-◌, ◌<◌, ◌
 use Rattle.std.specs.Prelude.{◌^◌, vec_len, vec_capacity}
 use Rattle.bucket_index.specs.Private.Spans.{AreSpans}
 use Rattle.bucketed_store.specs.Private.StoreEdits.{made_many}
-use Rattle.bucketed_store.proofs.making.make_buckets.Given as goal
+use Rattle.bucketed_store.proofs.making.make_rest.Given as goal
 
 -- what is made from here on is what is made of all
 abbrev pub invariant-loop-made : goal.invariant-loop-made

@@ -1,17 +1,9 @@
-use Rattle.std.proofs.Common.{◌≡◌, ℕ, suc, ◌+◌, ◌-◌, ◌*◌, Option, List, length, ap, sym, ◌∙◌, arith}
+use Rattle.std.proofs.Common.{◌≡◌, ℕ, suc, ◌+◌, ◌-◌, ◌*◌, length, ap, sym, ◌∙◌, arith}
 use Rattle.std.proofs.Math.Nat.{suc-mul}
-use Rattle.bucketed_records.specs.declared.records.LinkedBucket.{LinkedBucket}
 use Rattle.bucketed_store.specs.Private.StoreEdits.{Made, after_first, made_many, made_one}
 use Rattle.bucketed_store.proofs.Spelling.MadeLengths.{made_many-keeps}
-use Rattle.bucketed_store.proofs.making.make_buckets.Goals as goal
-
--- what was made, by its parts
-made-parts : (m : Made) (buckets : List LinkedBucket) (unused first : Option ℕ) → buckets ≡ m.buckets → unused ≡ m.unused → first ≡ m.first
-    → record { buckets = buckets; unused = unused; first = first } ≡ m
-made-parts m buckets unused first b u f =
-    ap (λ (xs : List LinkedBucket). let made : Made = record { buckets = xs; unused = unused; first = first } in made) b
-    ∙ ap (λ (link : Option ℕ). let made : Made = record { buckets = m.buckets; unused = link; first = first } in made) u
-    ∙ ap (λ (link : Option ℕ). let made : Made = record { buckets = m.buckets; unused = m.unused; first = link } in made) f
+use Rattle.bucketed_store.proofs.MadeOnes.{made-parts}
+use Rattle.bucketed_store.proofs.making.make_rest.Goals as goal
 
 pub make_bucket-first-requires-clause-room : goal.make_bucket-first-requires-clause-room
 make_bucket-first-requires-clause-room c =
