@@ -2,8 +2,9 @@
 //!
 //! Definitions: `Private/Returns`. The buckets of a dropped shelf are unused as a whole, in their order.
 
-ghost use Rattle.std.specs.Prelude.{◌≡◌, ◌<◌, ◌≤◌, ◌+◌, Some, length, vec_len, vec_capacity};
+ghost use Rattle.std.specs.Prelude.{◌≡◌, ◌<◌, ◌≤◌, ◌+◌, ◌^◌, Some, length, vec_len, vec_capacity};
 ghost use Rattle.etagere_links.specs.Edits.{changed_by};
+ghost use Rattle.etagere_links.specs.Links.{no_link};
 ghost use Rattle.bucketed_model.specs.Picking.{or_else};
 ghost use Rattle.bucketed_model.specs.State.{most_buckets};
 ghost use Rattle.bucketed_records.specs.BucketRecords.{next_of};
@@ -32,7 +33,23 @@ pub(crate) fn next_of(buckets: &[LinkedBucket], number: usize) -> Link
     }
 }
 
-/// Where the list of a bucket ends.
+/// Where a list ends that comes to a number of no record: there, unless that stands for no link.
+fn end_by(end: RowEnd, number: usize) -> RowEnd
+    requires few { end.count < 2 ^ 31 }
+    ensures none { number ≡ no_link → result ≡ end }
+    ensures some { (number ≡ no_link → ⊥)
+        → result ≡ record { last = number; count = end.count + 1 } }
+{
+    if number == usize::from(u16::MAX) {
+        return end;
+    }
+    RowEnd {
+        last: number,
+        count: end.count + 1,
+    }
+}
+
+/// Where the list of a bucket ends. Each step has one test for both of no link and no record, as there are few records.
 fn row_end(buckets: &[LinkedBucket], first: usize) -> RowEnd
     requires { length buckets.now ≤ most_buckets }
     ensures end { result ≡ spec.row_end buckets.now first }
@@ -42,14 +59,16 @@ fn row_end(buckets: &[LinkedBucket], first: usize) -> RowEnd
         last: first,
         count: 1,
     };
+    let mut number = usize::from(next_of(buckets, first).bits());
     for _step in 0..buckets.len() {
-        let Some(next) = next_of(buckets, end.last).number() else {
-            break;
-        };
+        if number >= buckets.len() {
+            return end_by(end, number);
+        }
         end = RowEnd {
-            last: next,
+            last: number,
             count: end.count + 1,
         };
+        number = usize::from(buckets[number].next.bits());
     }
     end
 }

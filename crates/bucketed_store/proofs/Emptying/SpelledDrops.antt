@@ -3,16 +3,17 @@ use Rattle.std.proofs.Common.{◌≡◌, ◌≢◌, ℕ, zero, suc, ◌+◌, ◌
 use Rattle.std.proofs.Math.Seq.{take-append_seam}
 use Rattle.std.proofs.lemmas.Bool.{and_parts, eqb-true}
 use Rattle.std.proofs.lemmas.List.{length-map, length-take-le}
-use Rattle.std.proofs.lemmas.Option.{slice_get_within}
+use Rattle.std.proofs.lemmas.Option.{slice_get_past, slice_get_within}
 use Rattle.std.specs.List.{AllByRecursion, list_all}
 use Rattle.std.specs.Option.{option_map_or}
-use Rattle.std.specs.Prelude.{slice_get}
+use Rattle.std.specs.Prelude.{option_and_then, slice_get}
 use Rattle.etagere_base.proofs.EachLemmas.{Each-append, Each-weaken}
 use Rattle.etagere_base.proofs.TimesLemmas.{times-append}
 use Rattle.etagere_base.specs.declared.frames.Frame.{Frame}
 use Rattle.etagere_base.specs.Lists.{times}
 use Rattle.etagere_links.specs.Chains.{Leads}
 use Rattle.etagere_links.specs.Edits.{changed_by}
+use Rattle.etagere_links.specs.Links.{link_of, no_link}
 use Rattle.etagere_links.proofs.WalkedLists.{once-part}
 use Rattle.etagere_links.proofs.FieldChanges.{field_at-kept}
 use Rattle.etagere_links.proofs.RecordChanges.{get-changed_by-other, length-changed_by, link_at-changed, link_at-other}
@@ -146,6 +147,27 @@ drops-last frame done unused xs x spells idle =
 pub row-step : (records : List LinkedBucket) (steps rest count at next : ℕ) → steps ≡ suc rest → next_of records at ≡ Some next
     → row_from steps records count at ≡ row_from rest records (count + 1) next
 row-step records steps rest count at next e link = rw (e, link) (ap (λ (n : ℕ). row_from rest records n next) (omega arith))
+
+-- a list ends by a number of no record, which is behind the last one or stands for no link
+pub row-stops : (records : List LinkedBucket) (steps rest count at number : ℕ) → steps ≡ suc rest → link_of number ≡ next_of records at → length records ≤ number
+    → row_from steps records count at
+    ≡ option_map_or (λ (n : ℕ). let end : RowEnd = record { last = n; count = count + 1 } in end) (link_of number) (record { last = at; count = count })
+row-stops records steps rest count at number e names past = by_test (number == no_link) refl
+  where
+    next-past : (xs : List LinkedBucket) (n : ℕ) → length xs ≤ n → next_of xs n ≡ None
+    next-past xs n long = ap (option_and_then (λ (bucket : LinkedBucket). bucket.next)) (slice_get_past xs n long)
+
+    stands : (left : ℕ) → row_from left records (count + 1) number ≡ record { last = number; count = count + 1 }
+    stands zero = refl
+    stands (suc left) = rw (next-past records number past) refl
+
+    named : (t : Bool) → (number == no_link) ≡ t → next_of records at ≡ cond t None (Some number)
+    named t test = sym names ∙ ap (λ (u : Bool). cond u None (Some number)) test
+
+    by_test : (t : Bool) → (number == no_link) ≡ t → row_from steps records count at
+        ≡ option_map_or (λ (n : ℕ). let end : RowEnd = record { last = n; count = count + 1 } in end) (cond t None (Some number)) (record { last = at; count = count })
+    by_test true test = rw (e, named true test) refl
+    by_test false test = row-step records steps rest count at number e (named false test) ∙ stands rest
 
 -- nothing is dropped where there is no shelf
 pub end-none : (steps : ℕ) (done : Dropping) → last_kept done.stored.shelves ≡ None → end_dropped steps done ≡ done
