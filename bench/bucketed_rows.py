@@ -39,6 +39,11 @@ def whole_shelf(_program):
     return ["bucketed 65534 1 1 1 1 h"], comes_and_goes(0, "a 1 1")
 
 
+def shelf_alone(_program):
+    """The only item of a shelf of 512 buckets, which is added with it and dropped with it."""
+    return ["bucketed 64000 8 1 1 1 h"], comes_and_goes(0, "a 8 8")
+
+
 def full_shelves():
     """4095 shelves of a bucket each, all of it given."""
     return ["bucketed 16 32760 1 1 1 h"] + ["a 16 8"] * BUCKETS
@@ -72,6 +77,12 @@ def too_tall(_program):
     return filling, comes_and_goes(BUCKETS, "a 8 4")
 
 
+def empty_shelves(_program):
+    """4000 empty shelves of a bucket each before one in use, and an item that is a pixel narrower than they are."""
+    filling = ["bucketed 8 32000 1 1 1 h"] + ["a 8 8"] * 4000 + [f"r {position}" for position in range(3999)]
+    return filling, comes_and_goes(len(filling) - 1, "a 7 8")
+
+
 MOST = 1000
 """So many instructions are wanted at most for a call on so many shelves or buckets."""
 
@@ -83,12 +94,16 @@ ROWS = {
     "a full shelf of 4095 buckets: the second goes and comes": Row(lambda _: full_shelf(2), 169),
     "the same, the last": Row(lambda _: full_shelf(BUCKETS), 26774, most=MOST),
     "the same, added with its only item and dropped with it": Row(whole_shelf),
+    # What the crate takes here was counted with plain geometry types in place of its own.
+    "a shelf of 512, the same": Row(shelf_alone, 9679, before=10321),
     "4095 full shelves: the first goes and comes": Row(first_goes, 158, before=26829),
     "the same, any": Row(any_goes, 49080, before=26829, most=MOST),
     "the same, a refused size": Row(refused, 311351, before=82013, most=MOST),
     "the same, a merge looked for": Row(merge_looked_for, 204872, before=67679, most=MOST),
     "4095 shelves with little room: a wider item is refused": Row(narrow_rooms, 311349, most=MOST),
     "4095 shelves that are too tall: the same item comes and goes": Row(too_tall, 16626, most=MOST),
+    # Counted likewise.
+    "4000 empty shelves: a narrower item comes and goes": Row(empty_shelves, 94132, before=88714, most=MOST),
 }
 
 IN_THE_END = {

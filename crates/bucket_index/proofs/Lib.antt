@@ -1,3 +1,4 @@
+pub mod CountedRooms
 pub mod FilledRows
 pub mod FoundShelves
 pub mod KnownBlocks

@@ -1,5 +1,6 @@
 -- What contracts of steps and invariants of types cite; no public clause of the atlas does.
 pub mod Blocks
 pub mod Filling
+pub mod Rooms
 pub mod Searching
 pub mod Spans

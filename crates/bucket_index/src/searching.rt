@@ -9,10 +9,12 @@ ghost use Rattle.etagere_links.specs.Links.{no_link};
 ghost use Rattle.bucketed_model.specs.Picking.{or_else};
 ghost use Rattle.bucketed_model.specs.State.{most_buckets};
 ghost use Rattle.bucket_index.specs.Private.Blocks.{AreKnown, IsStep};
+ghost use Rattle.bucket_index.specs.Private.Rooms.{AreCounted};
 ghost use Rattle.bucket_index.specs.Private.Searching as spec;
 ghost use Rattle.bucket_index.specs.Private.Spans.{AreSpans};
 
 use crate::blocks::{Blocks, SHELVES_OF_BLOCK};
+use crate::rooms::Rooms;
 use crate::spans::Spans;
 use bucketed_records::records::{KeptShelf, LinkedBucket, MOST_BUCKETS, MOST_GIVEN, record_room};
 use etagere_base::Sides;
@@ -403,20 +405,26 @@ fn is_least(step: u32, best: &Option<FoundShelf>) -> bool
     }
 }
 
-/// The first exact bucket of a shelf that wastes no height, from the shelf of this number on.
+/// The first exact bucket of a shelf that wastes no height, from the shelf of this number on. None is looked for where no
+/// bucket gives just this width.
 fn exact_from(
     sides: &Sides,
     shelves: &[KeptShelf],
     buckets: &[LinkedBucket],
     blocks: &Blocks,
     spans: &Spans,
+    rooms: &Rooms,
     from: usize,
 ) -> Option<FoundBucket>
     requires from { from ≤ length shelves.now }
     requires known { AreKnown blocks.now shelves.now }
     requires spans { AreSpans spans.now buckets.now }
+    requires rooms { AreCounted rooms.now buckets.now }
     ensures { result ≡ spec.exact_from sides.now buckets.now from (drop from shelves.now) }
 {
+    if !rooms.may_give(sides.along) {
+        return None;
+    }
     if blocks.are_counted {
         return exact_by_blocks(sides, shelves, buckets, blocks, spans, from);
     }
@@ -515,11 +523,13 @@ fn exact_or_found(
     buckets: &[LinkedBucket],
     blocks: &Blocks,
     spans: &Spans,
+    rooms: &Rooms,
     least: FoundShelf,
     bucket: usize,
 ) -> FoundBucket
     requires known { AreKnown blocks.now shelves.now }
     requires spans { AreSpans spans.now buckets.now }
+    requires rooms { AreCounted rooms.now buckets.now }
     requires shelf { least.number < length shelves.now }
     requires bucket { bucket < length buckets.now }
     ensures { result ≡ spec.exact_or_found sides.now shelves.now buckets.now least bucket }
@@ -531,7 +541,16 @@ fn exact_or_found(
     if least.rank != 0 || u32::from(buckets[bucket].free_space) == sides.along {
         return found;
     }
-    exact_from(sides, shelves, buckets, blocks, spans, least.number + 1).unwrap_or(found)
+    exact_from(
+        sides,
+        shelves,
+        buckets,
+        blocks,
+        spans,
+        rooms,
+        least.number + 1,
+    )
+    .unwrap_or(found)
 }
 
 /// The bucket that is picked for these sides.
@@ -542,14 +561,16 @@ pub fn pick(
     buckets: &[LinkedBucket],
     blocks: &Blocks,
     spans: &Spans,
+    rooms: &Rooms,
 ) -> Option<FoundBucket>
     requires known { AreKnown blocks.now shelves.now }
     requires spans { AreSpans spans.now buckets.now }
+    requires rooms { AreCounted rooms.now buckets.now }
     ensures { result ≡ spec.picked adds sides.now shelves.now buckets.now }
 {
     let least = least_waste(adds, sides, shelves, blocks)?;
     let wanted = Wanted::Roomy(sides.along);
     let first = shelves[least.number].shelf.first_bucket;
     let bucket = first_wanted(wanted, buckets, spans, first)?;
-    Some(exact_or_found(sides, shelves, buckets, blocks, spans, least, bucket))
+    Some(exact_or_found(sides, shelves, buckets, blocks, spans, rooms, least, bucket))
 }

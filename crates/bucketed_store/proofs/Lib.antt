@@ -4,5 +4,6 @@ pub mod Emptying
 pub mod KnownShelves
 pub mod MadeOnes
 pub mod Refused
+pub mod RoomsKept
 pub mod Spelling
 pub mod Widening

@@ -14,6 +14,7 @@ ghost use Rattle.bucketed_records.specs.Private.Store.{record_room, shelf_record
 ghost use Rattle.bucketed_records.specs.Restoring as restoring;
 ghost use Rattle.bucket_index.specs.Private.Blocks.{AreKnown};
 ghost use Rattle.bucket_index.specs.Private.Filling.{IsFilled};
+ghost use Rattle.bucket_index.specs.Private.Rooms.{AreCounted};
 ghost use Rattle.bucket_index.specs.Private.Searching as searching;
 ghost use Rattle.bucket_index.specs.Private.Spans.{AreSpans};
 ghost use Rattle.bucketed_store.specs.Private.Grows as grows;
@@ -29,6 +30,7 @@ use crate::placing::Placement;
 use crate::returning::{is_known, return_item, returned_area, shelf_number};
 use bucket_index::blocks::Blocks;
 use bucket_index::filling::Filled;
+use bucket_index::rooms::Rooms;
 use bucket_index::searching::{FoundBucket, has_room, widest_room};
 use bucket_index::spans::Spans;
 use bucketed_model::adding::{NewShelf, NewShelves, width_of_share};
@@ -57,6 +59,7 @@ pub struct Store {
     pub(crate) blocks: Blocks,
     pub(crate) spans: Spans,
     pub(crate) filled: Filled,
+    pub(crate) rooms: Rooms,
     /// Whether a shelf may have so many buckets that a search along them goes far.
     pub(crate) may_be_long: bool,
 }
@@ -65,6 +68,7 @@ impl Model for Store {
     ghost use Rattle.bucketed_records.specs.Private.Store.{Stored};
     ghost use Rattle.bucket_index.specs.Private.Blocks.{AreKnown};
     ghost use Rattle.bucket_index.specs.Private.Filling.{IsFilled};
+    ghost use Rattle.bucket_index.specs.Private.Rooms.{AreCounted};
     ghost use Rattle.bucket_index.specs.Private.Spans.{AreSpans};
 
     ghost Value = { Stored };
@@ -77,7 +81,8 @@ impl Model for Store {
 
     ghost invariant = { λ store. AreKnown store.blocks store.shelves.items
         × AreSpans store.spans store.buckets.items
-        × IsFilled store.filled store.buckets.items };
+        × IsFilled store.filled store.buckets.items
+        × AreCounted store.rooms store.buckets.items };
 }
 
 /// What a return gives back.
@@ -114,6 +119,7 @@ impl Store {
             blocks: Blocks::new(),
             spans: Spans::new(),
             filled: Filled::none(),
+            rooms: Rooms::uncounted(),
             may_be_long: false,
         }
     }
@@ -131,6 +137,7 @@ impl Store {
             blocks,
             spans: Spans::new(),
             filled: Filled::none(),
+            rooms: Rooms::uncounted(),
             may_be_long: true,
         }
     }
@@ -145,6 +152,7 @@ impl Store {
         self.blocks = Blocks::new();
         self.spans.forget_all();
         self.filled.forget();
+        self.rooms.forget();
         self.may_be_long = false;
     }
 
@@ -175,6 +183,7 @@ impl Store {
                 &mut self.spans,
                 &mut self.unused,
                 &mut self.blocks,
+                &mut self.rooms,
                 filler,
             );
         }
@@ -185,6 +194,7 @@ impl Store {
             &mut self.spans,
             &mut self.unused,
             &mut self.blocks,
+            &mut self.rooms,
             &news.asked,
         );
         self.filled.forget();
@@ -273,6 +283,8 @@ impl Store {
     {
         let height = height_of(&self.shelves, found.shelf);
         let room = room_of(&self.buckets, found.bucket);
+        self.rooms
+            .count_unless_exact(self.shelves.len(), &self.buckets, room, width);
         self.take_from(found.bucket, width);
         self.give_from(found, room);
         width * height
@@ -289,6 +301,7 @@ impl Store {
         let before = room_of(&self.buckets, bucket);
         take_from(&mut self.buckets, bucket, width);
         self.spans.track(&self.buckets, bucket, before);
+        self.rooms.follow_record(&self.buckets, bucket, before);
     }
 
     /// Counts one more live item in the shelf of a bucket that was found and had this room before, and keeps
@@ -344,6 +357,7 @@ impl Store {
         let room = room_of(&self.buckets, number);
         return_item(&mut self.shelves, &mut self.buckets, number);
         self.spans.track(&self.buckets, number, room);
+        self.rooms.follow_record(&self.buckets, number, room);
         if !ends_idle(&self.shelves) {
             self.blocks.follow(&self.shelves, shelf, &before);
             self.filled.widen(number);
@@ -393,6 +407,7 @@ impl Store {
             (length self.old.shelves) 0 place added left self.old).buckets) }
     {
         self.filled.forget();
+        self.rooms.forget();
         let rest = left_after(&self.shelves, added, left);
         reserve_records(&mut self.buckets, MOST_BUCKETS - rest)?;
         widen_shelves(
@@ -543,10 +558,12 @@ fn add_shelf(
     spans: &mut Spans,
     unused: &mut Link,
     blocks: &mut Blocks,
+    rooms: &mut Rooms,
     new: &NewShelf,
 )
     requires known { AreKnown blocks.old shelves.old.items }
     requires spans { AreSpans spans.old buckets.old.items }
+    requires rooms { AreCounted rooms.old buckets.old.items }
     requires frame { IsBucketedFrame frame.now }
     requires new { spec.IsNewShelf frame.now new.now }
     requires short { spec.IsShort frame.now shelves.old.items }
@@ -588,6 +605,7 @@ fn add_shelf(
     ensures bucket_capacity { vec_capacity buckets.old ≤ vec_capacity buckets.new }
     ensures known { AreKnown blocks.new shelves.new.items }
     ensures spans { AreSpans spans.new buckets.new.items }
+    ensures rooms { AreCounted rooms.new buckets.new.items }
 {
     let width = width_of_share(frame, new.count) as u16;
     let x = (new.column * frame.column_width) as u16;
@@ -598,6 +616,7 @@ fn add_shelf(
         x,
     };
     let first_bucket = make_buckets(buckets, spans, unused, Link::none(), &row, new.count);
+    rooms.add(width, new.count as u16);
     let height = new.height as u16;
     blocks.expect(height);
     let shelf = LinkedBucketShelf {
@@ -850,6 +869,7 @@ impl Clone for Store {
             blocks: self.blocks,
             spans: self.spans,
             filled: self.filled,
+            rooms: self.rooms,
             may_be_long: self.may_be_long,
         })
     }

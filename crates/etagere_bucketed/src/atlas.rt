@@ -212,7 +212,9 @@ impl BucketedAtlasAllocator {
     /// `Err` or none. An added shelf takes memory for its record, and for those of its buckets as far as
     /// too few were unused; a size that needs none takes none. Passes over up to 512 shelves at once, and
     /// goes through those of a block of 8 in which one has room, and looks only at buckets of shelves that are
-    /// tall enough, have wide enough buckets and room. The first bucket that wastes nothing ends the search.
+    /// tall enough, have wide enough buckets and room. The first bucket that wastes nothing ends the search; none is
+    /// looked for where no bucket has just the width. As the first item goes into a wider bucket of more than 64, in more
+    /// than one shelf, all are counted by their width.
     pub fn allocate(&mut self, size: Size) -> Result<Option<Allocation>, AllocError>
         ensures placed { IfOk result
             (λ answer. IfSome answer (λ allocation. Allocates self.old size allocation self.new)) }

@@ -7,6 +7,7 @@ use Rattle.bucketed_model.proofs.Shelving.Shares.{shares-fit}
 use Rattle.bucket_index.specs.Private.Blocks.{AreKnown}
 use Rattle.bucket_index.proofs.KnownBlocks.{known-last}
 use Rattle.bucketed_store.specs.Private.StoreEdits.{EndsBy}
+use Rattle.bucketed_store.proofs.RoomsKept.{made-many}
 use Rattle.bucketed_store.proofs.store.add_shelf.Goals as goal
 
 pub make_buckets-first_bucket-requires-clause-narrow : goal.make_buckets-first_bucket-requires-clause-narrow
@@ -33,6 +34,11 @@ next_across-y-requires c =
 pub add_last-requires-clause-others : goal.add_last-requires-clause-others
 add_last-requires-clause-others c =
     rw c.expect.ensures (known-last _ c.args.blocks.now c.args.shelves.now.items c.deref-2.result.now (is_ok c.push.result) (ap is_ok c.unwrap.ensures) (c.deref-2.ensures.value ∙ c.push.ensures.items) c.requires.known)
+
+pub returns-clause-rooms : goal.returns-clause-rooms
+returns-clause-rooms c =
+    c.add.ensures c.args.buckets.now.items c.make_buckets-first_bucket.new.buckets.items c.requires.rooms
+    (λ slot. rw c.make_buckets-first_bucket.ensures.buckets (made-many c.new.inside.count _ _ slot))
 
 pub returns-clause-known : goal.returns-clause-known
 returns-clause-known c = subst (AreKnown c.add_last.new.self) c.deref-2.ensures.value c.add_last.ensures

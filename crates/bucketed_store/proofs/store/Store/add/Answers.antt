@@ -3,6 +3,7 @@ use Rattle.bucketed_model.specs.Adding.{NewShelves, news_of}
 use Rattle.bucketed_records.specs.Private.Store.{Stored}
 use Rattle.bucket_index.specs.Private.Blocks.{AreKnown}
 use Rattle.bucket_index.specs.Private.Filling.{IsFilled}
+use Rattle.bucket_index.specs.Private.Rooms.{AreCounted}
 use Rattle.bucket_index.specs.Private.Spans.{AreSpans}
 use Rattle.bucketed_store.specs.Private.StoreEdits.{IsShort, stored_shelves}
 use Rattle.bucketed_store.proofs.Spelling.MadeLengths.{filler-keeps}
@@ -34,11 +35,11 @@ add_shelf-requires-clause-short c =
     (subst (λ (s : Stored). IsShort c.args.frame.now s.shelves) (sym c.self.view_is) (first-short c.args.frame.now c.args.news.now c.args.self.now c.requires.news.short))
 
 pub invariant_of-self : goal.invariant_of-self
-invariant_of-self c = (subst (AreKnown c.self.inside.blocks) (sym c.reserve.ensures.items) c.self.invariant.0, c.self.invariant.1, c.self.invariant.2)
+invariant_of-self c = (subst (AreKnown c.self.inside.blocks) (sym c.reserve.ensures.items) c.self.invariant.0, c.self.invariant.1, c.self.invariant.2, c.self.invariant.3)
 
 pub invariant_of-self-in_err-reserve_records : goal.invariant_of-self-in_err-reserve_records
 invariant_of-self-in_err-reserve_records c =
-    (subst (AreKnown c.self.inside.blocks) (sym c.reserve.ensures.items) c.self.invariant.0, subst (AreSpans c.self.inside.spans) (sym c.reserve_records.ensures.same) c.self.invariant.1, subst (IsFilled c.self.inside.filled) (sym c.reserve_records.ensures.same) c.self.invariant.2)
+    (subst (AreKnown c.self.inside.blocks) (sym c.reserve.ensures.items) c.self.invariant.0, subst (AreSpans c.self.inside.spans) (sym c.reserve_records.ensures.same) c.self.invariant.1, subst (IsFilled c.self.inside.filled) (sym c.reserve_records.ensures.same) c.self.invariant.2, subst (AreCounted c.self.inside.rooms) (sym c.reserve_records.ensures.same) c.self.invariant.3)
 
 pub add_shelf-requires-clause-known : goal.add_shelf-requires-clause-known
 add_shelf-requires-clause-known c = subst (AreKnown c.self.inside.blocks) (sym c.reserve.ensures.items) c.self.invariant.0
@@ -61,4 +62,14 @@ add_shelf-requires-2-clause-spans c =
     ]
 
 pub invariant_of-self-2 : goal.invariant_of-self-2
-invariant_of-self-2 c = (c.add_shelf-2.ensures.known, c.add_shelf-2.ensures.spans, c.forget.ensures _)
+invariant_of-self-2 c = (c.add_shelf-2.ensures.known, c.add_shelf-2.ensures.spans, c.forget.ensures _, c.add_shelf-2.ensures.rooms)
+
+pub add_shelf-requires-clause-rooms : goal.add_shelf-requires-clause-rooms
+add_shelf-requires-clause-rooms c = subst (AreCounted c.self.inside.rooms) (sym c.in_ok-reserve_records.ensures.same) c.self.invariant.3
+
+pub add_shelf-requires-2-clause-rooms : goal.add_shelf-requires-2-clause-rooms
+add_shelf-requires-2-clause-rooms c =
+    elim c.match-news.branch [
+      | in-Some w ↦ subst (λ (inside : Inside). AreCounted inside.rooms inside.buckets.items) (sym w.self-inside-is) w.add_shelf.ensures.rooms
+      | in_default w ↦ subst (λ (inside : Inside). AreCounted inside.rooms inside.buckets.items) (sym w.self-inside-is) (subst (AreCounted c.self.inside.rooms) (sym c.in_ok-reserve_records.ensures.same) c.self.invariant.3)
+    ]

@@ -71,4 +71,5 @@ invariant_of-self c = (
   subst (AreKnown c.follow.new.self) c.deref-2.ensures.value c.follow.ensures,
   subst (AreSpans c.give_from.new.spans) c.deref.ensures.value c.give_from.ensures.spans,
   subst (IsFilled c.give_from.new.filled) c.deref.ensures.value c.give_from.ensures.filled,
+  c.self.invariant.3,
 )

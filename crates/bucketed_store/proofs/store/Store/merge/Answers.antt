@@ -15,4 +15,5 @@ invariant_of-self c =
       subst (AreKnown c.self.inside.blocks) (sym merged) (known-merged c.args.group.now c.self.inside.blocks shelves.items c.self.invariant.0),
       c.self.invariant.1,
       c.self.invariant.2,
+      c.self.invariant.3,
     )

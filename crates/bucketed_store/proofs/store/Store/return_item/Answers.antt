@@ -10,12 +10,14 @@ use Rattle.bucketed_records.specs.StandsFor.{live_of, shelf_of}
 use Rattle.bucketed_records.specs.Private.Store.{Stored}
 use Rattle.bucket_index.specs.Private.Blocks.{AreKnown, AreOthersKnown}
 use Rattle.bucket_index.specs.Private.Filling.{IsFilled}
+use Rattle.bucket_index.specs.Private.Rooms.{AreCounted, tally}
 use Rattle.bucket_index.specs.Private.Spans.{AreSpans, AreSpansExcept}
 use Rattle.bucket_index.proofs.FilledRows.{filled-changed}
 use Rattle.bucket_index.proofs.KnownBlocks.{AreSome, known-at, known-others}
 use Rattle.bucket_index.proofs.KnownSpans.{spans-changed-room}
 use Rattle.bucketed_store.specs.Private.Returns.{Dropping, dropping_of, emptied_record, lessened_record, returned_kept, returned_record, width_of}
 use Rattle.bucketed_store.proofs.KnownShelves.{others-some, some-dropped}
+use Rattle.bucketed_store.proofs.RoomsKept.{counted-same, dropped-kept, followed, is-there}
 use Rattle.bucketed_store.proofs.store.Store.return_item.Goals as goal
 
 -- a return keeps a record's link
@@ -76,6 +78,8 @@ invariant_of-self c =
     let inside = c.self.inside in
     let number = c.args.number in
     let width = width_of c.deref_mut.result.now (shelf_of c.deref_mut-2.result.now number) in
+    let within : number < length inside.buckets.items = subst (λ (stored : Stored). number < length stored.buckets) (sym c.self.view_is) c.requires.number in
+    let one = is-there number inside.buckets.items within in
     let items : (with_items inside.buckets c.return_item.new.buckets).items ≡ c.return_item.new.buckets =
     with_items_is inside.buckets c.return_item.new.buckets (omega (arith, c.return_item.auto.buckets, c.deref_mut-2.ensures.len)) in
     let returned : c.return_item.new.buckets ≡ changed_by (Some number) (returned_record width) inside.buckets.items =
@@ -85,6 +89,9 @@ invariant_of-self c =
       c.widen.ensures (with_items inside.buckets c.return_item.new.buckets).items
           (λ same. subst (IsFilled inside.filled) (sym (items ∙ returned))
           (filled-changed number (returned_record width) inside.filled inside.buckets.items (links-same width) (λ differs b. absurd (apart number inside.filled.bucket same differs)) c.self.invariant.2)),
+      subst (AreCounted c.follow_record.new.self) (sym (items ∙ returned))
+          (followed number c.room_of-room.result (returned_record width) inside.buckets.items c.deref-6.result.now one.bucket inside.rooms c.follow_record.new.self (c.deref-6.ensures.value ∙ items ∙ returned) one.at
+          (c.room_of-room.ensures one.bucket (ap (λ (bs : List LinkedBucket). slice_get bs number) c.deref-4.ensures.value ∙ one.at)) c.self.invariant.3 c.follow_record.ensures),
     )
 
 pub follow_dropped-requires : goal.follow_dropped-requires
@@ -109,15 +116,32 @@ follow_dropped-requires c =
     let known : AreOthersKnown c.shelf_number-shelf.result inside.blocks (with_items inside.shelves c.return_item.new.shelves).items =
     subst (AreOthersKnown c.shelf_number-shelf.result inside.blocks) (sym (items ∙ returned))
     (known-others c.shelf_number-shelf.result change inside.blocks inside.shelves.items (λ x. refl) c.self.invariant.0) in
-    subst (AreOthersKnown c.shelf_number-shelf.result inside.blocks) (sym c.deref-7.ensures.value)
+    subst (AreOthersKnown c.shelf_number-shelf.result inside.blocks) (sym c.deref-8.ensures.value)
     (others-some c.shelf_number-shelf.result inside.blocks (with_items inside.shelves c.return_item.new.shelves).items c.drop_idle_end-dropped.new.shelves.items some known)
 
 pub invariant_of-self-2 : goal.invariant_of-self-2
 invariant_of-self-2 c =
     let inside = c.self.inside in
+    let number = c.args.number in
+    let width = width_of c.deref_mut.result.now (shelf_of c.deref_mut-2.result.now number) in
+    let within : number < length inside.buckets.items = subst (λ (stored : Stored). number < length stored.buckets) (sym c.self.view_is) c.requires.number in
+    let one = is-there number inside.buckets.items within in
+    let items : (with_items inside.buckets c.return_item.new.buckets).items ≡ c.return_item.new.buckets =
+    with_items_is inside.buckets c.return_item.new.buckets (omega (arith, c.return_item.auto.buckets, c.deref_mut-2.ensures.len)) in
+    let returned : c.return_item.new.buckets ≡ changed_by (Some number) (returned_record width) inside.buckets.items =
+    c.return_item.ensures.buckets ∙ ap (λ (bs : List LinkedBucket). changed_by (Some number) (returned_record width) bs) c.deref_mut-2.ensures.value in
+    let counted : AreCounted c.follow_record.new.self (with_items inside.buckets c.return_item.new.buckets).items =
+    subst (AreCounted c.follow_record.new.self) (sym (items ∙ returned))
+    (followed number c.room_of-room.result (returned_record width) inside.buckets.items c.deref-6.result.now one.bucket inside.rooms c.follow_record.new.self (c.deref-6.ensures.value ∙ items ∙ returned) one.at
+    (c.room_of-room.ensures one.bucket (ap (λ (bs : List LinkedBucket). slice_get bs number) c.deref-4.ensures.value ∙ one.at)) c.self.invariant.3 c.follow_record.ensures) in
     let buckets : (with_items (with_items inside.buckets c.return_item.new.buckets) c.drop_idle_end-dropped.new.buckets).items ≡ c.drop_idle_end-dropped.new.buckets =
     with_items_is (with_items inside.buckets c.return_item.new.buckets) c.drop_idle_end-dropped.new.buckets (omega (arith, c.drop_idle_end-dropped.auto.buckets, c.deref_mut-3.ensures.len)) in (
-      subst (AreKnown c.follow_dropped.new.self) c.deref-7.ensures.value c.follow_dropped.ensures,
+      subst (AreKnown c.follow_dropped.new.self) c.deref-8.ensures.value c.follow_dropped.ensures,
       c.forget_where_none.ensures.kept _ (subst (AreSpans c.drop_idle_end-dropped.new.spans) (sym buckets) c.drop_idle_end-dropped.ensures.spans),
       c.forget.ensures _,
+      subst (AreCounted c.follow_record.new.self) (sym buckets)
+          (counted-same c.follow_record.new.self (with_items inside.buckets c.return_item.new.buckets).items c.drop_idle_end-dropped.new.buckets counted
+          (λ slot. ap (λ (done : Dropping). tally slot done.stored.buckets) c.drop_idle_end-dropped.ensures.dropped
+          ∙ dropped-kept slot (vec_len (with_items inside.shelves c.return_item.new.shelves)) (dropping_of (with_items inside.shelves c.return_item.new.shelves).items c.deref_mut-3.result.now inside.unused 0)
+          ∙ ap (tally slot) c.deref_mut-3.ensures.value)),
     )

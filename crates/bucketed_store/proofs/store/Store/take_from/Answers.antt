@@ -4,7 +4,11 @@ use Rattle.std.specs.Vec.{with_items}
 use Rattle.etagere_links.specs.Edits.{changed_by}
 use Rattle.bucketed_records.specs.declared.records.LinkedBucket.{LinkedBucket}
 use Rattle.bucket_index.specs.Private.Filling.{IsFilled}
+use Rattle.bucket_index.specs.Private.Rooms.{AreCounted}
 use Rattle.bucket_index.specs.Private.Spans.{AreSpans, AreSpansExcept}
+use Rattle.bucketed_records.specs.Private.Store.{Stored}
+use Rattle.std.specs.Prelude.{slice_get}
+use Rattle.bucketed_store.proofs.RoomsKept.{followed}
 use Rattle.bucket_index.proofs.FilledRows.{filled-changed}
 use Rattle.bucket_index.proofs.KnownSpans.{spans-changed-room}
 use Rattle.bucketed_store.specs.Private.StoreEdits.{taken_record}
@@ -28,6 +32,9 @@ invariant_of-self c =
     let inside = c.self.inside in
     let bucket = c.args.bucket in
     let change = taken_record c.args.width in
+    let one = c.requires.bucket in
+    let here : slice_get inside.buckets.items bucket ≡ Some one =
+    subst (λ (stored : Stored). slice_get stored.buckets bucket ≡ Some one) (sym c.self.view_is) c.requires.here in
     let items : (with_items inside.buckets c.take_from.new.buckets).items ≡ c.take_from.new.buckets =
     with_items_is inside.buckets c.take_from.new.buckets (omega (arith, c.take_from.auto.buckets, c.deref_mut.ensures.len)) in
     let taken : c.take_from.new.buckets ≡ changed_by (Some bucket) change inside.buckets.items =
@@ -36,4 +43,7 @@ invariant_of-self c =
       subst (AreSpans c.track.new.self) c.deref-2.ensures.value c.track.ensures,
       subst (IsFilled inside.filled) (sym (items ∙ taken))
           (filled-changed bucket change inside.filled inside.buckets.items (λ b. refl) (λ _ b. room-lowered c.args.width b) c.self.invariant.2),
+      subst (AreCounted c.follow_record.new.self) (sym (items ∙ taken))
+          (followed bucket c.room_of-before.result change inside.buckets.items c.deref-3.result.now one inside.rooms c.follow_record.new.self (c.deref-3.ensures.value ∙ items ∙ taken) here
+          (c.room_of-before.ensures one (ap (λ (bs : List LinkedBucket). slice_get bs bucket) c.deref.ensures.value ∙ here)) c.self.invariant.3 c.follow_record.ensures),
     )

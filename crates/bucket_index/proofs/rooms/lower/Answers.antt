@@ -1,0 +1,10 @@
+use Rattle.std.proofs.Common.{Some, false, refl}
+use Rattle.etagere_links.proofs.EditLemmas.{set-changed, changed_by-past}
+use Rattle.bucket_index.specs.Private.Rooms.{one_less}
+use Rattle.bucket_index.proofs.rooms.lower.Goals as goal
+
+pub returns-then-slot-counts : goal.returns-then-slot-counts
+returns-then-slot-counts c = rw c.one_less.ensures (set-changed one_less c.args.counts.now c.args.slot 0 c.if-slot-counts.true)
+
+pub returns-else-slot-counts : goal.returns-else-slot-counts
+returns-else-slot-counts c = changed_by-past one_less c.args.counts.now (Some c.args.slot) c.args.slot refl c.if-slot-counts.false
