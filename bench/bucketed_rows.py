@@ -83,6 +83,12 @@ def empty_shelves(_program):
     return filling, comes_and_goes(len(filling) - 1, "a 7 8")
 
 
+def too_low(_program):
+    """3000 shelves that have room and are too low, and an item that comes and goes beside another of its height."""
+    filling = ["bucketed 512 60000 1 1 1 h"] + ["a 300 16"] * 3000 + ["a 100 24"]
+    return filling, comes_and_goes(len(filling) - 1, "a 100 24")
+
+
 MOST = 1000
 """So many instructions are wanted at most for a call on so many shelves or buckets."""
 
@@ -103,6 +109,7 @@ ROWS = {
     "4095 shelves with little room: a wider item is refused": Row(narrow_rooms, 311349, most=MOST),
     "4095 shelves that are too tall: the same item comes and goes": Row(too_tall, 16626, most=MOST),
     # Counted likewise.
+    "3000 shelves that are too low: the same item comes and goes": Row(too_low, 10673, most=MOST),
     "4000 empty shelves: a narrower item comes and goes": Row(empty_shelves, 94132, before=88714, most=MOST),
 }
 
