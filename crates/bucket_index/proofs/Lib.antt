@@ -9,4 +9,5 @@ pub mod OtherShelves
 pub mod PassedShelves
 pub mod Searched
 pub mod SteppedShelves
+pub mod TallestShelves
 pub mod WidestRooms

@@ -1,15 +1,16 @@
 //! The index of the shelves and buckets of a bucketed atlas, and the search by it for a bucket that gives an item.
 //!
-//! By what `blocks` know of shelves, and `spans` of the buckets of long shelves, `searching` passes over many at once.
+//! By what `blocks` and `heights` know of shelves, and `spans` of the buckets of long shelves, `searching` passes over many at once.
 //! What is known may be too much, never too little: what is found is what a search that looks at each would find.
 //! `filling` knows the shelf that was filled last, and `rooms` where no bucket can give just the width that is asked for.
 //!
-//! Definitions: `Private/Searching` for what is found, `Private/Blocks`, `Private/Filling`, `Private/Rooms` and
-//! `Private/Spans` for what is known.
+//! Definitions: `Private/Searching` for what is found, `Private/Blocks`, `Private/Filling`, `Private/Heights`,
+//! `Private/Rooms` and `Private/Spans` for what is known.
 #![tactic(auto)]
 
 pub mod blocks;
 pub mod filling;
+pub mod heights;
 pub mod rooms;
 pub mod searching;
 pub mod spans;

@@ -9,11 +9,13 @@ ghost use Rattle.etagere_links.specs.Links.{no_link};
 ghost use Rattle.bucketed_model.specs.Picking.{or_else};
 ghost use Rattle.bucketed_model.specs.State.{most_buckets};
 ghost use Rattle.bucket_index.specs.Private.Blocks.{AreKnown, IsStep};
+ghost use Rattle.bucket_index.specs.Private.Heights.{AreBelow};
 ghost use Rattle.bucket_index.specs.Private.Rooms.{AreCounted};
 ghost use Rattle.bucket_index.specs.Private.Searching as spec;
 ghost use Rattle.bucket_index.specs.Private.Spans.{AreSpans};
 
 use crate::blocks::{Blocks, SHELVES_OF_BLOCK};
+use crate::heights::Heights;
 use crate::rooms::Rooms;
 use crate::spans::Spans;
 use bucketed_records::records::{KeptShelf, LinkedBucket, MOST_BUCKETS, MOST_GIVEN, record_room};
@@ -319,26 +321,30 @@ fn least_waste(
     sides: &Sides,
     shelves: &[KeptShelf],
     blocks: &Blocks,
+    heights: &Heights,
 ) -> Option<FoundShelf>
     requires known { AreKnown blocks.now shelves.now }
+    requires below { AreBelow heights.now shelves.now }
     ensures least { result ≡ first_least (map (spec.kept_waste adds sides.now) shelves.now) }
     ensures within { IfSome result (λ least. least.number < length shelves.now) }
 {
     if blocks.are_counted {
-        return least_by_blocks(adds, sides, shelves, blocks);
+        return least_by_blocks(adds, sides, shelves, blocks, heights);
     }
     least_in(adds, sides, shelves, blocks.step(), 0, shelves.len(), None)
 }
 
-/// The same, where blocks in which none has room are passed over.
+/// The same, where blocks in which none has room, or all are too low, are passed over.
 fn least_by_blocks(
     adds: bool,
     sides: &Sides,
     shelves: &[KeptShelf],
     blocks: &Blocks,
+    heights: &Heights,
 ) -> Option<FoundShelf>
     requires counted { blocks.now.are_counted ≡ true }
     requires known { AreKnown blocks.now shelves.now }
+    requires below { AreBelow heights.now shelves.now }
     ensures least { result ≡ first_least (map (spec.kept_waste adds sides.now) shelves.now) }
     ensures within { IfSome result (λ least. least.number < length shelves.now) }
 {
@@ -350,11 +356,16 @@ fn least_by_blocks(
         if from < behind {
             from = behind;
         } else {
-            let end = from + SHELVES_OF_BLOCK;
-            best = least_in(adds, sides, shelves, step, from, end, best);
-            from = end;
-            if is_least(step, &best) {
-                break;
+            let low = heights.behind_low(from, sides.across, shelves.len());
+            if from < low {
+                from = low;
+            } else {
+                let end = from + SHELVES_OF_BLOCK;
+                best = least_in(adds, sides, shelves, step, from, end, best);
+                from = end;
+                if is_least(step, &best) {
+                    break;
+                }
             }
         }
     }
@@ -562,13 +573,15 @@ pub fn pick(
     blocks: &Blocks,
     spans: &Spans,
     rooms: &Rooms,
+    heights: &Heights,
 ) -> Option<FoundBucket>
     requires known { AreKnown blocks.now shelves.now }
     requires spans { AreSpans spans.now buckets.now }
     requires rooms { AreCounted rooms.now buckets.now }
+    requires below { AreBelow heights.now shelves.now }
     ensures { result ≡ spec.picked adds sides.now shelves.now buckets.now }
 {
-    let least = least_waste(adds, sides, shelves, blocks)?;
+    let least = least_waste(adds, sides, shelves, blocks, heights)?;
     let wanted = Wanted::Roomy(sides.along);
     let first = shelves[least.number].shelf.first_bucket;
     let bucket = first_wanted(wanted, buckets, spans, first)?;

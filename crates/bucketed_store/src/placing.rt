@@ -6,6 +6,7 @@ ghost use Rattle.std.specs.Prelude.{◌≡◌, ◌<◌, ◌^◌, IsTrue};
 ghost use Rattle.std.specs.Option.{option_map};
 ghost use Rattle.bucketed_model.specs.Frames.{IsBucketedFrame};
 ghost use Rattle.bucket_index.specs.Private.Blocks.{AreKnown};
+ghost use Rattle.bucket_index.specs.Private.Heights.{AreBelow};
 ghost use Rattle.bucket_index.specs.Private.Rooms.{AreCounted};
 ghost use Rattle.bucket_index.specs.Private.Spans.{AreSpans};
 ghost use Rattle.bucketed_store.specs.Private.Placing as spec;
@@ -14,6 +15,7 @@ ghost use Rattle.bucketed_store.specs.Private.StoreEdits as edits;
 use crate::merging::{Group, mergeable_shelves};
 use crate::store::Store;
 use bucket_index::blocks::Blocks;
+use bucket_index::heights::Heights;
 use bucket_index::rooms::Rooms;
 use bucket_index::searching::{FoundBucket, pick};
 use bucket_index::spans::Spans;
@@ -77,6 +79,7 @@ pub fn placement_of(
         &store.blocks,
         &store.spans,
         &store.rooms,
+        &store.heights,
     )
 }
 
@@ -90,6 +93,7 @@ fn placement_in(
     blocks: &Blocks,
     spans: &Spans,
     rooms: &Rooms,
+    heights: &Heights,
 ) -> Option<Placement>
     requires frame { IsBucketedFrame frame.now }
     requires across { (0 < sides.now.across) × (sides.now.across < 2 ^ 31) }
@@ -97,11 +101,12 @@ fn placement_in(
     requires known { AreKnown blocks.now shelves.now }
     requires spans { AreSpans spans.now buckets.now }
     requires rooms { AreCounted rooms.now buckets.now }
+    requires below { AreBelow heights.now shelves.now }
     ensures { option_map spec.placement_seen result
         ≡ spec.kept_placement frame.now left.now sides.now shelves.now buckets.now }
 {
     let adds = can_add(frame, left, sides.across);
-    if let Some(found) = pick(adds, sides, shelves, buckets, blocks, spans, rooms) {
+    if let Some(found) = pick(adds, sides, shelves, buckets, blocks, spans, rooms, heights) {
         return Some(Placement::InBucket(found));
     }
     if adds {

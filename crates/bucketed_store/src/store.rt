@@ -14,6 +14,7 @@ ghost use Rattle.bucketed_records.specs.Private.Store.{record_room, shelf_record
 ghost use Rattle.bucketed_records.specs.Restoring as restoring;
 ghost use Rattle.bucket_index.specs.Private.Blocks.{AreKnown};
 ghost use Rattle.bucket_index.specs.Private.Filling.{IsFilled};
+ghost use Rattle.bucket_index.specs.Private.Heights.{AreBelow};
 ghost use Rattle.bucket_index.specs.Private.Rooms.{AreCounted};
 ghost use Rattle.bucket_index.specs.Private.Searching as searching;
 ghost use Rattle.bucket_index.specs.Private.Spans.{AreSpans};
@@ -30,6 +31,7 @@ use crate::placing::Placement;
 use crate::returning::{is_known, return_item, returned_area, shelf_number};
 use bucket_index::blocks::Blocks;
 use bucket_index::filling::Filled;
+use bucket_index::heights::Heights;
 use bucket_index::rooms::Rooms;
 use bucket_index::searching::{FoundBucket, has_room, widest_room};
 use bucket_index::spans::Spans;
@@ -60,6 +62,7 @@ pub struct Store {
     pub(crate) spans: Spans,
     pub(crate) filled: Filled,
     pub(crate) rooms: Rooms,
+    pub(crate) heights: Heights,
     /// Whether a shelf may have so many buckets that a search along them goes far.
     pub(crate) may_be_long: bool,
 }
@@ -68,6 +71,7 @@ impl Model for Store {
     ghost use Rattle.bucketed_records.specs.Private.Store.{Stored};
     ghost use Rattle.bucket_index.specs.Private.Blocks.{AreKnown};
     ghost use Rattle.bucket_index.specs.Private.Filling.{IsFilled};
+    ghost use Rattle.bucket_index.specs.Private.Heights.{AreBelow};
     ghost use Rattle.bucket_index.specs.Private.Rooms.{AreCounted};
     ghost use Rattle.bucket_index.specs.Private.Spans.{AreSpans};
 
@@ -82,7 +86,8 @@ impl Model for Store {
     ghost invariant = { λ store. AreKnown store.blocks store.shelves.items
         × AreSpans store.spans store.buckets.items
         × IsFilled store.filled store.buckets.items
-        × AreCounted store.rooms store.buckets.items };
+        × AreCounted store.rooms store.buckets.items
+        × AreBelow store.heights store.shelves.items };
 }
 
 /// What a return gives back.
@@ -120,6 +125,7 @@ impl Store {
             spans: Spans::new(),
             filled: Filled::none(),
             rooms: Rooms::uncounted(),
+            heights: Heights::new(),
             may_be_long: false,
         }
     }
@@ -130,6 +136,7 @@ impl Store {
             ≡ record { shelves = shelves.items; buckets = buckets.items; unused = unused } }
     {
         let blocks = Blocks::of(&shelves);
+        let heights = Heights::of(&shelves);
         Store {
             shelves,
             buckets,
@@ -138,6 +145,7 @@ impl Store {
             spans: Spans::new(),
             filled: Filled::none(),
             rooms: Rooms::uncounted(),
+            heights,
             may_be_long: true,
         }
     }
@@ -153,6 +161,7 @@ impl Store {
         self.spans.forget_all();
         self.filled.forget();
         self.rooms.forget();
+        self.heights = Heights::new();
         self.may_be_long = false;
     }
 
@@ -184,6 +193,7 @@ impl Store {
                 &mut self.unused,
                 &mut self.blocks,
                 &mut self.rooms,
+                &mut self.heights,
                 filler,
             );
         }
@@ -195,6 +205,7 @@ impl Store {
             &mut self.unused,
             &mut self.blocks,
             &mut self.rooms,
+            &mut self.heights,
             &news.asked,
         );
         self.filled.forget();
@@ -244,6 +255,7 @@ impl Store {
             ≡ record self.old { shelves = spec.kept_merged group.now self.old.shelves } }
     {
         merge(&mut self.shelves, group);
+        self.heights = Heights::of(&self.shelves);
     }
 
     /// Makes what is known of shelves exact where that was put off, so that a search passes over as many as it can.
@@ -420,6 +432,7 @@ impl Store {
             left,
         );
         self.blocks = Blocks::of(&self.shelves);
+        self.heights = Heights::of(&self.shelves);
         self.may_be_long = true;
         Ok(left - rest)
     }
@@ -559,11 +572,13 @@ fn add_shelf(
     unused: &mut Link,
     blocks: &mut Blocks,
     rooms: &mut Rooms,
+    heights: &mut Heights,
     new: &NewShelf,
 )
     requires known { AreKnown blocks.old shelves.old.items }
     requires spans { AreSpans spans.old buckets.old.items }
     requires rooms { AreCounted rooms.old buckets.old.items }
+    requires below { AreBelow heights.old shelves.old.items }
     requires frame { IsBucketedFrame frame.now }
     requires new { spec.IsNewShelf frame.now new.now }
     requires short { spec.IsShort frame.now shelves.old.items }
@@ -606,6 +621,7 @@ fn add_shelf(
     ensures known { AreKnown blocks.new shelves.new.items }
     ensures spans { AreSpans spans.new buckets.new.items }
     ensures rooms { AreCounted rooms.new buckets.new.items }
+    ensures below { AreBelow heights.new shelves.new.items }
 {
     let width = width_of_share(frame, new.count) as u16;
     let x = (new.column * frame.column_width) as u16;
@@ -634,6 +650,7 @@ fn add_shelf(
         })
         .unwrap();
     blocks.add_last(shelves);
+    heights.add(shelves.len() - 1, height);
 }
 
 /// Takes an item of this width from the bucket of a number.
@@ -870,6 +887,7 @@ impl Clone for Store {
             spans: self.spans,
             filled: self.filled,
             rooms: self.rooms,
+            heights: self.heights,
             may_be_long: self.may_be_long,
         })
     }

@@ -3,12 +3,19 @@ use Rattle.bucket_index.specs.Private.Searching.{kept_waste}
 use Rattle.bucket_index.proofs.PassedShelves.{least-past}
 use Rattle.bucket_index.proofs.FoundShelves.{all-within, before-end}
 use Rattle.bucket_index.proofs.SteppedShelves.{best-of_all}
+use Rattle.bucket_index.proofs.TallestShelves.{least-past-low, low-shelves}
 use Rattle.bucket_index.proofs.searching.least_by_blocks.Goals as goal
 
 pub loop-from-preserved-then-from-behind : goal.loop-from-preserved-then-from-behind
 loop-from-preserved-then-from-behind c =
     let behind = c.behind_narrow-behind in
     least-past c.args.adds c.args.sides.now c.args.shelves.now c.loop-from.best c.loop-from.from behind.result c.loop-from.invariant behind.ensures.on (behind.ensures.narrow c.args.shelves.now c.requires.known)
+
+pub loop-from-preserved-then-from-low : goal.loop-from-preserved-then-from-low
+loop-from-preserved-then-from-low c =
+    let low = c.behind_low-low in
+    least-past-low c.args.adds c.args.sides.now c.args.shelves.now c.loop-from.best c.loop-from.from low.result c.loop-from.invariant low.ensures.on
+    (low-shelves c.args.sides.now.across c.loop-from.from low.result c.args.heights.now c.args.shelves.now c.requires.below (low.ensures.low c.if-from-low.true))
 
 pub least_in-best-requires-clause-step : goal.least_in-best-requires-clause-step
 least_in-best-requires-clause-step c = c.step-step.ensures c.args.shelves.now c.requires.known

@@ -3,6 +3,7 @@ use Rattle.bucketed_records.specs.declared.records.LinkedBucket.{LinkedBucket}
 use Rattle.bucketed_records.specs.declared.records.KeptShelf.{KeptShelf}
 use Rattle.bucketed_records.specs.Private.Store.{Stored}
 use Rattle.bucket_index.specs.Private.Blocks.{AreKnown}
+use Rattle.bucket_index.specs.Private.Heights.{AreBelow}
 use Rattle.bucket_index.specs.Private.Rooms.{AreCounted}
 use Rattle.bucket_index.specs.Private.Spans.{AreSpans}
 use Rattle.bucketed_store.specs.Private.Placing.{kept_placement}
@@ -16,6 +17,9 @@ placement_in-requires-clause-spans c = subst (AreSpans c.store.inside.spans) (sy
 
 pub placement_in-requires-clause-rooms : goal.placement_in-requires-clause-rooms
 placement_in-requires-clause-rooms c = subst (AreCounted c.store.inside.rooms) (sym c.deref-2.ensures.value) c.store.invariant.3
+
+pub placement_in-requires-clause-below : goal.placement_in-requires-clause-below
+placement_in-requires-clause-below c = subst (AreBelow c.store.inside.heights) (sym c.deref.ensures.value) c.store.invariant.4
 
 pub returns : goal.returns
 returns c =

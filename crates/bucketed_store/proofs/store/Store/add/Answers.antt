@@ -2,6 +2,7 @@ use Rattle.std.proofs.Common.{length, ap, arith, subst, sym, ◌∙◌}
 use Rattle.bucketed_model.specs.Adding.{NewShelves, news_of}
 use Rattle.bucketed_records.specs.Private.Store.{Stored}
 use Rattle.bucket_index.specs.Private.Blocks.{AreKnown}
+use Rattle.bucket_index.specs.Private.Heights.{AreBelow}
 use Rattle.bucket_index.specs.Private.Filling.{IsFilled}
 use Rattle.bucket_index.specs.Private.Rooms.{AreCounted}
 use Rattle.bucket_index.specs.Private.Spans.{AreSpans}
@@ -35,11 +36,11 @@ add_shelf-requires-clause-short c =
     (subst (λ (s : Stored). IsShort c.args.frame.now s.shelves) (sym c.self.view_is) (first-short c.args.frame.now c.args.news.now c.args.self.now c.requires.news.short))
 
 pub invariant_of-self : goal.invariant_of-self
-invariant_of-self c = (subst (AreKnown c.self.inside.blocks) (sym c.reserve.ensures.items) c.self.invariant.0, c.self.invariant.1, c.self.invariant.2, c.self.invariant.3)
+invariant_of-self c = (subst (AreKnown c.self.inside.blocks) (sym c.reserve.ensures.items) c.self.invariant.0, c.self.invariant.1, c.self.invariant.2, c.self.invariant.3, subst (AreBelow c.self.inside.heights) (sym c.reserve.ensures.items) c.self.invariant.4)
 
 pub invariant_of-self-in_err-reserve_records : goal.invariant_of-self-in_err-reserve_records
 invariant_of-self-in_err-reserve_records c =
-    (subst (AreKnown c.self.inside.blocks) (sym c.reserve.ensures.items) c.self.invariant.0, subst (AreSpans c.self.inside.spans) (sym c.reserve_records.ensures.same) c.self.invariant.1, subst (IsFilled c.self.inside.filled) (sym c.reserve_records.ensures.same) c.self.invariant.2, subst (AreCounted c.self.inside.rooms) (sym c.reserve_records.ensures.same) c.self.invariant.3)
+    (subst (AreKnown c.self.inside.blocks) (sym c.reserve.ensures.items) c.self.invariant.0, subst (AreSpans c.self.inside.spans) (sym c.reserve_records.ensures.same) c.self.invariant.1, subst (IsFilled c.self.inside.filled) (sym c.reserve_records.ensures.same) c.self.invariant.2, subst (AreCounted c.self.inside.rooms) (sym c.reserve_records.ensures.same) c.self.invariant.3, subst (AreBelow c.self.inside.heights) (sym c.reserve.ensures.items) c.self.invariant.4)
 
 pub add_shelf-requires-clause-known : goal.add_shelf-requires-clause-known
 add_shelf-requires-clause-known c = subst (AreKnown c.self.inside.blocks) (sym c.reserve.ensures.items) c.self.invariant.0
@@ -62,7 +63,17 @@ add_shelf-requires-2-clause-spans c =
     ]
 
 pub invariant_of-self-2 : goal.invariant_of-self-2
-invariant_of-self-2 c = (c.add_shelf-2.ensures.known, c.add_shelf-2.ensures.spans, c.forget.ensures _, c.add_shelf-2.ensures.rooms)
+invariant_of-self-2 c = (c.add_shelf-2.ensures.known, c.add_shelf-2.ensures.spans, c.forget.ensures _, c.add_shelf-2.ensures.rooms, c.add_shelf-2.ensures.below)
+
+pub add_shelf-requires-clause-below : goal.add_shelf-requires-clause-below
+add_shelf-requires-clause-below c = subst (AreBelow c.self.inside.heights) (sym c.reserve.ensures.items) c.self.invariant.4
+
+pub add_shelf-requires-2-clause-below : goal.add_shelf-requires-2-clause-below
+add_shelf-requires-2-clause-below c =
+    elim c.match-news.branch [
+      | in-Some w ↦ subst (λ (inside : Inside). AreBelow inside.heights inside.shelves.items) (sym w.self-inside-is) w.add_shelf.ensures.below
+      | in_default w ↦ subst (λ (inside : Inside). AreBelow inside.heights inside.shelves.items) (sym w.self-inside-is) (subst (AreBelow c.self.inside.heights) (sym c.reserve.ensures.items) c.self.invariant.4)
+    ]
 
 pub add_shelf-requires-clause-rooms : goal.add_shelf-requires-clause-rooms
 add_shelf-requires-clause-rooms c = subst (AreCounted c.self.inside.rooms) (sym c.in_ok-reserve_records.ensures.same) c.self.invariant.3

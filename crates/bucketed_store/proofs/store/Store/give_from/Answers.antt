@@ -9,6 +9,8 @@ use Rattle.bucketed_records.specs.declared.records.KeptShelf.{KeptShelf}
 use Rattle.bucketed_records.specs.Private.Store.{Stored}
 use Rattle.bucket_index.specs.Private.Blocks.{AreKnown, AreOthersKnown}
 use Rattle.bucket_index.specs.Private.Filling.{IsFilled}
+use Rattle.bucket_index.specs.Private.Heights.{AreBelow}
+use Rattle.bucket_index.proofs.TallestShelves.{below-kept}
 use Rattle.bucket_index.specs.Private.Searching.{widest_from}
 use Rattle.bucket_index.specs.Private.Spans.{AreSpans}
 use Rattle.bucket_index.proofs.KnownBlocks.{known-at, known-others}
@@ -67,9 +69,19 @@ follow-requires-clause-others c =
     (known-others shelf (given_from (widest_from most_buckets inside.buckets.items (first_bucket_of inside.shelves.items shelf))) inside.blocks inside.shelves.items (λ x. refl) c.self.invariant.0)
 
 pub invariant_of-self : goal.invariant_of-self
-invariant_of-self c = (
-  subst (AreKnown c.follow.new.self) c.deref-2.ensures.value c.follow.ensures,
-  subst (AreSpans c.give_from.new.spans) c.deref.ensures.value c.give_from.ensures.spans,
-  subst (IsFilled c.give_from.new.filled) c.deref.ensures.value c.give_from.ensures.filled,
-  c.self.invariant.3,
-)
+invariant_of-self c =
+    let inside = c.self.inside in
+    let shelf = c.args.found.now.shelf in
+    let items : (with_items inside.shelves c.give_from.new.shelves).items ≡ c.give_from.new.shelves =
+    with_items_is inside.shelves c.give_from.new.shelves (omega (arith, c.give_from.auto.shelves, c.deref_mut.ensures.len)) in
+    let given : c.give_from.new.shelves ≡ shelves_given shelf inside.shelves.items inside.buckets.items =
+    c.give_from.ensures.shelves
+    ∙ ap (λ (xs : List KeptShelf). shelves_given shelf xs c.deref.result.now) c.deref_mut.ensures.value
+    ∙ ap (λ (bs : List LinkedBucket). shelves_given shelf inside.shelves.items bs) c.deref.ensures.value in (
+      subst (AreKnown c.follow.new.self) c.deref-2.ensures.value c.follow.ensures,
+      subst (AreSpans c.give_from.new.spans) c.deref.ensures.value c.give_from.ensures.spans,
+      subst (IsFilled c.give_from.new.filled) c.deref.ensures.value c.give_from.ensures.filled,
+      c.self.invariant.3,
+      subst (AreBelow inside.heights) (sym (items ∙ given))
+          (below-kept shelf (given_from (widest_from most_buckets inside.buckets.items (first_bucket_of inside.shelves.items shelf))) inside.heights inside.shelves.items (λ x. refl) c.self.invariant.4),
+    )

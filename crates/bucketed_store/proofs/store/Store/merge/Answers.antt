@@ -2,6 +2,7 @@ use Rattle.std.proofs.Common.{◌≡◌, ap, subst, sym, ◌∙◌, arith}
 use Rattle.std.proofs.lemmas.List.{with_items_is}
 use Rattle.std.specs.Vec.{with_items}
 use Rattle.bucket_index.specs.Private.Blocks.{AreKnown}
+use Rattle.bucket_index.specs.Private.Heights.{AreBelow}
 use Rattle.bucketed_store.specs.Private.StoreEdits.{kept_merged}
 use Rattle.bucketed_store.proofs.KnownShelves.{known-merged}
 use Rattle.bucketed_store.proofs.store.Store.merge.Goals as goal
@@ -16,4 +17,5 @@ invariant_of-self c =
       c.self.invariant.1,
       c.self.invariant.2,
       c.self.invariant.3,
+      subst (AreBelow c.of-self-inside.result) c.deref.ensures.value c.of-self-inside.ensures,
     )

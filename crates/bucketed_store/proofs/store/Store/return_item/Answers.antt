@@ -10,7 +10,9 @@ use Rattle.bucketed_records.specs.StandsFor.{live_of, shelf_of}
 use Rattle.bucketed_records.specs.Private.Store.{Stored}
 use Rattle.bucket_index.specs.Private.Blocks.{AreKnown, AreOthersKnown}
 use Rattle.bucket_index.specs.Private.Filling.{IsFilled}
+use Rattle.bucket_index.specs.Private.Heights.{AreBelow}
 use Rattle.bucket_index.specs.Private.Rooms.{AreCounted, tally}
+use Rattle.bucket_index.proofs.TallestShelves.{below-kept, below-some}
 use Rattle.bucket_index.specs.Private.Spans.{AreSpans, AreSpansExcept}
 use Rattle.bucket_index.proofs.FilledRows.{filled-changed}
 use Rattle.bucket_index.proofs.KnownBlocks.{AreSome, known-at, known-others}
@@ -78,6 +80,17 @@ invariant_of-self c =
     let inside = c.self.inside in
     let number = c.args.number in
     let width = width_of c.deref_mut.result.now (shelf_of c.deref_mut-2.result.now number) in
+    let shelf : c.shelf_number-shelf.result ≡ shelf_of inside.buckets.items number =
+    c.shelf_number-shelf.ensures ∙ ap (λ (bs : List LinkedBucket). shelf_of bs number) c.deref-3.ensures.value in
+    let lowers = returned_kept (nat_le (live_of inside.buckets.items number) 1) in
+    let shelves : (with_items inside.shelves c.return_item.new.shelves).items ≡ changed_by (Some c.shelf_number-shelf.result) lowers inside.shelves.items =
+    with_items_is inside.shelves c.return_item.new.shelves (omega (arith, c.return_item.auto.shelves, c.deref_mut.ensures.len))
+    ∙ c.return_item.ensures.shelves
+    ∙ ap (λ (bs : List LinkedBucket). changed_by (Some (shelf_of bs number)) (returned_kept (nat_le (live_of bs number) 1)) c.deref_mut.result.now) c.deref_mut-2.ensures.value
+    ∙ ap (λ (xs : List KeptShelf). changed_by (Some (shelf_of inside.buckets.items number)) lowers xs) c.deref_mut.ensures.value
+    ∙ ap (λ (n : ℕ). changed_by (Some n) lowers inside.shelves.items) (sym shelf) in
+    let below : AreBelow inside.heights (with_items inside.shelves c.return_item.new.shelves).items =
+    subst (AreBelow inside.heights) (sym shelves) (below-kept c.shelf_number-shelf.result lowers inside.heights inside.shelves.items (λ x. refl) c.self.invariant.4) in
     let within : number < length inside.buckets.items = subst (λ (stored : Stored). number < length stored.buckets) (sym c.self.view_is) c.requires.number in
     let one = is-there number inside.buckets.items within in
     let items : (with_items inside.buckets c.return_item.new.buckets).items ≡ c.return_item.new.buckets =
@@ -92,6 +105,7 @@ invariant_of-self c =
       subst (AreCounted c.follow_record.new.self) (sym (items ∙ returned))
           (followed number c.room_of-room.result (returned_record width) inside.buckets.items c.deref-6.result.now one.bucket inside.rooms c.follow_record.new.self (c.deref-6.ensures.value ∙ items ∙ returned) one.at
           (c.room_of-room.ensures one.bucket (ap (λ (bs : List LinkedBucket). slice_get bs number) c.deref-4.ensures.value ∙ one.at)) c.self.invariant.3 c.follow_record.ensures),
+      below,
     )
 
 pub follow_dropped-requires : goal.follow_dropped-requires
@@ -124,6 +138,17 @@ invariant_of-self-2 c =
     let inside = c.self.inside in
     let number = c.args.number in
     let width = width_of c.deref_mut.result.now (shelf_of c.deref_mut-2.result.now number) in
+    let shelf : c.shelf_number-shelf.result ≡ shelf_of inside.buckets.items number =
+    c.shelf_number-shelf.ensures ∙ ap (λ (bs : List LinkedBucket). shelf_of bs number) c.deref-3.ensures.value in
+    let lowers = returned_kept (nat_le (live_of inside.buckets.items number) 1) in
+    let shelves : (with_items inside.shelves c.return_item.new.shelves).items ≡ changed_by (Some c.shelf_number-shelf.result) lowers inside.shelves.items =
+    with_items_is inside.shelves c.return_item.new.shelves (omega (arith, c.return_item.auto.shelves, c.deref_mut.ensures.len))
+    ∙ c.return_item.ensures.shelves
+    ∙ ap (λ (bs : List LinkedBucket). changed_by (Some (shelf_of bs number)) (returned_kept (nat_le (live_of bs number) 1)) c.deref_mut.result.now) c.deref_mut-2.ensures.value
+    ∙ ap (λ (xs : List KeptShelf). changed_by (Some (shelf_of inside.buckets.items number)) lowers xs) c.deref_mut.ensures.value
+    ∙ ap (λ (n : ℕ). changed_by (Some n) lowers inside.shelves.items) (sym shelf) in
+    let below : AreBelow inside.heights (with_items inside.shelves c.return_item.new.shelves).items =
+    subst (AreBelow inside.heights) (sym shelves) (below-kept c.shelf_number-shelf.result lowers inside.heights inside.shelves.items (λ x. refl) c.self.invariant.4) in
     let within : number < length inside.buckets.items = subst (λ (stored : Stored). number < length stored.buckets) (sym c.self.view_is) c.requires.number in
     let one = is-there number inside.buckets.items within in
     let items : (with_items inside.buckets c.return_item.new.buckets).items ≡ c.return_item.new.buckets =
@@ -144,4 +169,7 @@ invariant_of-self-2 c =
           (λ slot. ap (λ (done : Dropping). tally slot done.stored.buckets) c.drop_idle_end-dropped.ensures.dropped
           ∙ dropped-kept slot (vec_len (with_items inside.shelves c.return_item.new.shelves)) (dropping_of (with_items inside.shelves c.return_item.new.shelves).items c.deref_mut-3.result.now inside.unused 0)
           ∙ ap (tally slot) c.deref_mut-3.ensures.value)),
+      below-some inside.heights (with_items inside.shelves c.return_item.new.shelves).items c.drop_idle_end-dropped.new.shelves.items
+          (subst (AreSome (with_items inside.shelves c.return_item.new.shelves).items) (sym (ap (λ (done : Dropping). done.stored.shelves) c.drop_idle_end-dropped.ensures.dropped))
+          (some-dropped (vec_len (with_items inside.shelves c.return_item.new.shelves)) (dropping_of (with_items inside.shelves c.return_item.new.shelves).items c.deref_mut-3.result.now inside.unused 0))) below,
     )

@@ -46,4 +46,5 @@ invariant_of-self c =
       subst (AreCounted c.follow_record.new.self) (sym (items ∙ taken))
           (followed bucket c.room_of-before.result change inside.buckets.items c.deref-3.result.now one inside.rooms c.follow_record.new.self (c.deref-3.ensures.value ∙ items ∙ taken) here
           (c.room_of-before.ensures one (ap (λ (bs : List LinkedBucket). slice_get bs bucket) c.deref.ensures.value ∙ here)) c.self.invariant.3 c.follow_record.ensures),
+      c.self.invariant.4,
     )

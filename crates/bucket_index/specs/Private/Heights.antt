@@ -1,0 +1,29 @@
+-- How tall neighbouring shelves are at most.
+pub use Rattle.std.specs.Prelude.{ℕ}
+use Rattle.std.specs.Prelude.{◌≡◌, ◌<◌, ◌≤◌, ◌/◌, max, Bool, false, Some, List, slice_get, nat_lt}
+use Rattle.std.specs.Option.{option_map_or}
+use Rattle.etagere_links.specs.Edits.{changed_by}
+use Rattle.bucketed_records.specs.declared.records.KeptShelf.{KeptShelf}
+use Rattle.bucket_index.specs.declared.heights.Heights.{Heights}
+
+-- no shelf is taller than what is known of its block, if something is
+abbrev pub AreBelow : Heights → List KeptShelf → Type 0
+AreBelow heights shelves =
+    (number : ℕ) (kept : KeptShelf) (most : ℕ) → slice_get shelves number ≡ Some kept
+    → slice_get heights.tallest (number / 16) ≡ Some most → kept.shelf.height ≤ most
+
+-- what is known with the shelf of a number that is so tall
+abbrev pub with_height : ℕ → ℕ → Heights → Heights
+with_height number height heights =
+    record { tallest = changed_by (Some (number / 16)) (max height) heights.tallest }
+
+-- all shelves of a block are lower than this
+abbrev pub is_low : ℕ → List ℕ → ℕ → Bool
+is_low across tallest block =
+    option_map_or (λ most. nat_lt most across) (slice_get tallest block) false
+
+-- each of the shelves from one number up to another is lower than this
+abbrev pub AreLow : ℕ → ℕ → ℕ → List KeptShelf → Type 0
+AreLow across from behind shelves =
+    (number : ℕ) (kept : KeptShelf) → from ≤ number → number < behind
+    → slice_get shelves number ≡ Some kept → kept.shelf.height < across
