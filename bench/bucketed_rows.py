@@ -62,6 +62,11 @@ def refused(_program):
     return full_shelves(), ["a 16 8"] * ROUNDS
 
 
+def merges(_program):
+    """4094 empty shelves before one in use, and items of which each has two of them merged."""
+    return full_shelves() + [f"r {position}" for position in range(BUCKETS - 1)], ["a 16 16"] * ROUNDS
+
+
 def merge_looked_for(_program):
     return full_shelves(), ["a 16 16"] * ROUNDS
 
@@ -75,6 +80,16 @@ def too_tall(_program):
     """4095 shelves with room, all taller than what is asked for, and small items that come and go."""
     filling = ["bucketed 16 65520 1 1 1 h"] + ["a 8 16"] * BUCKETS
     return filling, comes_and_goes(BUCKETS, "a 8 4")
+
+
+def cleared(_program):
+    """An atlas is cleared and gets an item."""
+    return ["bucketed 1024 64 1 1 1 h"], ["c", "a 757 17"] * ROUNDS
+
+
+def filled_anew(_program):
+    """An atlas is cleared and gets 16 items, of which each adds a shelf."""
+    return ["bucketed 1024 2048 1 1 1 h"], (["c"] + [f"a 600 {8 * (n % 4) + 1}" for n in range(16)]) * (ROUNDS // 16)
 
 
 def empty_shelves(_program):
@@ -108,9 +123,12 @@ ROWS = {
     "the same, a merge looked for": Row(merge_looked_for, 204872, before=67679, most=MOST),
     "4095 shelves with little room: a wider item is refused": Row(narrow_rooms, 311349, most=MOST),
     "4095 shelves that are too tall: the same item comes and goes": Row(too_tall, 16626, most=MOST),
-    # Counted likewise.
+    # Counted likewise, as the next ones.
     "3000 shelves that are too low: the same item comes and goes": Row(too_low, 10673, most=MOST),
     "4000 empty shelves: a narrower item comes and goes": Row(empty_shelves, 94132, before=88714, most=MOST),
+    "4094 empty shelves: each item has two of them merged": Row(merges, 154910, before=118894),
+    "an atlas is cleared and gets an item": Row(cleared, 167, before=1501),
+    "the same with 16 items that add a shelf each": Row(filled_anew, 438, before=772),
 }
 
 IN_THE_END = {

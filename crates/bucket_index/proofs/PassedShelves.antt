@@ -9,7 +9,6 @@ use Rattle.bucketed_records.specs.declared.records.LinkedBucket.{LinkedBucket}
 use Rattle.bucketed_records.specs.declared.records.KeptShelf.{KeptShelf}
 use Rattle.bucket_index.specs.declared.searching.Wanted.TheVariants.{Exact}
 use Rattle.bucket_index.specs.declared.searching.FoundBucket.{FoundBucket}
-use Rattle.bucket_index.specs.Private.Blocks.{AreNarrow}
 use Rattle.bucket_index.proofs.Searched.{best-keeps, better-same, search-skip}
 use Rattle.bucket_index.specs.Private.Searching.{exact_from, exact_in, found_in, kept_waste}
 
@@ -30,34 +29,35 @@ waste-none adds sides kept narrow =
     (nat_le sides.along kept.widest_room) (too-wide kept.widest_room sides.along narrow))
 
 -- a shelf that has too little room has no exact bucket
-exact-none : (sides : Sides) (buckets : List LinkedBucket) (number : ℕ) (kept : KeptShelf) → kept.widest_room < sides.along → exact_in sides buckets number kept ≡ None
+pub exact-none : (sides : Sides) (buckets : List LinkedBucket) (number : ℕ) (kept : KeptShelf) → kept.widest_room < sides.along → exact_in sides buckets number kept ≡ None
 exact-none sides buckets number kept narrow =
     ap (λ (t : Bool). cond t (found_in (Exact sides.along) buckets number kept) None)
     (second-fails (kept.shelf.height == sides.across) (nat_le sides.along kept.widest_room) (too-wide kept.widest_room sides.along narrow))
 
--- a search for an exact bucket goes on past a shelf that has too little room
-pub exact-past : (sides : Sides) (buckets : List LinkedBucket) (m n : ℕ) (xs : List KeptShelf) (kept : KeptShelf) → slice_get xs n ≡ Some kept → kept.widest_room < sides.along
+-- a search for an exact bucket goes on past a shelf that has none
+pub exact-past : (sides : Sides) (buckets : List LinkedBucket) (m n : ℕ) (xs : List KeptShelf) (kept : KeptShelf) → slice_get xs n ≡ Some kept → exact_in sides buckets m kept ≡ None
     → exact_from sides buckets m (drop n xs) ≡ exact_from sides buckets (suc m) (drop (suc n) xs)
-exact-past sides buckets m n [] kept at narrow = absurd (cc)
-exact-past sides buckets m zero (x ∷ xs) kept at narrow =
+exact-past sides buckets m n [] kept at none = absurd (cc)
+exact-past sides buckets m zero (x ∷ xs) kept at none =
     let same : x ≡ kept = cc in
-    ap (λ (o : Option FoundBucket). or_else o (exact_from sides buckets (suc m) xs)) (ap (exact_in sides buckets m) same ∙ exact-none sides buckets m kept narrow)
-exact-past sides buckets m (suc n) (x ∷ xs) kept at narrow = exact-past sides buckets m n xs kept at narrow
+    ap (λ (o : Option FoundBucket). or_else o (exact_from sides buckets (suc m) xs)) (ap (exact_in sides buckets m) same ∙ none)
+exact-past sides buckets m (suc n) (x ∷ xs) kept at none = exact-past sides buckets m n xs kept at none
 
--- the best so far is the best past shelves that have too little room
+-- the best so far is the best past shelves that count for nothing
 pub least-past : (adds : Bool) (sides : Sides) (shelves : List KeptShelf) (best : Option Found) (from behind : ℕ) → best ≡ first_least (map (kept_waste adds sides) (take from shelves)) → from ≤ behind
-    → AreNarrow sides.along from behind shelves → best ≡ first_least (map (kept_waste adds sides) (take behind shelves))
-least-past adds sides shelves best from behind is on narrow =
+    → ((number : ℕ) (kept : KeptShelf) → from ≤ number → number < behind → slice_get shelves number ≡ Some kept → kept_waste adds sides kept ≡ None) → best ≡ first_least (map (kept_waste adds sides) (take behind shelves))
+least-past adds sides shelves best from behind is on none =
     let end : from + (behind - from) ≡ behind = omega (arith, on) in
     sym (best-keeps (kept_waste adds sides) shelves best from (behind - from) (sym is)
     (λ k x low high at.
-    ap (λ (r : Option ℕ). better best (option_map (λ n. record { number = k; rank = n }) r)) (waste-none adds sides x (narrow k x low (omega (arith, high, end)) at)) ∙ better-same best))
+    ap (λ (r : Option ℕ). better best (option_map (λ n. record { number = k; rank = n }) r)) (none k x low (omega (arith, high, end)) at) ∙ better-same best))
     ∙ ap (λ (k : ℕ). first_least (map (kept_waste adds sides) (take k shelves))) end
 
--- a search for an exact bucket goes on past shelves that have too little room
-pub exact-behind : (sides : Sides) (buckets : List LinkedBucket) (shelves : List KeptShelf) (from behind : ℕ) → from ≤ behind → AreNarrow sides.along from behind shelves
+-- a search for an exact bucket goes on past shelves that have none
+pub exact-behind : (sides : Sides) (buckets : List LinkedBucket) (shelves : List KeptShelf) (from behind : ℕ) → from ≤ behind
+    → ((number : ℕ) (kept : KeptShelf) → from ≤ number → number < behind → slice_get shelves number ≡ Some kept → exact_in sides buckets number kept ≡ None)
     → exact_from sides buckets behind (drop behind shelves) ≡ exact_from sides buckets from (drop from shelves)
-exact-behind sides buckets shelves from behind on narrow =
+exact-behind sides buckets shelves from behind on none =
     let end : behind ≡ from + (behind - from) = omega (arith, on) in
     ap (λ (k : ℕ). exact_from sides buckets k (drop k shelves)) end
-    ∙ sym (search-skip (exact_from sides buckets) shelves from (behind - from) (λ m k. refl) (λ k x low high at. exact-past sides buckets k k shelves x at (narrow k x low (omega (arith, high, end)) at)))
+    ∙ sym (search-skip (exact_from sides buckets) shelves from (behind - from) (λ m k. refl) (λ k x low high at. exact-past sides buckets k k shelves x at (none k x low (omega (arith, high, end)) at)))

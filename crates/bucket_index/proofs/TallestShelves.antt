@@ -1,19 +1,21 @@
 -- How tall the shelves of a block are at most, and which are passed over as too low.
-use Rattle.std.proofs.Common.{◌≡◌, ℕ, zero, suc, ◌+◌, ◌<◌, ◌≤◌, Bool, true, false, cond, Option, None, Some, List, [], ◌∷◌, ◌++◌, ◌==◌, length, map, max, take, refl, ap, subst, sym, ◌∙◌, arith}
-use Rattle.std.proofs.lemmas.List.{length-append}
-use Rattle.std.proofs.lemmas.Bool.{eqb-true}
+use Rattle.std.proofs.Common.{◌≡◌, ℕ, zero, suc, ◌<◌, ◌≤◌, Bool, true, false, cond, Option, None, Some, List, [], ◌∷◌, ◌++◌, ◌==◌, get_or, length, max, take, refl, ap, subst, sym, ◌∙◌, arith}
+use Rattle.std.proofs.Math.Seq.{take-append_seam, take-suc}
+use Rattle.std.proofs.lemmas.List.{length-append, length-take-le}
+use Rattle.std.proofs.lemmas.Bool.{eqb-true, ltb-false, ltb-true}
 use Rattle.std.proofs.lemmas.Bool.Decides.{nat_tests}
 use Rattle.std.specs.Option.{option_map_or}
-use Rattle.std.specs.Prelude.{◌-◌, ◌/◌, ◌*◌, nat_le, nat_lt, not, ◌&&◌, option_map, slice_get}
+use Rattle.std.specs.Prelude.{◌-◌, nat_le, nat_lt, not, ◌&&◌, option_map, slice_get}
 use Rattle.etagere_base.specs.declared.sides.Sides.{Sides}
-use Rattle.etagere_base.specs.Least.{Found, better, first_least}
 use Rattle.etagere_links.specs.Edits.{changed_by}
-use Rattle.etagere_links.proofs.RecordChanges.{get-changed_by, get-changed_by-other, map-changed_by}
+use Rattle.etagere_links.proofs.RecordChanges.{get-changed_by, get-changed_by-other}
 use Rattle.bucketed_records.specs.declared.records.KeptShelf.{KeptShelf}
+use Rattle.bucketed_records.specs.declared.records.LinkedBucket.{LinkedBucket}
 use Rattle.bucket_index.specs.declared.heights.Heights.{Heights}
-use Rattle.bucket_index.specs.Private.Heights.{AreBelow, AreLow, is_low, with_height}
-use Rattle.bucket_index.specs.Private.Searching.{kept_waste}
-use Rattle.bucket_index.proofs.Searched.{best-keeps, better-same}
+use Rattle.bucket_index.specs.declared.searching.Wanted.TheVariants.{Exact}
+use Rattle.bucket_index.specs.Private.Heights.{AreAllBelow, AreBelow, AreBelowOf, AreLow, block_of, is_low, with_height}
+use Rattle.bucket_index.specs.Private.Searching.{exact_in, found_in, kept_waste}
+use Rattle.bucket_index.proofs.KnownBlocks.{read-changed}
 
 -- one number is not another
 apart : (k n : ℕ) → k ≡ n → (k == n) ≡ false → ⊥
@@ -57,76 +59,79 @@ low-block across block tallest height low below = by_found (slice_get tallest bl
         omega (arith, under, below most at)
 
 -- a shelf that is too low counts for nothing
-waste-low : (adds : Bool) (sides : Sides) (kept : KeptShelf) → kept.shelf.height < sides.across → kept_waste adds sides kept ≡ None
+pub waste-low : (adds : Bool) (sides : Sides) (kept : KeptShelf) → kept.shelf.height < sides.across → kept_waste adds sides kept ≡ None
 waste-low adds sides kept low =
     let fails : nat_le sides.across kept.shelf.height ≡ false = grind (arith, nat_tests) in
     ap (λ (t : Bool). cond ((t && (nat_le sides.along kept.shelf.bucket_width && not (adds && nat_lt sides.across (kept.shelf.height - sides.across)))) && nat_le sides.along kept.widest_room) (Some (kept.shelf.height - sides.across)) None) fails
 
--- the best so far is the best past shelves that are too low
-pub least-past-low : (adds : Bool) (sides : Sides) (shelves : List KeptShelf) (best : Option Found) (from behind : ℕ) → best ≡ first_least (map (kept_waste adds sides) (take from shelves)) → from ≤ behind
-    → AreLow sides.across from behind shelves → best ≡ first_least (map (kept_waste adds sides) (take behind shelves))
-least-past-low adds sides shelves best from behind is on low =
-    let end : from + (behind - from) ≡ behind = omega (arith, on) in
-    sym (best-keeps (kept_waste adds sides) shelves best from (behind - from) (sym is)
-    (λ k x at_least below at.
-    ap (λ (r : Option ℕ). better best (option_map (λ n. record { number = k; rank = n }) r)) (waste-low adds sides x (low k x at_least (omega (arith, below, end)) at)) ∙ better-same best))
-    ∙ ap (λ (k : ℕ). first_least (map (kept_waste adds sides) (take k shelves))) end
+-- a shelf that is too low has no exact bucket
+pub exact-low : (sides : Sides) (buckets : List LinkedBucket) (number : ℕ) (kept : KeptShelf) → kept.shelf.height < sides.across → exact_in sides buckets number kept ≡ None
+exact-low sides buckets number kept low =
+    let fails : (kept.shelf.height == sides.across) ≡ false = grind (arith, nat_tests) in
+    ap (λ (t : Bool). cond (t && nat_le sides.along kept.widest_room) (found_in (Exact sides.along) buckets number kept) None) fails
 
--- shelves of low blocks are too low
-pub low-shelves : (across from behind : ℕ) (heights : Heights) (shelves : List KeptShelf) → AreBelow heights shelves → ((block : ℕ) → from / 16 ≤ block → block * 16 < behind → is_low across heights.tallest block ≡ true) → AreLow across from behind shelves
-low-shelves across from behind heights shelves below blocks = λ n kept at_least under at.
-    low-block across (n / 16) heights.tallest kept.shelf.height (blocks (n / 16) (omega (arith, at_least)) (omega (arith, under))) (λ most known. below n kept most at known)
+-- shelves of a low block are too low, up to where it ends
+pub low-of : (size across number block : ℕ) (tallest : List ℕ) (shelves : List KeptShelf) (kept : KeptShelf) → AreBelowOf size tallest shelves → is_low across tallest block ≡ true → block_of size number ≡ block → slice_get shelves number ≡ Some kept
+    → kept.shelf.height < across
+low-of size across number block tallest shelves kept below low same at =
+    low-block across block tallest kept.shelf.height low (λ most known. below number kept most at (ap (slice_get tallest) same ∙ known))
 
--- the shelves up to a number are known with one more
-pub below-added : (number : ℕ) (one : KeptShelf) (heights : Heights) (shelves : List KeptShelf) → slice_get shelves number ≡ Some one
-    → ((n : ℕ) (kept : KeptShelf) (most : ℕ) → n < number → slice_get shelves n ≡ Some kept → slice_get heights.tallest (n / 16) ≡ Some most → kept.shelf.height ≤ most) → (n : ℕ) (kept : KeptShelf) (most : ℕ) → n < number + 1
-    → slice_get shelves n ≡ Some kept → slice_get (with_height number one.shelf.height heights).tallest (n / 16) ≡ Some most → kept.shelf.height ≤ most
-below-added number one heights shelves there known = λ n kept most below at is. by_number n kept most below at is (n == number) refl
+-- shelves up to one number, and those behind it, are too low
+pub low-both : (across from at behind : ℕ) (shelves : List KeptShelf) → AreLow across from at shelves → AreLow across at behind shelves → AreLow across from behind shelves
+low-both across from at behind shelves before after = λ number kept on under there. by_test number kept on under there (nat_lt number at) refl
   where
-    by_less : (n : ℕ) → n < number + 1 → (n == number) ≡ false → n < number
-    by_less n below e = grind (arith, below, e)
+    by_test : (number : ℕ) (kept : KeptShelf) → from ≤ number → number < behind → slice_get shelves number ≡ Some kept → (t : Bool) → nat_lt number at ≡ t → kept.shelf.height < across
+    by_test number kept on under there true e = before number kept on (ltb-true number at e) there
+    by_test number kept on under there false e = after number kept (ltb-false number at e) under there
 
-    by_number : (n : ℕ) (kept : KeptShelf) (most : ℕ) → n < number + 1 → slice_get shelves n ≡ Some kept → slice_get (with_height number one.shelf.height heights).tallest (n / 16) ≡ Some most → (t : Bool) → (n == number) ≡ t
-        → kept.shelf.height ≤ most
-    by_number n kept most below at is true e =
-        let same : n ≡ number = eqb-true n number e in
-        let both : Some kept ≡ Some one = sym at ∙ ap (slice_get shelves) same ∙ there in
-        let equal : kept ≡ one = cc in
-        omega (
-          arith,
-          ap (λ (k : KeptShelf). k.shelf.height) equal,
-          known-added (number / 16) one.shelf.height most heights.tallest (ap (λ (k : ℕ). slice_get (with_height number one.shelf.height heights).tallest (k / 16)) (sym same) ∙ is),
-        )
-    by_number n kept most below at is false e =
-        known-most (number / 16) (n / 16) one.shelf.height most heights.tallest is kept.shelf.height (λ before got. known n kept before (by_less n below e) at got)
-
--- what is read of a list that was mapped
-get-map : (f : KeptShelf → ℕ) (xs : List KeptShelf) (n : ℕ) → slice_get (map f xs) n ≡ option_map f (slice_get xs n)
-get-map f [] n = refl
-get-map f (x ∷ xs) zero = refl
-get-map f (x ∷ xs) (suc n) = get-map f xs n
-
--- shelves that are as tall are known
-pub below-map : (heights : Heights) (shelves others : List KeptShelf) → map (λ (k : KeptShelf). k.shelf.height) others ≡ map (λ (k : KeptShelf). k.shelf.height) shelves → AreBelow heights shelves → AreBelow heights others
-below-map heights shelves others same below = λ n kept most at known. by_found n kept most known (slice_get shelves n) refl (as_tall n kept at)
+-- what is known of a block once a shelf has another height, or is one more
+of-changed : (size n height : ℕ) (tallest : List ℕ) (shelves others : List KeptShelf) → ((number : ℕ) (kept : KeptShelf) → slice_get others number ≡ Some kept → (number == n) ≡ true → kept.shelf.height ≤ height)
+    → ((number : ℕ) (kept : KeptShelf) → slice_get others number ≡ Some kept → (number == n) ≡ false → slice_get shelves number ≡ Some kept) → AreBelowOf size tallest shelves
+    → AreBelowOf size (changed_by (Some (block_of size n)) (max height) tallest) others
+of-changed size n height tallest shelves others one rest below = λ number kept most at is. by_number number kept most at is (number == n) refl
   where
-    as_tall : (n : ℕ) (kept : KeptShelf) → slice_get others n ≡ Some kept → option_map (λ (k : KeptShelf). k.shelf.height) (slice_get shelves n) ≡ Some kept.shelf.height
-    as_tall n kept at =
-        sym (get-map (λ (k : KeptShelf). k.shelf.height) shelves n) ∙ ap (λ (hs : List ℕ). slice_get hs n) (sym same) ∙ get-map (λ (k : KeptShelf). k.shelf.height) others n ∙ ap (option_map (λ (k : KeptShelf). k.shelf.height)) at
+    by_number : (number : ℕ) (kept : KeptShelf) (most : ℕ) → slice_get others number ≡ Some kept → slice_get (changed_by (Some (block_of size n)) (max height) tallest) (block_of size number) ≡ Some most → (t : Bool) → (number == n) ≡ t → kept.shelf.height ≤ most
+    by_number number kept most at is true e =
+        let same : block_of size number ≡ block_of size n = ap (block_of size) (eqb-true number n e) in
+        let added = known-added (block_of size n) height most tallest (ap (slice_get (changed_by (Some (block_of size n)) (max height) tallest)) (sym same) ∙ is) in
+        omega (arith, one number kept at e, added)
+    by_number number kept most at is false e = known-most (block_of size n) (block_of size number) height most tallest is kept.shelf.height (λ before got. below number kept before (rest number kept at e) got)
 
-    by_found : (n : ℕ) (kept : KeptShelf) (most : ℕ) → slice_get heights.tallest (n / 16) ≡ Some most → (o : Option KeptShelf) → slice_get shelves n ≡ o → option_map (λ (k : KeptShelf). k.shelf.height) o ≡ Some kept.shelf.height → kept.shelf.height ≤ most
-    by_found n kept most known None at is = absurd (cc)
-    by_found n kept most known (Some old) at is =
-        let equal : old.shelf.height ≡ kept.shelf.height = cc in
-        omega (arith, equal, below n old most at known)
+pub all-changed : (n height : ℕ) (heights : Heights) (shelves others : List KeptShelf) → ((number : ℕ) (kept : KeptShelf) → slice_get others number ≡ Some kept → (number == n) ≡ true → kept.shelf.height ≤ height)
+    → ((number : ℕ) (kept : KeptShelf) → slice_get others number ≡ Some kept → (number == n) ≡ false → slice_get shelves number ≡ Some kept) → AreAllBelow heights shelves → AreAllBelow (with_height n height heights) others
+all-changed n height heights shelves others one rest below = record {
+  small = of-changed 16 n height heights.small shelves others one rest below.small;
+  large = of-changed 256 n height heights.large shelves others one rest below.large;
+}
 
--- a shelf that changed is as tall
-pub below-kept : (s : ℕ) (change : KeptShelf → KeptShelf) (heights : Heights) (shelves : List KeptShelf) → ((x : KeptShelf) → (change x).shelf.height ≡ x.shelf.height) → AreBelow heights shelves → AreBelow heights (changed_by (Some s) change shelves)
-below-kept s change heights shelves keeps below = below-map heights shelves (changed_by (Some s) change shelves) (map-changed_by (λ (k : KeptShelf). k.shelf.height) change shelves (Some s) keeps) below
+-- a shelf that changed is known by the height that it has at most
+pub below-changed : (n height : ℕ) (change : KeptShelf → KeptShelf) (heights : Heights) (shelves : List KeptShelf) → ((x : KeptShelf) → (change x).shelf.height ≤ height) → AreBelow heights shelves
+    → AreBelow (with_height n height heights) (changed_by (Some n) change shelves)
+below-changed n height change heights shelves at_most below = λ known. all-changed n height heights shelves (changed_by (Some n) change shelves) here beside (below known)
+  where
+    here : (number : ℕ) (kept : KeptShelf) → slice_get (changed_by (Some n) change shelves) number ≡ Some kept → (number == n) ≡ true → kept.shelf.height ≤ height
+    here number kept at e =
+        read-changed change shelves n number kept at (λ old _ _ is. omega (arith, ap (λ (k : KeptShelf). k.shelf.height) is, at_most old)) (λ apart _. absurd (apart (eqb-true number n e)))
+
+    beside : (number : ℕ) (kept : KeptShelf) → slice_get (changed_by (Some n) change shelves) number ≡ Some kept → (number == n) ≡ false → slice_get shelves number ≡ Some kept
+    beside number kept at e = read-changed change shelves n number kept at (λ _ _ same _. absurd (apart number n same e)) (λ _ there. there)
+
+-- shelves are known that are no taller than those that stood there
+pub below-under : (heights : Heights) (shelves others : List KeptShelf) → ((P : Type 0) (number : ℕ) (kept : KeptShelf) → slice_get others number ≡ Some kept → ((old : KeptShelf) → slice_get shelves number ≡ Some old → kept.shelf.height ≤ old.shelf.height → P) → P) → AreBelow heights shelves
+    → AreBelow heights others
+below-under heights shelves others under below = λ known. record {
+  small = λ number kept most at is. under (kept.shelf.height ≤ most) number kept at (λ old there low. omega (arith, low, (below known).small number old most there is));
+  large = λ number kept most at is. under (kept.shelf.height ≤ most) number kept at (λ old there low. omega (arith, low, (below known).large number old most there is));
+}
+
+-- a shelf that changed is no taller
+pub below-kept : (s : ℕ) (change : KeptShelf → KeptShelf) (heights : Heights) (shelves : List KeptShelf) → ((x : KeptShelf) → (change x).shelf.height ≤ x.shelf.height) → AreBelow heights shelves → AreBelow heights (changed_by (Some s) change shelves)
+below-kept s change heights shelves keeps = below-under heights shelves (changed_by (Some s) change shelves)
+    (λ P number kept at found. read-changed change shelves s number kept at (λ old there same is. found old (ap (slice_get shelves) same ∙ there) (omega (arith, ap (λ (k : KeptShelf). k.shelf.height) is, keeps old))) (λ _ there. found kept there (omega arith)))
 
 -- some of the shelves are known
 pub below-some : (heights : Heights) (shelves left : List KeptShelf) → ((n : ℕ) (kept : KeptShelf) → slice_get left n ≡ Some kept → slice_get shelves n ≡ Some kept) → AreBelow heights shelves → AreBelow heights left
-below-some heights shelves left some below = λ n kept most at known. below n kept most (some n kept at) known
+below-some heights shelves left some = below-under heights shelves left (λ P number kept at found. found kept (some number kept at) (omega arith))
 
 -- the last shelf, and those before it
 at-last : (xs : List KeptShelf) (one kept : KeptShelf) → slice_get (xs ++ one ∷ []) (length xs) ≡ Some kept → kept ≡ one
@@ -139,24 +144,23 @@ before-last [] one (suc n) kept is e = absurd (cc)
 before-last (x ∷ xs) one zero kept is e = is
 before-last (x ∷ xs) one (suc n) kept is e = before-last xs one n kept is (grind (arith, e))
 
-last-below : (heights : Heights) (xs : List KeptShelf) (one : KeptShelf) (number : ℕ) → number ≡ length xs → AreBelow heights xs → AreBelow (with_height number one.shelf.height heights) (xs ++ one ∷ [])
-last-below heights xs one number last below = λ n kept most at is. by_number n kept most at is (n == length xs) refl
-  where
-    by_number : (n : ℕ) (kept : KeptShelf) (most : ℕ) → slice_get (xs ++ one ∷ []) n ≡ Some kept → slice_get (with_height number one.shelf.height heights).tallest (n / 16) ≡ Some most → (t : Bool) → (n == length xs) ≡ t → kept.shelf.height ≤ most
-    by_number n kept most at is true e =
-        let same : n ≡ length xs = eqb-true n (length xs) e in
-        let equal : kept ≡ one = at-last xs one kept (ap (slice_get (xs ++ one ∷ [])) (sym same) ∙ at) in
-        omega (
-          arith,
-          ap (λ (k : KeptShelf). k.shelf.height) equal,
-          known-added (number / 16) one.shelf.height most heights.tallest (ap (λ (k : ℕ). slice_get (with_height number one.shelf.height heights).tallest (k / 16)) (last ∙ sym same) ∙ is),
-        )
-    by_number n kept most at is false e =
-        known-most (number / 16) (n / 16) one.shelf.height most heights.tallest is kept.shelf.height (λ before got. below n kept before (before-last xs one n kept at e) got)
+last-below : (heights : Heights) (xs : List KeptShelf) (one : KeptShelf) → AreAllBelow heights xs → AreAllBelow (with_height (length xs) one.shelf.height heights) (xs ++ one ∷ [])
+last-below heights xs one = all-changed (length xs) one.shelf.height heights xs (xs ++ one ∷ [])
+    (λ number kept at e. let same = at-last xs one kept (ap (slice_get (xs ++ one ∷ [])) (sym (eqb-true number (length xs) e)) ∙ at) in omega (arith, ap (λ (k : KeptShelf). k.shelf.height) same))
+    (before-last xs one)
 
--- one more shelf is known
-pub below-last : (heights : Heights) (xs items : List KeptShelf) (one : KeptShelf) (number : ℕ) (t : Bool) → t ≡ true → items ≡ cond t (xs ++ one ∷ []) xs → number ≡ length items - 1 → AreBelow heights xs → AreBelow (with_height number one.shelf.height heights) items
-below-last heights xs items one number t is items_are last below =
+-- the first shelves are known with one more
+pub below-next : (heights : Heights) (shelves : List KeptShelf) (number : ℕ) (one : KeptShelf) → number < length shelves → one ≡ get_or shelves number one → AreAllBelow heights (take number shelves) → AreAllBelow (with_height number one.shelf.height heights) (take (suc number) shelves)
+below-next heights shelves number one within here below =
+    let all : take (suc number) shelves ≡ take number shelves ++ one ∷ [] = take-suc shelves number one within ∙ ap (λ (k : KeptShelf). take number shelves ++ k ∷ []) (sym here) in
+    let same : length (take number shelves) ≡ number = length-take-le number shelves (omega (arith, within)) in
+    subst (AreAllBelow (with_height number one.shelf.height heights)) (sym all)
+    (subst (λ (k : ℕ). AreAllBelow (with_height k one.shelf.height heights) (take number shelves ++ one ∷ [])) same (last-below heights (take number shelves) one below))
+
+-- the shelves that stood there before the last one was added are known
+pub below-before : (heights : Heights) (xs items : List KeptShelf) (one : KeptShelf) (t : Bool) → t ≡ true → items ≡ cond t (xs ++ one ∷ []) xs → AreBelow heights xs → AreBelow heights (take (length items - 1) items)
+below-before heights xs items one t is items_are below =
     let all : items ≡ xs ++ one ∷ [] = items_are ∙ ap (λ (b : Bool). cond b (xs ++ one ∷ []) xs) is in
-    subst (AreBelow (with_height number one.shelf.height heights)) (sym all)
-    (last-below heights xs one number (omega (arith, last, ap length all, length-append xs (one ∷ []))) below)
+    let same : length items - 1 ≡ length xs = omega (arith, ap length all, length-append xs (one ∷ [])) in
+    let rest : take (length items - 1) items ≡ xs = ap (λ (k : ℕ). take k items) same ∙ ap (take (length xs)) all ∙ take-append_seam xs (one ∷ []) in
+    subst (AreBelow heights) (sym rest) below

@@ -17,6 +17,9 @@ pub const SHELVES_OF_BLOCK: usize = 8;
 /// How many blocks stand in one of the next size.
 const PARTS_OF_BLOCK: usize = 8;
 
+/// How many small blocks are searched at most before it is asked again what is known of others.
+const BLOCKS_AT_ONCE: usize = 4;
+
 /// How many shelves stand in a middle block.
 const SHELVES_OF_MIDDLE: usize = 64;
 
@@ -111,11 +114,19 @@ fn stays_known(room: u16, kept: &KeptShelf) -> bool
 }
 
 /// Whether a shelf is to be known just as the one that it was before: it has the same room, and both hold something live.
-fn stays_equal(before: &KeptShelf, kept: &KeptShelf) -> bool
-    ensures { IsTrue result → (kept.now.widest_room ≤ before.now.widest_room)
+fn stays_equal(before: Block, kept: &KeptShelf) -> bool
+    ensures { IsTrue result → (kept.now.widest_room ≤ before.widest_room)
         × (is_kept_idle kept.now ≡ false) }
 {
-    kept.widest_room == before.widest_room && !before.is_idle() && !kept.is_idle()
+    kept.widest_room == before.widest_room && !before.has_idle && !kept.is_idle()
+}
+
+/// What is known of a shelf alone.
+#[inline(always)]
+pub fn known_of(kept: &KeptShelf) -> Block
+    ensures { result ≡ spec.with_shelf kept.now spec.no_shelves }
+{
+    with_shelf(NO_SHELVES, kept)
 }
 
 /// What is known of two blocks together.
@@ -205,8 +216,18 @@ fn set_block(blocks: &mut [Block], number: usize, fresh: Block)
     }
 }
 
+/// Knows nothing of the blocks up to the one of a number.
+fn forget_first(blocks: &mut [Block], last: usize) {
+    for number in 0..blocks.len() {
+        if last < number {
+            break;
+        }
+        set_block(blocks, number, NO_SHELVES);
+    }
+}
+
 /// The number of the first shelf behind the block of this size in which one stands.
-fn end_of(size: usize, shelf: usize) -> usize
+pub(crate) fn end_of(size: usize, shelf: usize) -> usize
     requires size { (0 < size) × (size ≤ 512) }
     requires shelf { shelf < 2 ^ 62 }
     ensures { result ≡ spec.end_of size shelf }
@@ -265,6 +286,19 @@ impl Blocks {
         known
     }
 
+    /// Knows nothing of shelves any more, of which so many were there.
+    pub fn forget(&mut self, count: usize)
+        ensures { spec.AreKnown self.new [] }
+    {
+        if self.are_counted {
+            forget_first(&mut self.small, count / SHELVES_OF_BLOCK);
+            forget_first(&mut self.middle, count / SHELVES_OF_MIDDLE);
+            forget_first(&mut self.large, count / SHELVES_OF_LARGE);
+        }
+        self.are_counted = false;
+        self.in_steps = true;
+    }
+
     /// Knows how tall a shelf is that is to be added.
     pub fn expect(&mut self, height: u16)
         ensures { self.new ≡ spec.expecting height self.old }
@@ -298,6 +332,26 @@ impl Blocks {
         } else {
             end_of(SHELVES_OF_LARGE, from)
         }
+    }
+
+    /// Where a search of the shelves from one on stops to ask what is known of others: behind as many as a small block has,
+    /// or, where it went on in vain, behind a few of these, unless one has no room for this width.
+    #[inline(always)]
+    pub(crate) fn behind_wide(&self, from: usize, width: u32, in_vain: bool) -> usize
+        requires { from < 2 ^ 62 }
+        ensures on { from < result }
+        ensures small { result ≤ from + 64 }
+    {
+        if !in_vain {
+            return from + SHELVES_OF_BLOCK;
+        }
+        let first = from / SHELVES_OF_BLOCK;
+        for number in first + 1..first + BLOCKS_AT_ONCE {
+            if !may_give(&self.small, number, width) {
+                return number * SHELVES_OF_BLOCK;
+            }
+        }
+        (first + BLOCKS_AT_ONCE) * SHELVES_OF_BLOCK
     }
 
     /// Where a search for a shelf that holds nothing live goes on that has come to the shelf of a number: at that one,
@@ -369,7 +423,7 @@ impl Blocks {
         ensures { self.new ≡ spec.with_own kept.now self.old }
     {
         self.is_late = false;
-        self.others.own = with_shelf(NO_SHELVES, kept);
+        self.others.own = known_of(kept);
     }
 
     /// Whether the blocks of the shelf of a number, which has this room now, are known by the others.
@@ -477,12 +531,13 @@ impl Blocks {
             || own.has_idle && !kept.is_idle() && !rest.has_idle
     }
 
-    /// Knows the shelf of a number, which was this one before. Its blocks are looked at where more is to be known of it
+    /// Knows the shelf of a number, of which this was known before. Its blocks are looked at where more is to be known of it
     /// now, or less may be. Those of the shelf that was raised last are left as they are while they know enough of it.
     #[inline(always)]
-    pub fn follow(&mut self, shelves: &[KeptShelf], number: usize, before: &KeptShelf)
+    pub fn follow(&mut self, shelves: &[KeptShelf], number: usize, before: Block)
         requires within { number < length shelves.now }
-        requires before { self.old.are_counted ≡ true → spec.IsFollowed number before.now self.old }
+        requires before { self.old.are_counted ≡ true
+            → spec.IsFollowedUpTo number before.widest_room self.old }
         requires others { spec.AreOthersKnown number self.old shelves.now }
         ensures { spec.AreKnown self.new shelves.now }
     {
@@ -500,13 +555,13 @@ impl Blocks {
         }
     }
 
-    /// Knows the shelf of a number, which was this one before, and may be known by more or by less now. It is seldom
+    /// Knows the shelf of a number, of which this was known before, and more or less may be now. It is seldom
     /// called, so that those who follow a shelf needn't keep what it uses.
     #[inline(never)]
-    fn follow_change(&mut self, shelves: &[KeptShelf], number: usize, before: &KeptShelf)
+    fn follow_change(&mut self, shelves: &[KeptShelf], number: usize, before: Block)
         requires counted { self.old.are_counted ≡ true }
         requires within { number < length shelves.now }
-        requires before { spec.IsFollowed number before.now self.old }
+        requires before { spec.IsFollowedUpTo number before.widest_room self.old }
         requires others { spec.AreOthersKnown number self.old shelves.now }
         ensures { spec.AreKnown self.new shelves.now }
     {
@@ -519,10 +574,10 @@ impl Blocks {
 
     /// The same where the shelf that was raised last is yet to be lowered, which may be this one.
     #[inline(never)]
-    fn follow_late(&mut self, shelves: &[KeptShelf], number: usize, before: &KeptShelf)
+    fn follow_late(&mut self, shelves: &[KeptShelf], number: usize, before: Block)
         requires counted { self.old.are_counted ≡ true }
         requires within { number < length shelves.now }
-        requires before { spec.IsFollowed number before.now self.old }
+        requires before { spec.IsFollowedUpTo number before.widest_room self.old }
         requires others { spec.AreOthersKnown number self.old shelves.now }
         ensures { spec.AreKnown self.new shelves.now }
     {
@@ -536,10 +591,10 @@ impl Blocks {
 
     /// The same where no other shelf is yet to be lowered.
     #[inline(always)]
-    fn follow_alone(&mut self, shelves: &[KeptShelf], number: usize, before: &KeptShelf)
+    fn follow_alone(&mut self, shelves: &[KeptShelf], number: usize, before: Block)
         requires counted { self.old.are_counted ≡ true }
         requires within { number < length shelves.now }
-        requires before { spec.IsFollowed number before.now self.old }
+        requires before { spec.IsFollowedUpTo number before.widest_room self.old }
         requires others { spec.AreOthersKnown number self.old shelves.now }
         ensures { spec.AreKnown self.new shelves.now }
     {
@@ -548,7 +603,7 @@ impl Blocks {
         let wider = u32::from(room) + 1;
         let narrows = kept.widest_room < room
             && !may_give(&self.small, number / SHELVES_OF_BLOCK, wider);
-        if narrows || before.is_idle() && !kept.is_idle() {
+        if narrows || before.has_idle && !kept.is_idle() {
             self.lower(shelves, number);
         } else if !stays_known(room, kept) {
             self.raise_beside(shelves, number, room);

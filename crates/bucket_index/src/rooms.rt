@@ -123,20 +123,18 @@ impl Rooms {
         requires { spec.AreCounted self.old buckets.now }
         ensures { spec.AreCounted self.new buckets.now }
     {
-        if u32::from(room) != width && shelves > 1 {
+        let are_many = buckets.len() > FEW_RECORDS && shelves > 1;
+        if u32::from(room) != width && are_many && !self.are_counted {
             self.count(buckets);
         }
     }
 
-    /// Counts all of these records, unless they are few or counted.
+    /// Counts all of these records.
     #[inline(never)]
     fn count(&mut self, buckets: &[LinkedBucket])
-        requires { spec.AreCounted self.old buckets.now }
         ensures { spec.AreCounted self.new buckets.now }
     {
-        if !self.are_counted && buckets.len() > FEW_RECORDS {
-            *self = Rooms::of(buckets);
-        }
+        *self = Rooms::of(buckets);
     }
 
     /// Whether a record may give just this width.

@@ -14,7 +14,7 @@ ghost use Rattle.bucket_index.specs.Private.Rooms.{AreCounted};
 ghost use Rattle.bucket_index.specs.Private.Searching as spec;
 ghost use Rattle.bucket_index.specs.Private.Spans.{AreSpans};
 
-use crate::blocks::{Blocks, SHELVES_OF_BLOCK};
+use crate::blocks::Blocks;
 use crate::heights::Heights;
 use crate::rooms::Rooms;
 use crate::spans::Spans;
@@ -95,7 +95,7 @@ pub fn first_wanted(
     ensures number { result ≡ spec.first_from most_buckets wanted buckets.now first }
     ensures within { IfSome result (λ number. number < length buckets.now) }
 {
-    if spans.knows(first) {
+    if spans.are_learned && spans.knows(first) {
         return first_by_spans(wanted, buckets, spans, first);
     }
     first_by_links(wanted, buckets, first)
@@ -178,30 +178,10 @@ pub fn widest_room(buckets: &[LinkedBucket], spans: &Spans, first: Link, most: u
     requires most { spec.widest_from most_buckets buckets.now first ≤ most }
     ensures { result ≡ spec.widest_from most_buckets buckets.now first }
 {
-    if let Some(room) = room_of_only(buckets, first) {
-        return room;
-    }
     if spans.knows(first) {
         return widest_by_spans(buckets, spans, first, most);
     }
     widest_by_links(buckets, first, most)
-}
-
-/// The width that a bucket can give to one item, where the links from this one on lead to no other.
-fn room_of_only(buckets: &[LinkedBucket], first: Link) -> Option<u16>
-    ensures { IfSome result (λ room. room ≡ spec.widest_from most_buckets buckets.now first) }
-{
-    let Some(number) = first.number() else {
-        return None;
-    };
-    if number >= buckets.len() {
-        return None;
-    }
-    let bucket = &buckets[number];
-    match bucket.next.number() {
-        Some(_) => None,
-        None => Some(record_room(bucket)),
-    }
 }
 
 /// The same, link by link.
@@ -334,7 +314,7 @@ fn least_waste(
     least_in(adds, sides, shelves, blocks.step(), 0, shelves.len(), None)
 }
 
-/// The same, where blocks in which none has room, or all are too low, are passed over.
+/// The same, where blocks in which none has room are passed over, and behind one that was searched those that are too low.
 fn least_by_blocks(
     adds: bool,
     sides: &Sides,
@@ -350,23 +330,20 @@ fn least_by_blocks(
 {
     let step = blocks.step();
     let mut best = None;
+    let mut in_vain = false;
     let mut from = 0;
     while from < shelves.len() {
         let behind = blocks.behind_narrow(from, sides.along);
         if from < behind {
             from = behind;
         } else {
-            let low = heights.behind_low(from, sides.across, shelves.len());
-            if from < low {
-                from = low;
-            } else {
-                let end = from + SHELVES_OF_BLOCK;
-                best = least_in(adds, sides, shelves, step, from, end, best);
-                from = end;
-                if is_least(step, &best) {
-                    break;
-                }
+            let end = blocks.behind_wide(from, sides.along, in_vain);
+            best = least_in(adds, sides, shelves, step, from, end, best);
+            if is_least(step, &best) {
+                break;
             }
+            in_vain = true;
+            from = heights.behind_low(end, sides.across, shelves.len());
         }
     }
     best
@@ -425,38 +402,43 @@ fn exact_from(
     blocks: &Blocks,
     spans: &Spans,
     rooms: &Rooms,
+    heights: &Heights,
     from: usize,
 ) -> Option<FoundBucket>
     requires from { from ≤ length shelves.now }
     requires known { AreKnown blocks.now shelves.now }
     requires spans { AreSpans spans.now buckets.now }
     requires rooms { AreCounted rooms.now buckets.now }
+    requires below { AreBelow heights.now shelves.now }
     ensures { result ≡ spec.exact_from sides.now buckets.now from (drop from shelves.now) }
 {
     if !rooms.may_give(sides.along) {
         return None;
     }
     if blocks.are_counted {
-        return exact_by_blocks(sides, shelves, buckets, blocks, spans, from);
+        return exact_by_blocks(sides, shelves, buckets, blocks, spans, heights, from);
     }
     exact_between(sides, shelves, buckets, spans, from, shelves.len())
 }
 
-/// The same, where blocks in which none has room are passed over.
+/// The same, where blocks in which none has room are passed over, and behind one that was searched those that are too low.
 fn exact_by_blocks(
     sides: &Sides,
     shelves: &[KeptShelf],
     buckets: &[LinkedBucket],
     blocks: &Blocks,
     spans: &Spans,
+    heights: &Heights,
     from: usize,
 ) -> Option<FoundBucket>
     requires counted { blocks.now.are_counted ≡ true }
     requires from { from ≤ length shelves.now }
     requires known { AreKnown blocks.now shelves.now }
     requires spans { AreSpans spans.now buckets.now }
+    requires below { AreBelow heights.now shelves.now }
     ensures { result ≡ spec.exact_from sides.now buckets.now from (drop from shelves.now) }
 {
+    let mut in_vain = false;
     let mut at = from;
     for _block in from..shelves.len() {
         if at >= shelves.len() {
@@ -466,12 +448,13 @@ fn exact_by_blocks(
         if at < behind {
             at = behind;
         } else {
-            let end = at + SHELVES_OF_BLOCK;
+            let end = blocks.behind_wide(at, sides.along, in_vain);
             let found = exact_between(sides, shelves, buckets, spans, at, end);
             if found.is_some() {
                 return found;
             }
-            at = end;
+            in_vain = true;
+            at = heights.behind_low(end, sides.across, shelves.len());
         }
     }
     None
@@ -535,12 +518,14 @@ fn exact_or_found(
     blocks: &Blocks,
     spans: &Spans,
     rooms: &Rooms,
+    heights: &Heights,
     least: FoundShelf,
     bucket: usize,
 ) -> FoundBucket
     requires known { AreKnown blocks.now shelves.now }
     requires spans { AreSpans spans.now buckets.now }
     requires rooms { AreCounted rooms.now buckets.now }
+    requires below { AreBelow heights.now shelves.now }
     requires shelf { least.number < length shelves.now }
     requires bucket { bucket < length buckets.now }
     ensures { result ≡ spec.exact_or_found sides.now shelves.now buckets.now least bucket }
@@ -559,6 +544,7 @@ fn exact_or_found(
         blocks,
         spans,
         rooms,
+        heights,
         least.number + 1,
     )
     .unwrap_or(found)
@@ -585,5 +571,7 @@ pub fn pick(
     let wanted = Wanted::Roomy(sides.along);
     let first = shelves[least.number].shelf.first_bucket;
     let bucket = first_wanted(wanted, buckets, spans, first)?;
-    Some(exact_or_found(sides, shelves, buckets, blocks, spans, rooms, least, bucket))
+    Some(exact_or_found(
+        sides, shelves, buckets, blocks, spans, rooms, heights, least, bucket,
+    ))
 }

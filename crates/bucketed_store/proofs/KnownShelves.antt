@@ -1,4 +1,4 @@
--- What blocks know of the shelves that are left when some were dropped or merged.
+-- What blocks know of the shelves that are left when some were dropped or merged, and how tall those are at most.
 use Rattle.std.proofs.Common.{◌≡◌, ℕ, zero, suc, ◌+◌, ◌-◌, Bool, true, false, Option, None, Some, List, [], ◌∷◌, length, map, take, drop, cond, refl, arith, ◌∙◌, ◌==◌}
 use Rattle.std.specs.Option.{option_map_or}
 use Rattle.std.specs.Prelude.{slice_get, ◌%◌}
@@ -8,8 +8,11 @@ use Rattle.bucketed_model.specs.Merging.{Group}
 use Rattle.bucketed_records.specs.declared.records.KeptShelf.{KeptShelf}
 use Rattle.bucketed_records.specs.Private.Store.{last_kept}
 use Rattle.bucket_index.specs.declared.blocks.Blocks.{Blocks}
+use Rattle.bucket_index.specs.declared.heights.Heights.{Heights}
 use Rattle.bucket_index.specs.Private.Blocks.{AreInSteps, AreKnown, AreOthersKnown}
+use Rattle.bucket_index.specs.Private.Heights.{AreBelow, with_height}
 use Rattle.bucket_index.proofs.KnownBlocks.{AreSome, carry-counted, known-same, known_of, some-taken, steps-changed}
+use Rattle.bucket_index.proofs.TallestShelves.{below-changed, below-kept}
 use Rattle.bucketed_store.specs.Private.Placing.{kept_height}
 use Rattle.bucketed_store.specs.Private.Returns.{Dropping, end_dropped, last_dropped}
 use Rattle.bucketed_store.specs.Private.StoreEdits.{across_of, flattened, group_height, kept_merged, to_height}
@@ -103,4 +106,30 @@ known-merged group blocks shelves known = known-same blocks shelves (kept_merged
 
     by_test : (t : Bool) → map known_of (cond t (changed_by (Some (group.first + 2)) (flattened across) next) next) ≡ map known_of shelves
     by_test true = map-changed_by known_of (flattened across) next (Some (group.first + 2)) (λ x. refl) ∙ two
+    by_test false = two
+
+-- merged shelves are known by the height that the first of them gets
+pub below-merged : (group : Group) (heights : Heights) (shelves : List KeptShelf) → AreBelow heights shelves → AreBelow (with_height group.first (group_height group shelves) heights) (kept_merged group shelves)
+below-merged group heights shelves below = by_test (group.others == 2)
+  where
+    height : ℕ
+    height = group_height group shelves
+
+    across : ℕ
+    across = across_of shelves group.first + height
+
+    known : Heights
+    known = with_height group.first height heights
+
+    risen : List KeptShelf
+    risen = changed_by (Some group.first) (to_height height) shelves
+
+    next : List KeptShelf
+    next = changed_by (Some (group.first + 1)) (flattened across) risen
+
+    two : AreBelow known next
+    two = below-kept (group.first + 1) (flattened across) known risen (λ x. omega arith) (below-changed group.first height (to_height height) heights shelves (λ x. omega arith) below)
+
+    by_test : (t : Bool) → AreBelow known (cond t (changed_by (Some (group.first + 2)) (flattened across) next) next)
+    by_test true = below-kept (group.first + 2) (flattened across) known next (λ x. omega arith) two
     by_test false = two

@@ -132,10 +132,11 @@ fn group_height(shelves: &[KeptShelf], group: &Group) -> u16
     total_height(&shelves[group.first..end]) as u16
 }
 
-/// Gives a shelf the height of those merged into it, which stay with none behind it.
-pub(crate) fn merge(shelves: &mut [KeptShelf], group: &Group)
+/// Gives a shelf the height of those merged into it, which stay with none behind it, and answers that height.
+pub(crate) fn merge(shelves: &mut [KeptShelf], group: &Group) -> u16
     requires group { edits.IsGroupIn group.now shelves.old }
-    ensures { shelves.new ≡ edits.kept_merged group.now shelves.old }
+    ensures shelves { shelves.new ≡ edits.kept_merged group.now shelves.old }
+    ensures height { result ≡ edits.group_height group.now shelves.old }
 {
     let height = group_height(shelves, group);
     let across = shelves[group.first].shelf.y + height;
@@ -144,6 +145,7 @@ pub(crate) fn merge(shelves: &mut [KeptShelf], group: &Group)
     if group.others == 2 {
         flatten(shelves, group.first + 2, across);
     }
+    height
 }
 
 fn set_height(shelves: &mut [KeptShelf], number: usize, height: u16)

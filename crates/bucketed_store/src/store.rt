@@ -29,7 +29,7 @@ use crate::making::{NewBuckets, make_buckets, reserve_records};
 use crate::merging::{Group, merge};
 use crate::placing::Placement;
 use crate::returning::{is_known, return_item, returned_area, shelf_number};
-use bucket_index::blocks::Blocks;
+use bucket_index::blocks::{Blocks, known_of};
 use bucket_index::filling::Filled;
 use bucket_index::heights::Heights;
 use bucket_index::rooms::Rooms;
@@ -154,14 +154,14 @@ impl Store {
     pub fn clear(&mut self)
         ensures { self.new ≡ record { shelves = []; buckets = []; unused = None } }
     {
+        self.blocks.forget(self.shelves.len());
         self.shelves.clear();
         self.buckets.clear();
         self.unused = Link::none();
-        self.blocks = Blocks::new();
         self.spans.forget_all();
         self.filled.forget();
         self.rooms.forget();
-        self.heights = Heights::new();
+        self.heights.forget();
         self.may_be_long = false;
     }
 
@@ -254,8 +254,8 @@ impl Store {
         ensures { self.new
             ≡ record self.old { shelves = spec.kept_merged group.now self.old.shelves } }
     {
-        merge(&mut self.shelves, group);
-        self.heights = Heights::of(&self.shelves);
+        let height = merge(&mut self.shelves, group);
+        self.heights.add(group.first, height);
     }
 
     /// Makes what is known of shelves exact where that was put off, so that a search passes over as many as it can.
@@ -297,29 +297,31 @@ impl Store {
         let room = room_of(&self.buckets, found.bucket);
         self.rooms
             .count_unless_exact(self.shelves.len(), &self.buckets, room, width);
-        self.take_from(found.bucket, width);
+        self.take_from(found.bucket, width, room);
         self.give_from(found, room);
         width * height
     }
 
-    /// Takes an item of this width from the bucket of a number.
-    fn take_from(&mut self, bucket: usize, width: u32)
-        requires { spec.CanTake bucket width self.old.buckets }
+    /// Takes an item of this width from the bucket of a number, which can give so much.
+    fn take_from(&mut self, bucket: usize, width: u32, room: u16)
+        requires fits { spec.CanTake bucket width self.old.buckets }
+        requires room { (one : spec.LinkedBucket) → slice_get self.old.buckets bucket ≡ Some one
+            → room ≡ record_room one }
         ensures { self.new
             ≡ record self.old {
               buckets = changed_by (Some bucket) (spec.taken_record width) self.old.buckets;
             } }
     {
-        let before = room_of(&self.buckets, bucket);
         take_from(&mut self.buckets, bucket, width);
-        self.spans.track(&self.buckets, bucket, before);
-        self.rooms.follow_record(&self.buckets, bucket, before);
+        self.spans.track(&self.buckets, bucket, room);
+        self.rooms.follow_record(&self.buckets, bucket, room);
     }
 
     /// Counts one more live item in the shelf of a bucket that was found and had this room before, and keeps
     /// what the buckets of the shelf can give now.
     fn give_from(&mut self, found: &FoundBucket, room: u16)
         requires shelf { found.now.shelf < length self.old.shelves }
+        requires bucket { found.now.bucket < length self.old.buckets }
         requires few { spec.live_items_of self.old.shelves found.now.shelf + 1 < 2 ^ 32 }
         requires widest { spec.IsWidestKept found.now.shelf found.now.bucket room
             self.old.shelves self.old.buckets }
@@ -328,7 +330,7 @@ impl Store {
               shelves = spec.shelves_given found.now.shelf self.old.shelves self.old.buckets;
             } }
     {
-        let before = self.shelves[found.shelf];
+        let before = known_of(&self.shelves[found.shelf]);
         give_from(
             &mut self.shelves,
             &self.buckets,
@@ -338,7 +340,7 @@ impl Store {
             room,
             self.may_be_long,
         );
-        self.blocks.follow(&self.shelves, found.shelf, &before);
+        self.blocks.follow(&self.shelves, found.shelf, before);
     }
 
     /// Whether the bucket that an id names has given its item, and holds something live.
@@ -365,13 +367,13 @@ impl Store {
     {
         let area = returned_area(&self.shelves, &self.buckets, number);
         let shelf = shelf_number(&self.buckets, number);
-        let before = self.shelves[shelf];
+        let before = known_of(&self.shelves[shelf]);
         let room = room_of(&self.buckets, number);
         return_item(&mut self.shelves, &mut self.buckets, number);
         self.spans.track(&self.buckets, number, room);
         self.rooms.follow_record(&self.buckets, number, room);
         if !ends_idle(&self.shelves) {
-            self.blocks.follow(&self.shelves, shelf, &before);
+            self.blocks.follow(&self.shelves, shelf, before);
             self.filled.widen(number);
             return Returned {
                 area,
@@ -387,7 +389,7 @@ impl Store {
         );
         self.blocks.follow_dropped(&self.shelves, shelf);
         self.filled.forget();
-        forget_where_none(&self.shelves, &mut self.spans);
+        forget_where_none(&self.shelves, &mut self.spans, &mut self.heights);
         Returned {
             area,
             drops: true,
@@ -650,7 +652,7 @@ fn add_shelf(
         })
         .unwrap();
     blocks.add_last(shelves);
-    heights.add(shelves.len() - 1, height);
+    heights.add_last(shelves);
 }
 
 /// Takes an item of this width from the bucket of a number.
@@ -665,15 +667,18 @@ fn take_from(buckets: &mut [LinkedBucket], number: usize, width: u32)
 }
 
 /// Forgets the spans where no shelf is left: they would be of unused buckets alone, and making those again would
-/// forget them one by one.
-fn forget_where_none(shelves: &[KeptShelf], spans: &mut Spans)
+/// forget them one by one. How tall shelves were is forgotten too, since others may be lower.
+fn forget_where_none(shelves: &[KeptShelf], spans: &mut Spans, heights: &mut Heights)
     ensures kept { (buckets : List LinkedBucket)
         → AreSpans spans.old buckets → AreSpans spans.new buckets }
+    ensures below { (others : List KeptShelf)
+        → AreBelow heights.old others → AreBelow heights.new others }
     ensures none { length shelves.now ≡ 0
         → (buckets : List LinkedBucket) → AreSpans spans.new buckets }
 {
     if shelves.is_empty() {
         spans.forget_all();
+        heights.forget();
     }
 }
 
@@ -755,20 +760,23 @@ fn learn_row(
 /// Whether the bucket that was found is the first of its shelf.
 fn is_first(shelves: &[KeptShelf], found: &FoundBucket) -> bool
     requires { found.now.shelf < length shelves.now }
+    ensures { IsTrue result
+        → spec.first_bucket_of shelves.now found.now.shelf ≡ Some found.now.bucket }
 {
-    usize::from(first_bucket(shelves, found.shelf).bits()) == found.bucket
+    match first_bucket(shelves, found.shelf).number() {
+        Some(first) => first == found.bucket,
+        None => false,
+    }
 }
 
 /// Whether a shelf still has a bucket as wide as its widest was, after the one that was found gave an item, and had this
-/// room before: it had less, or one of the next few has as much. Those behind the first one are gone through anyway where
-/// the shelf isn't long.
+/// room before: it had less, or one of the next few has as much.
 #[inline(always)]
 fn keeps_widest(
     shelves: &[KeptShelf],
     buckets: &[LinkedBucket],
     found: &FoundBucket,
     room: u16,
-    may_be_long: bool,
 ) -> bool
     requires shelf { found.now.shelf < length shelves.now }
     requires widest { spec.IsWidestKept found.now.shelf found.now.bucket room shelves.now
@@ -776,9 +784,7 @@ fn keeps_widest(
     ensures { spec.KeepsWidest found.now.shelf result shelves.now buckets.now }
 {
     let widest = widest_of(shelves, found.shelf);
-    room < widest
-        || (may_be_long || !is_first(shelves, found))
-            && has_room(widest, buckets, next_of(buckets, found.bucket))
+    room < widest || has_room(widest, buckets, next_of(buckets, found.bucket))
 }
 
 /// Whether no bucket of the shelf of the one that was found can give anything, as when that gave an item before.
@@ -797,6 +803,20 @@ fn is_filled(
         ≡ 0 }
 {
     filled.is_full(buckets, first_bucket(shelves, found.shelf), found.bucket)
+}
+
+/// Whether the bucket that was found is the only one of its shelf.
+#[inline(always)]
+fn is_only(shelves: &[KeptShelf], buckets: &[LinkedBucket], found: &FoundBucket) -> bool
+    requires shelf { found.now.shelf < length shelves.now }
+    requires bucket { found.now.bucket < length buckets.now }
+    ensures { IsTrue result → (bucket : spec.LinkedBucket)
+        → slice_get buckets.now found.now.bucket ≡ Some bucket
+        → searching.widest_from most_buckets buckets.now
+        (spec.first_bucket_of shelves.now found.now.shelf)
+        ≡ record_room bucket }
+{
+    buckets[found.bucket].next.number().is_none() && is_first(shelves, found)
 }
 
 /// The greatest width that a bucket of a shelf can give, after the one that was found gave an item. Buckets from
@@ -845,6 +865,7 @@ fn give_from(
     may_be_long: bool,
 )
     requires number { found.now.shelf < length shelves.old }
+    requires bucket { found.now.bucket < length buckets.now }
     requires few { spec.live_items_of shelves.old found.now.shelf + 1 < 2 ^ 32 }
     requires widest { spec.IsWidestKept found.now.shelf found.now.bucket room shelves.old
         buckets.now }
@@ -854,11 +875,17 @@ fn give_from(
     ensures spans { AreSpans spans.new buckets.now }
     ensures filled { IsFilled filled.new buckets.now }
 {
-    if room >= widest_of(shelves, found.shelf) && is_filled(shelves, buckets, filled, found) {
-        count_given(shelves, found.shelf, 0);
-        return;
+    if room >= widest_of(shelves, found.shelf) {
+        if is_only(shelves, buckets, found) {
+            count_given(shelves, found.shelf, room_of(buckets, found.bucket));
+            return;
+        }
+        if is_filled(shelves, buckets, filled, found) {
+            count_given(shelves, found.shelf, 0);
+            return;
+        }
     }
-    let keeps = keeps_widest(shelves, buckets, found, room, may_be_long);
+    let keeps = keeps_widest(shelves, buckets, found, room);
     learn_row(shelves, buckets, spans, found, keeps, may_be_long);
     let widest = widest_after(shelves, buckets, spans, filled, found, keeps);
     count_given(shelves, found.shelf, widest);

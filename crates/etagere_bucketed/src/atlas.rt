@@ -210,11 +210,11 @@ impl BucketedAtlasAllocator {
     ///
     /// `Err` comes only where a shelf is to be added and there was no memory. Nothing changes after an
     /// `Err` or none. An added shelf takes memory for its record, and for those of its buckets as far as
-    /// too few were unused; a size that needs none takes none. Passes over up to 512 shelves at once, and
-    /// goes through those of a block of 8 in which one has room, and looks only at buckets of shelves that are
-    /// tall enough, have wide enough buckets and room. The first bucket that wastes nothing ends the search; none is
-    /// looked for where no bucket has just the width. As the first item goes into a wider bucket of more than 64, in more
-    /// than one shelf, all are counted by their width.
+    /// too few were unused; a size that needs none takes none. Passes over up to 512 shelves at once in which none has
+    /// room, and behind the first 8 that it went through in vain over up to 256 that are too low. It looks only at buckets
+    /// of shelves that are tall enough, have wide enough buckets and room. The first bucket that wastes nothing ends the
+    /// search; none is looked for where no bucket has just the width. As the first item goes into a wider bucket of more
+    /// than 64, in more than one shelf, all are counted by their width.
     pub fn allocate(&mut self, size: Size) -> Result<Option<Allocation>, AllocError>
         ensures placed { IfOk result
             (λ answer. IfSome answer (λ allocation. Allocates self.old size allocation self.new)) }
@@ -336,7 +336,8 @@ impl BucketedAtlasAllocator {
 
     /// Takes everything back at once: the atlas is as new, with its present size and columns.
     ///
-    /// Takes no memory, and gives none back. Takes constant time, since dropping a record does nothing.
+    /// Takes no memory, and gives none back. Takes constant time with up to 8 shelves, since dropping a record does
+    /// nothing, else forgets what is known of each 8 of them.
     pub fn clear(&mut self)
         ensures cleared { self.new ≡ fresh self.old.frame }
         ensures empty { AreTied [] self.new }

@@ -210,6 +210,12 @@ pub record IsFollowed (number : ℕ) (kept : KeptShelf) (blocks : Blocks) : Type
   pub known : IsKnownAt number kept blocks
   pub beside : blocks.others.number < 4096 → IsBeside blocks.others number kept
 
+-- the same of any with no more room than this that holds something live
+abbrev pub IsFollowedUpTo : ℕ → ℕ → Blocks → Type 0
+IsFollowedUpTo number room blocks =
+    (kept : KeptShelf) → kept.widest_room ≤ room → is_kept_idle kept ≡ false
+    → IsFollowed number kept blocks
+
 -- each of the first so many shelves is known to its blocks
 abbrev pub AreFirstKnown : ℕ → Blocks → List KeptShelf → Type 0
 AreFirstKnown count blocks shelves = AreKnownWhere (λ number. number < count) blocks shelves

@@ -277,3 +277,13 @@ first-short frame news stored short = by_filler news.filler short
     by_filler : (filler : Option NewShelf) → StayShort frame (news_of (record { filler = filler; asked = news.asked })) stored → IsShort frame stored.shelves
     by_filler None h = h.0
     by_filler (Some filler) h = h.0
+
+-- and before the second one is made
+pub second-short : (frame : Frame) (news : NewShelves) (filler : NewShelf) (stored : Stored) → news.filler ≡ Some filler → StayShort frame (news_of news) stored → IsShort frame (stored_shelf frame filler stored).shelves
+second-short frame news filler stored is short = by_filler news.filler is short
+  where
+    by_filler : (o : Option NewShelf) → o ≡ Some filler → StayShort frame (news_of (record { filler = o; asked = news.asked })) stored → IsShort frame (stored_shelf frame filler stored).shelves
+    by_filler None e h = absurd (cc)
+    by_filler (Some other) e h =
+        let same : other ≡ filler = cc in
+        subst (λ (n : NewShelf). IsShort frame (stored_shelf frame n stored).shelves) same h.1.0

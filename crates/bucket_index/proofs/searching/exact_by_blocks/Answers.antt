@@ -1,9 +1,10 @@
-use Rattle.std.proofs.Common.{◌≡◌, ℕ, ◌+◌, false, Option, None, Some, drop, refl, ap, sym, ◌∙◌, arith}
+use Rattle.std.proofs.Common.{◌≡◌, ℕ, false, Option, None, Some, drop, refl, ap, sym, ◌∙◌, arith}
 use Rattle.std.specs.Prelude.{is_some}
 use Rattle.bucketed_model.specs.Picking.{or_else}
 use Rattle.bucket_index.specs.declared.searching.FoundBucket.{FoundBucket}
 use Rattle.bucket_index.specs.Private.Searching.{exact_from}
-use Rattle.bucket_index.proofs.PassedShelves.{exact-behind}
+use Rattle.bucket_index.proofs.PassedShelves.{exact-behind, exact-none}
+use Rattle.bucket_index.proofs.TallestShelves.{exact-low}
 use Rattle.bucket_index.proofs.searching.exact_by_blocks.Goals as goal
 use Rattle.bucket_index.proofs.searching.exact_by_blocks.Goals.{then-at-behind, else-at-behind+else-is_some}
 
@@ -22,13 +23,16 @@ loop-block-preserved c =
     elim c.if-at-behind.branch [
       | then-at-behind w ↦ record {
         rest = ap (λ (k : ℕ). exact_from sides buckets k (drop k shelves)) w.at-is
-            ∙ exact-behind sides buckets shelves at behind.result behind.ensures.on (behind.ensures.narrow shelves c.requires.known) ∙ c.loop-block.invariant.rest;
+            ∙ exact-behind sides buckets shelves at behind.result behind.ensures.on
+            (λ number kept on under there. exact-none sides buckets number kept (behind.ensures.narrow shelves c.requires.known number kept on under there)) ∙ c.loop-block.invariant.rest;
         on = omega (arith, w.at-is, w.if-at-behind.true, c.loop-block.invariant.on);
       }
       | else-at-behind+else-is_some w ↦ record {
         rest = ap (λ (k : ℕ). exact_from sides buckets k (drop k shelves)) w.at-is
-            ∙ sym (none-first w.exact_between-found.result (exact_from sides buckets (at + 8) (drop (at + 8) shelves)) (sym w.is_some.ensures ∙ w.if-is_some.false))
+            ∙ exact-behind sides buckets shelves w.behind_wide-end.result w.behind_low-at.result w.behind_low-at.ensures.on
+            (λ number kept on under there. exact-low sides buckets number kept (w.behind_low-at.ensures.low shelves c.requires.below number kept on under there))
+            ∙ sym (none-first w.exact_between-found.result (exact_from sides buckets w.behind_wide-end.result (drop w.behind_wide-end.result shelves)) (sym w.is_some.ensures ∙ w.if-is_some.false))
             ∙ w.exact_between-found.ensures ∙ c.loop-block.invariant.rest;
-        on = omega (arith, w.at-is, c.loop-block.invariant.on);
+        on = omega (arith, w.at-is, w.behind_low-at.ensures.on, w.behind_wide-end.ensures.on, c.loop-block.invariant.on);
       }
     ]

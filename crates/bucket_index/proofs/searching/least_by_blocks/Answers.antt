@@ -1,21 +1,22 @@
-use Rattle.std.proofs.Common.{◌+◌, sym, ◌∙◌, arith}
+use Rattle.std.proofs.Common.{sym, ◌∙◌, arith}
 use Rattle.bucket_index.specs.Private.Searching.{kept_waste}
-use Rattle.bucket_index.proofs.PassedShelves.{least-past}
+use Rattle.bucket_index.proofs.PassedShelves.{least-past, waste-none}
 use Rattle.bucket_index.proofs.FoundShelves.{all-within, before-end}
 use Rattle.bucket_index.proofs.SteppedShelves.{best-of_all}
-use Rattle.bucket_index.proofs.TallestShelves.{least-past-low, low-shelves}
+use Rattle.bucket_index.proofs.TallestShelves.{waste-low}
 use Rattle.bucket_index.proofs.searching.least_by_blocks.Goals as goal
 
 pub loop-from-preserved-then-from-behind : goal.loop-from-preserved-then-from-behind
 loop-from-preserved-then-from-behind c =
     let behind = c.behind_narrow-behind in
-    least-past c.args.adds c.args.sides.now c.args.shelves.now c.loop-from.best c.loop-from.from behind.result c.loop-from.invariant behind.ensures.on (behind.ensures.narrow c.args.shelves.now c.requires.known)
+    least-past c.args.adds c.args.sides.now c.args.shelves.now c.loop-from.best c.loop-from.from behind.result c.loop-from.invariant behind.ensures.on
+    (λ number kept on under at. waste-none c.args.adds c.args.sides.now kept (behind.ensures.narrow c.args.shelves.now c.requires.known number kept on under at))
 
-pub loop-from-preserved-then-from-low : goal.loop-from-preserved-then-from-low
-loop-from-preserved-then-from-low c =
-    let low = c.behind_low-low in
-    least-past-low c.args.adds c.args.sides.now c.args.shelves.now c.loop-from.best c.loop-from.from low.result c.loop-from.invariant low.ensures.on
-    (low-shelves c.args.sides.now.across c.loop-from.from low.result c.args.heights.now c.args.shelves.now c.requires.below (low.ensures.low c.if-from-low.true))
+pub loop-from-preserved : goal.loop-from-preserved
+loop-from-preserved c =
+    let low = c.behind_low-from in
+    least-past c.args.adds c.args.sides.now c.args.shelves.now c.least_in-best.result c.behind_wide-end.result low.result c.least_in-best.ensures low.ensures.on
+    (λ number kept on under at. waste-low c.args.adds c.args.sides.now kept (low.ensures.low c.args.shelves.now c.requires.below number kept on under at))
 
 pub least_in-best-requires-clause-step : goal.least_in-best-requires-clause-step
 least_in-best-requires-clause-step c = c.step-step.ensures c.args.shelves.now c.requires.known
@@ -29,6 +30,6 @@ returns-after-loop-from c =
 pub returns-then-is_least : goal.returns-then-is_least
 returns-then-is_least c =
     let rank = kept_waste c.args.adds c.args.sides.now in
-    let is = sym (best-of_all c.step-step.result c.args.adds c.args.sides.now c.args.shelves.now c.least_in-best.result (c.loop-from.from + 8) (c.step-step.ensures c.args.shelves.now c.requires.known)
+    let is = sym (best-of_all c.step-step.result c.args.adds c.args.sides.now c.args.shelves.now c.least_in-best.result c.behind_wide-end.result (c.step-step.ensures c.args.shelves.now c.requires.known)
     (sym c.least_in-best.ensures) (sym c.is_least.ensures ∙ c.if-is_least.true)) in
     record { least = is; within = all-within rank c.args.shelves.now c.least_in-best.result is }

@@ -1,13 +1,14 @@
-use Rattle.std.proofs.Common.{◌≡◌, ℕ, suc, ◌-◌, ◌*◌, length, ◌≤◌, ◌∙◌, ap, arith, subst, sym}
+use Rattle.std.proofs.Common.{◌≡◌, ℕ, suc, ◌*◌, ◌≤◌, ◌∙◌, ap, arith, subst, sym}
 use Rattle.std.proofs.Math.Nat.{mul-le-mul_right, suc-mul}
 use Rattle.std.specs.Result.{is_ok}
 use Rattle.etagere_base.proofs.FrameSides.{sides_low}
 use Rattle.bucketed_model.specs.Adding.{NewShelf, width_of_share}
 use Rattle.bucketed_model.proofs.Shelving.Shares.{shares-fit}
 use Rattle.bucket_index.specs.Private.Blocks.{AreKnown}
+use Rattle.bucket_index.specs.Private.Heights.{AreBelow}
 use Rattle.bucket_index.proofs.KnownBlocks.{known-last}
 use Rattle.bucketed_store.specs.Private.StoreEdits.{EndsBy}
-use Rattle.bucket_index.proofs.TallestShelves.{below-last}
+use Rattle.bucket_index.proofs.TallestShelves.{below-before}
 use Rattle.bucketed_store.proofs.RoomsKept.{made-many}
 use Rattle.bucketed_store.proofs.store.add_shelf.Goals as goal
 
@@ -36,10 +37,12 @@ pub add_last-requires-clause-others : goal.add_last-requires-clause-others
 add_last-requires-clause-others c =
     rw c.expect.ensures (known-last _ c.args.blocks.now c.args.shelves.now.items c.deref-2.result.now (is_ok c.push.result) (ap is_ok c.unwrap.ensures) (c.deref-2.ensures.value ∙ c.push.ensures.items) c.requires.known)
 
+pub add_last-requires-2-clause-others : goal.add_last-requires-2-clause-others
+add_last-requires-2-clause-others c =
+    rw c.deref-3.ensures.value (below-before c.args.heights.now c.args.shelves.now.items c.push.new.self.items _ (is_ok c.push.result) (ap is_ok c.unwrap.ensures) c.push.ensures.items c.requires.below)
+
 pub returns-clause-below : goal.returns-clause-below
-returns-clause-below c =
-    rw c.add-2.ensures
-    (below-last c.args.heights.now c.args.shelves.now.items c.push.new.self.items _ (c.len-2.result - 1) (is_ok c.push.result) (ap is_ok c.unwrap.ensures) c.push.ensures.items (omega (arith, c.len-2.ensures, c.deref-2.ensures.len, ap length c.deref-2.ensures.value)) c.requires.below)
+returns-clause-below c = subst (AreBelow c.add_last-2.new.self) c.deref-3.ensures.value c.add_last-2.ensures
 
 pub returns-clause-rooms : goal.returns-clause-rooms
 returns-clause-rooms c =

@@ -5,3 +5,6 @@ returns-then-is_empty-clause-kept c = λ buckets spans. c.forget_all.ensures buc
 
 pub returns-then-is_empty-clause-none : goal.returns-then-is_empty-clause-none
 returns-then-is_empty-clause-none c = λ none buckets. c.forget_all.ensures buckets
+
+pub returns-then-is_empty-clause-below : goal.returns-then-is_empty-clause-below
+returns-then-is_empty-clause-below c = λ others below known. absurd (cc)

@@ -1,6 +1,6 @@
 use Rattle.std.proofs.Common.{length, refl}
 use Rattle.std.proofs.lemmas.Option.{slice_get_read}
-use Rattle.bucket_index.proofs.KnownBlocks.{followed-stays, known-with}
+use Rattle.bucket_index.proofs.KnownBlocks.{known-with}
 use Rattle.bucket_index.proofs.OtherShelves.{followed-own, known-late}
 use Rattle.bucket_index.proofs.blocks.Blocks.follow.Goals as goal
 
@@ -11,7 +11,7 @@ returns-then-stays_equal c =
     let one = c.index-shelves-number.result in
     let is = c.stays_equal.ensures c.if-stays_equal.true in
     known-with number one c.args.self.now shelves (slice_get_read shelves (length shelves) number one refl c.requires.within c.index-shelves-number.is)
-    (followed-stays number c.args.before.now one c.args.self.now is.0 is.1 (c.requires.before c.if-not-self.false)) c.requires.others
+    (c.requires.before c.if-not-self.false one is.0 is.1) c.requires.others
 
 pub returns-then-knows_again : goal.returns-then-knows_again
 returns-then-knows_again c =

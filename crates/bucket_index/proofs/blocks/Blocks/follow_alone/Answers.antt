@@ -1,6 +1,6 @@
 use Rattle.std.proofs.Common.{length, refl}
 use Rattle.std.proofs.lemmas.Option.{slice_get_read}
-use Rattle.bucket_index.proofs.KnownBlocks.{followed-stays, known-with}
+use Rattle.bucket_index.proofs.KnownBlocks.{known-with}
 use Rattle.bucket_index.proofs.blocks.Blocks.follow_alone.Goals as goal
 
 pub returns-else-not-stays_known : goal.returns-else-not-stays_known
@@ -10,4 +10,4 @@ returns-else-not-stays_known c =
     let one = c.index-shelves-number.result in
     let is = c.stays_known.ensures c.if-not-stays_known.false in
     known-with number one c.args.self.now shelves (slice_get_read shelves (length shelves) number one refl c.requires.within c.index-shelves-number.is)
-    (followed-stays number c.args.before.now one c.args.self.now is.0 is.1 c.requires.before) c.requires.others
+    (c.requires.before one is.0 is.1) c.requires.others

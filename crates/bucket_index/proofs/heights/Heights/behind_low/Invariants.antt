@@ -1,7 +1,13 @@
-use Rattle.std.proofs.Common.{◌≡◌, ◌<◌, ◌≤◌, ℕ, true}
-use Rattle.bucket_index.specs.Private.Heights.{is_low}
+use Rattle.std.proofs.Common.{◌-◌, ◌≤◌}
+use Rattle.bucket_index.specs.Private.Heights.{AreBelow, AreLow, Shelves}
 use Rattle.bucket_index.proofs.heights.Heights.behind_low.Given as goal
 
--- the blocks up to one are low
-abbrev pub invariant-loop-block : goal.invariant-loop-block
-invariant-loop-block l = (block : ℕ) → l.first ≤ block → block < l.block → is_low l.across l.self.tallest block ≡ true
+-- the shelves up to here are too low
+abbrev pub invariant-loop-at : goal.invariant-loop-at
+invariant-loop-at l = record {
+  on : l.from ≤ l.at;
+  low : (shelves : Shelves) → AreBelow l.self shelves → AreLow l.across l.from l.at shelves;
+}
+
+abbrev pub decreases-loop-at : goal.decreases-loop-at
+decreases-loop-at l = l.count - l.at

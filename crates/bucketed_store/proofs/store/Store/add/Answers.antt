@@ -6,9 +6,9 @@ use Rattle.bucket_index.specs.Private.Heights.{AreBelow}
 use Rattle.bucket_index.specs.Private.Filling.{IsFilled}
 use Rattle.bucket_index.specs.Private.Rooms.{AreCounted}
 use Rattle.bucket_index.specs.Private.Spans.{AreSpans}
-use Rattle.bucketed_store.specs.Private.StoreEdits.{IsShort, stored_shelves}
+use Rattle.bucketed_store.specs.Private.StoreEdits.{IsShort, stored_shelf, stored_shelves}
 use Rattle.bucketed_store.proofs.Spelling.MadeLengths.{filler-keeps}
-use Rattle.bucketed_store.proofs.Spelling.MadeShelves.{first-short}
+use Rattle.bucketed_store.proofs.Spelling.MadeShelves.{first-short, second-short}
 use Rattle.bucketed_store.specs.declared.store.Store.TheInside.{Inside}
 use Rattle.bucketed_store.proofs.store.Store.add.Goals as goal
 use Rattle.bucketed_store.proofs.store.Store.add.Goals.{in-Some, in_default}
@@ -34,6 +34,19 @@ pub add_shelf-requires-clause-short : goal.add_shelf-requires-clause-short
 add_shelf-requires-clause-short c =
     rw c.reserve.ensures.items
     (subst (λ (s : Stored). IsShort c.args.frame.now s.shelves) (sym c.self.view_is) (first-short c.args.frame.now c.args.news.now c.args.self.now c.requires.news.short))
+
+pub add_shelf-requires-2-clause-short : goal.add_shelf-requires-2-clause-short
+add_shelf-requires-2-clause-short c =
+    let frame = c.args.frame.now in
+    elim c.match-news.branch [
+      | in-Some w ↦
+          let fills = ap (λ (n : NewShelves). n.filler) (sym c.news.view_is) ∙ w.in-Some.is in
+          subst (λ (inside : Inside). IsShort frame inside.shelves.items) (sym w.self-inside-is)
+          (rw (w.add_shelf.ensures.shelves, c.reserve.ensures.items, c.in_ok-reserve_records.ensures.same)
+          (subst (λ (s : Stored). IsShort frame (stored_shelf frame w.in-Some.filler s).shelves) (sym c.self.view_is) (second-short frame c.args.news.now w.in-Some.filler c.args.self.now fills c.requires.news.short)))
+      | in_default w ↦ subst (λ (inside : Inside). IsShort frame inside.shelves.items) (sym w.self-inside-is)
+          (rw c.reserve.ensures.items (subst (λ (s : Stored). IsShort frame s.shelves) (sym c.self.view_is) (first-short frame c.args.news.now c.args.self.now c.requires.news.short)))
+    ]
 
 pub invariant_of-self : goal.invariant_of-self
 invariant_of-self c = (subst (AreKnown c.self.inside.blocks) (sym c.reserve.ensures.items) c.self.invariant.0, c.self.invariant.1, c.self.invariant.2, c.self.invariant.3, subst (AreBelow c.self.inside.heights) (sym c.reserve.ensures.items) c.self.invariant.4)

@@ -7,13 +7,14 @@ use Rattle.bucketed_model.specs.State.{most_buckets}
 use Rattle.bucketed_records.specs.declared.records.LinkedBucket.{LinkedBucket}
 use Rattle.bucketed_records.specs.declared.records.KeptShelf.{KeptShelf}
 use Rattle.bucketed_records.specs.Private.Store.{Stored}
+use Rattle.bucket_index.specs.declared.blocks.Block.{Block}
 use Rattle.bucket_index.specs.Private.Blocks.{AreKnown, AreOthersKnown}
 use Rattle.bucket_index.specs.Private.Filling.{IsFilled}
 use Rattle.bucket_index.specs.Private.Heights.{AreBelow}
 use Rattle.bucket_index.proofs.TallestShelves.{below-kept}
 use Rattle.bucket_index.specs.Private.Searching.{widest_from}
 use Rattle.bucket_index.specs.Private.Spans.{AreSpans}
-use Rattle.bucket_index.proofs.KnownBlocks.{known-at, known-others}
+use Rattle.bucket_index.proofs.KnownBlocks.{followed-stays, known-at, known-others}
 use Rattle.bucketed_store.specs.Private.StoreEdits.{IsWidestKept, first_bucket_of, given_from, shelves_given}
 use Rattle.bucketed_store.proofs.store.Store.give_from.Goals as goal
 
@@ -53,7 +54,7 @@ follow-requires-clause-before c =
     let before = c.index.result.now in
     let there : slice_get shelves shelf ≡ Some before =
     slice_get-get_or shelves shelf before (omega (arith, c.requires.shelf, ap (λ (stored : Stored). length stored.shelves) c.self.view_is)) ∙ ap (λ (kept : KeptShelf). Some kept) (sym c.index.ensures) in
-    known-at shelf before c.self.inside.blocks shelves there c.self.invariant.0
+    λ counts kept narrow busy. followed-stays shelf before kept c.self.inside.blocks (omega (arith, narrow, ap (λ (b : Block). b.widest_room) c.known_of-before.ensures)) busy (known-at shelf before c.self.inside.blocks shelves there c.self.invariant.0 counts)
 
 pub follow-requires-clause-others : goal.follow-requires-clause-others
 follow-requires-clause-others c =
@@ -83,5 +84,9 @@ invariant_of-self c =
       subst (IsFilled c.give_from.new.filled) c.deref.ensures.value c.give_from.ensures.filled,
       c.self.invariant.3,
       subst (AreBelow inside.heights) (sym (items ∙ given))
-          (below-kept shelf (given_from (widest_from most_buckets inside.buckets.items (first_bucket_of inside.shelves.items shelf))) inside.heights inside.shelves.items (λ x. refl) c.self.invariant.4),
+          (below-kept shelf (given_from (widest_from most_buckets inside.buckets.items (first_bucket_of inside.shelves.items shelf))) inside.heights inside.shelves.items (λ x. omega arith) c.self.invariant.4),
     )
+
+pub give_from-requires-clause-bucket : goal.give_from-requires-clause-bucket
+give_from-requires-clause-bucket c =
+    omega (arith, c.requires.bucket, ap (λ (stored : Stored). length stored.buckets) c.self.view_is, ap length c.deref.ensures.value)

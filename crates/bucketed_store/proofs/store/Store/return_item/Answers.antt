@@ -8,6 +8,7 @@ use Rattle.bucketed_records.specs.declared.records.LinkedBucket.{LinkedBucket}
 use Rattle.bucketed_records.specs.declared.records.KeptShelf.{KeptShelf}
 use Rattle.bucketed_records.specs.StandsFor.{live_of, shelf_of}
 use Rattle.bucketed_records.specs.Private.Store.{Stored}
+use Rattle.bucket_index.specs.declared.blocks.Block.{Block}
 use Rattle.bucket_index.specs.Private.Blocks.{AreKnown, AreOthersKnown}
 use Rattle.bucket_index.specs.Private.Filling.{IsFilled}
 use Rattle.bucket_index.specs.Private.Heights.{AreBelow}
@@ -15,7 +16,7 @@ use Rattle.bucket_index.specs.Private.Rooms.{AreCounted, tally}
 use Rattle.bucket_index.proofs.TallestShelves.{below-kept, below-some}
 use Rattle.bucket_index.specs.Private.Spans.{AreSpans, AreSpansExcept}
 use Rattle.bucket_index.proofs.FilledRows.{filled-changed}
-use Rattle.bucket_index.proofs.KnownBlocks.{AreSome, known-at, known-others}
+use Rattle.bucket_index.proofs.KnownBlocks.{AreSome, followed-stays, known-at, known-others}
 use Rattle.bucket_index.proofs.KnownSpans.{spans-changed-room}
 use Rattle.bucketed_store.specs.Private.Returns.{Dropping, dropping_of, emptied_record, lessened_record, returned_kept, returned_record, width_of}
 use Rattle.bucketed_store.proofs.KnownShelves.{others-some, some-dropped}
@@ -52,7 +53,7 @@ follow-requires-clause-before c =
     let within : shelf_of inside.buckets.items c.args.number < length shelves =
     subst (λ (stored : Stored). shelf_of stored.buckets c.args.number < length stored.shelves) (sym c.self.view_is) c.requires.shelf in
     let there : slice_get shelves shelf ≡ Some before = slice_get-get_or shelves shelf before (omega (arith, same, within)) ∙ ap (λ (kept : KeptShelf). Some kept) (sym c.index.ensures) in
-    known-at shelf before inside.blocks shelves there c.self.invariant.0
+    λ counts kept narrow busy. followed-stays shelf before kept inside.blocks (omega (arith, narrow, ap (λ (b : Block). b.widest_room) c.known_of-before.ensures)) busy (known-at shelf before inside.blocks shelves there c.self.invariant.0 counts)
 
 pub follow-requires-clause-others : goal.follow-requires-clause-others
 follow-requires-clause-others c =
@@ -90,7 +91,7 @@ invariant_of-self c =
     ∙ ap (λ (xs : List KeptShelf). changed_by (Some (shelf_of inside.buckets.items number)) lowers xs) c.deref_mut.ensures.value
     ∙ ap (λ (n : ℕ). changed_by (Some n) lowers inside.shelves.items) (sym shelf) in
     let below : AreBelow inside.heights (with_items inside.shelves c.return_item.new.shelves).items =
-    subst (AreBelow inside.heights) (sym shelves) (below-kept c.shelf_number-shelf.result lowers inside.heights inside.shelves.items (λ x. refl) c.self.invariant.4) in
+    subst (AreBelow inside.heights) (sym shelves) (below-kept c.shelf_number-shelf.result lowers inside.heights inside.shelves.items (λ x. omega arith) c.self.invariant.4) in
     let within : number < length inside.buckets.items = subst (λ (stored : Stored). number < length stored.buckets) (sym c.self.view_is) c.requires.number in
     let one = is-there number inside.buckets.items within in
     let items : (with_items inside.buckets c.return_item.new.buckets).items ≡ c.return_item.new.buckets =
@@ -148,7 +149,7 @@ invariant_of-self-2 c =
     ∙ ap (λ (xs : List KeptShelf). changed_by (Some (shelf_of inside.buckets.items number)) lowers xs) c.deref_mut.ensures.value
     ∙ ap (λ (n : ℕ). changed_by (Some n) lowers inside.shelves.items) (sym shelf) in
     let below : AreBelow inside.heights (with_items inside.shelves c.return_item.new.shelves).items =
-    subst (AreBelow inside.heights) (sym shelves) (below-kept c.shelf_number-shelf.result lowers inside.heights inside.shelves.items (λ x. refl) c.self.invariant.4) in
+    subst (AreBelow inside.heights) (sym shelves) (below-kept c.shelf_number-shelf.result lowers inside.heights inside.shelves.items (λ x. omega arith) c.self.invariant.4) in
     let within : number < length inside.buckets.items = subst (λ (stored : Stored). number < length stored.buckets) (sym c.self.view_is) c.requires.number in
     let one = is-there number inside.buckets.items within in
     let items : (with_items inside.buckets c.return_item.new.buckets).items ≡ c.return_item.new.buckets =
@@ -169,7 +170,8 @@ invariant_of-self-2 c =
           (λ slot. ap (λ (done : Dropping). tally slot done.stored.buckets) c.drop_idle_end-dropped.ensures.dropped
           ∙ dropped-kept slot (vec_len (with_items inside.shelves c.return_item.new.shelves)) (dropping_of (with_items inside.shelves c.return_item.new.shelves).items c.deref_mut-3.result.now inside.unused 0)
           ∙ ap (tally slot) c.deref_mut-3.ensures.value)),
-      below-some inside.heights (with_items inside.shelves c.return_item.new.shelves).items c.drop_idle_end-dropped.new.shelves.items
+      c.forget_where_none.ensures.below _
+          (below-some inside.heights (with_items inside.shelves c.return_item.new.shelves).items c.drop_idle_end-dropped.new.shelves.items
           (subst (AreSome (with_items inside.shelves c.return_item.new.shelves).items) (sym (ap (λ (done : Dropping). done.stored.shelves) c.drop_idle_end-dropped.ensures.dropped))
-          (some-dropped (vec_len (with_items inside.shelves c.return_item.new.shelves)) (dropping_of (with_items inside.shelves c.return_item.new.shelves).items c.deref_mut-3.result.now inside.unused 0))) below,
+          (some-dropped (vec_len (with_items inside.shelves c.return_item.new.shelves)) (dropping_of (with_items inside.shelves c.return_item.new.shelves).items c.deref_mut-3.result.now inside.unused 0))) below),
     )

@@ -24,7 +24,7 @@ track-requires-clause-others c =
     with_items_is inside.buckets c.take_from.new.buckets (omega (arith, c.take_from.auto.buckets, c.deref_mut.ensures.len)) in
     let taken : c.take_from.new.buckets ≡ changed_by (Some bucket) change inside.buckets.items =
     c.take_from.ensures ∙ ap (λ (bs : List LinkedBucket). changed_by (Some bucket) change bs) c.deref_mut.ensures.value in
-    subst (AreSpansExcept bucket inside.spans) (sym (c.deref-2.ensures.value ∙ items ∙ taken))
+    subst (AreSpansExcept bucket inside.spans) (sym (c.deref.ensures.value ∙ items ∙ taken))
     (spans-changed-room bucket change inside.spans inside.buckets.items (λ b. refl) c.self.invariant.1)
 
 pub invariant_of-self : goal.invariant_of-self
@@ -32,19 +32,19 @@ invariant_of-self c =
     let inside = c.self.inside in
     let bucket = c.args.bucket in
     let change = taken_record c.args.width in
-    let one = c.requires.bucket in
+    let one = c.requires.fits.bucket in
     let here : slice_get inside.buckets.items bucket ≡ Some one =
-    subst (λ (stored : Stored). slice_get stored.buckets bucket ≡ Some one) (sym c.self.view_is) c.requires.here in
+    subst (λ (stored : Stored). slice_get stored.buckets bucket ≡ Some one) (sym c.self.view_is) c.requires.fits.here in
     let items : (with_items inside.buckets c.take_from.new.buckets).items ≡ c.take_from.new.buckets =
     with_items_is inside.buckets c.take_from.new.buckets (omega (arith, c.take_from.auto.buckets, c.deref_mut.ensures.len)) in
     let taken : c.take_from.new.buckets ≡ changed_by (Some bucket) change inside.buckets.items =
     c.take_from.ensures ∙ ap (λ (bs : List LinkedBucket). changed_by (Some bucket) change bs) c.deref_mut.ensures.value in (
       c.self.invariant.0,
-      subst (AreSpans c.track.new.self) c.deref-2.ensures.value c.track.ensures,
+      subst (AreSpans c.track.new.self) c.deref.ensures.value c.track.ensures,
       subst (IsFilled inside.filled) (sym (items ∙ taken))
           (filled-changed bucket change inside.filled inside.buckets.items (λ b. refl) (λ _ b. room-lowered c.args.width b) c.self.invariant.2),
       subst (AreCounted c.follow_record.new.self) (sym (items ∙ taken))
-          (followed bucket c.room_of-before.result change inside.buckets.items c.deref-3.result.now one inside.rooms c.follow_record.new.self (c.deref-3.ensures.value ∙ items ∙ taken) here
-          (c.room_of-before.ensures one (ap (λ (bs : List LinkedBucket). slice_get bs bucket) c.deref.ensures.value ∙ here)) c.self.invariant.3 c.follow_record.ensures),
+          (followed bucket c.args.room change inside.buckets.items c.deref-2.result.now one inside.rooms c.follow_record.new.self (c.deref-2.ensures.value ∙ items ∙ taken) here
+          (c.requires.room one c.requires.fits.here) c.self.invariant.3 c.follow_record.ensures),
       c.self.invariant.4,
     )
