@@ -44,6 +44,9 @@ pub fn up(length: u32, alignment: u32) -> u32
     ensures value { result ≡ spec.up length alignment }
     ensures rounded { IsRoundedUp length alignment result }
 {
+    if alignment == 1 {
+        return length;
+    }
     (length + (alignment - 1)) / alignment * alignment
 }
 
