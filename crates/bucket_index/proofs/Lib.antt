@@ -1,5 +1,4 @@
 pub mod CountedRooms
-pub mod FilledRows
 pub mod FoundShelves
 pub mod KnownBlocks
 pub mod KnownSpans
@@ -7,6 +6,7 @@ pub mod LimitedWaste
 pub mod LinkedRecords
 pub mod OtherShelves
 pub mod PassedShelves
+pub mod RestOfRows
 pub mod Searched
 pub mod SteppedShelves
 pub mod TallestShelves

@@ -2,7 +2,7 @@
 //!
 //! Definitions: `Store`, `StoreEdits`. `Store` also says when records spell a state.
 
-ghost use Rattle.std.specs.Prelude.{IsTrue, List, ◌≡◌, ◌+◌, ◌-◌, ◌*◌, ◌<◌, ◌≤◌, ◌^◌, [], None, Some, IfOk, IsSome, OnOk, OnErr, false, length, slice_get, vec_len, vec_capacity, map};
+ghost use Rattle.std.specs.Prelude.{IsTrue, List, ◌≡◌, ◌+◌, ◌-◌, ◌*◌, ◌<◌, ◌≤◌, ◌^◌, [], None, Some, IfOk, IfSome, IsSome, OnOk, OnErr, false, length, slice_get, vec_len, vec_capacity, map};
 ghost use Rattle.etagere_links.specs.Edits.{changed_by};
 ghost use Rattle.etagere_links.specs.Links.{no_link};
 ghost use Rattle.bucketed_model.specs.Adding as adding;
@@ -13,8 +13,8 @@ ghost use Rattle.bucketed_records.specs.StandsFor.{free_of, place_of, shelf_of};
 ghost use Rattle.bucketed_records.specs.Private.Store.{record_room, shelf_record};
 ghost use Rattle.bucketed_records.specs.Restoring as restoring;
 ghost use Rattle.bucket_index.specs.Private.Blocks.{AreKnown};
-ghost use Rattle.bucket_index.specs.Private.Filling.{IsFilled};
 ghost use Rattle.bucket_index.specs.Private.Heights.{AreBelow};
+ghost use Rattle.bucket_index.specs.Private.Rest.{IsRest};
 ghost use Rattle.bucket_index.specs.Private.Rooms.{AreCounted};
 ghost use Rattle.bucket_index.specs.Private.Searching as searching;
 ghost use Rattle.bucket_index.specs.Private.Spans.{AreSpans};
@@ -30,8 +30,8 @@ use crate::merging::{Group, merge};
 use crate::placing::Placement;
 use crate::returning::{is_known, return_item, returned_area, shelf_number};
 use bucket_index::blocks::{Blocks, known_of};
-use bucket_index::filling::Filled;
 use bucket_index::heights::Heights;
+use bucket_index::rest::Rest;
 use bucket_index::rooms::Rooms;
 use bucket_index::searching::{FoundBucket, has_room, widest_room};
 use bucket_index::spans::Spans;
@@ -60,7 +60,7 @@ pub struct Store {
     pub(crate) unused: Link,
     pub(crate) blocks: Blocks,
     pub(crate) spans: Spans,
-    pub(crate) filled: Filled,
+    pub(crate) rest: Rest,
     pub(crate) rooms: Rooms,
     pub(crate) heights: Heights,
     /// Whether a shelf may have so many buckets that a search along them goes far.
@@ -70,8 +70,8 @@ pub struct Store {
 impl Model for Store {
     ghost use Rattle.bucketed_records.specs.Private.Store.{Stored};
     ghost use Rattle.bucket_index.specs.Private.Blocks.{AreKnown};
-    ghost use Rattle.bucket_index.specs.Private.Filling.{IsFilled};
     ghost use Rattle.bucket_index.specs.Private.Heights.{AreBelow};
+    ghost use Rattle.bucket_index.specs.Private.Rest.{IsRest};
     ghost use Rattle.bucket_index.specs.Private.Rooms.{AreCounted};
     ghost use Rattle.bucket_index.specs.Private.Spans.{AreSpans};
 
@@ -85,7 +85,7 @@ impl Model for Store {
 
     ghost invariant = { λ store. AreKnown store.blocks store.shelves.items
         × AreSpans store.spans store.buckets.items
-        × IsFilled store.filled store.buckets.items
+        × IsRest store.rest store.buckets.items
         × AreCounted store.rooms store.buckets.items
         × AreBelow store.heights store.shelves.items };
 }
@@ -123,7 +123,7 @@ impl Store {
             unused: Link::none(),
             blocks: Blocks::new(),
             spans: Spans::new(),
-            filled: Filled::none(),
+            rest: Rest::none(),
             rooms: Rooms::uncounted(),
             heights: Heights::new(),
             may_be_long: false,
@@ -143,7 +143,7 @@ impl Store {
             unused,
             blocks,
             spans: Spans::new(),
-            filled: Filled::none(),
+            rest: Rest::none(),
             rooms: Rooms::uncounted(),
             heights,
             may_be_long: true,
@@ -159,7 +159,7 @@ impl Store {
         self.buckets.clear();
         self.unused = Link::none();
         self.spans.forget_all();
-        self.filled.forget();
+        self.rest.forget();
         self.rooms.forget();
         self.heights.forget();
         self.may_be_long = false;
@@ -208,7 +208,7 @@ impl Store {
             &mut self.heights,
             &news.asked,
         );
-        self.filled.forget();
+        self.rest.forget();
         Ok(())
     }
 
@@ -315,6 +315,7 @@ impl Store {
         take_from(&mut self.buckets, bucket, width);
         self.spans.track(&self.buckets, bucket, room);
         self.rooms.follow_record(&self.buckets, bucket, room);
+        self.rest.lower(bucket);
     }
 
     /// Counts one more live item in the shelf of a bucket that was found and had this room before, and keeps
@@ -335,7 +336,7 @@ impl Store {
             &mut self.shelves,
             &self.buckets,
             &mut self.spans,
-            &mut self.filled,
+            &mut self.rest,
             found,
             room,
             self.may_be_long,
@@ -359,6 +360,8 @@ impl Store {
             ≤ returns.width_of self.old.shelves (shelf_of self.old.buckets number) }
         requires few_shelves { length self.old.shelves ≤ most_buckets }
         requires few_buckets { length self.old.buckets ≤ most_buckets }
+        requires widest { spec.KnowsWidest (shelf_of self.old.buckets number) self.old.shelves
+            self.old.buckets }
         ensures records { returns.dropping_from self.new result.dropped
             ≡ returns.end_dropped (length (returns.item_returned number self.old).shelves)
             (returns.dropping_from (returns.item_returned number self.old) 0) }
@@ -368,13 +371,14 @@ impl Store {
         let area = returned_area(&self.shelves, &self.buckets, number);
         let shelf = shelf_number(&self.buckets, number);
         let before = known_of(&self.shelves[shelf]);
+        let first = first_bucket(&self.shelves, shelf);
         let room = room_of(&self.buckets, number);
         return_item(&mut self.shelves, &mut self.buckets, number);
         self.spans.track(&self.buckets, number, room);
         self.rooms.follow_record(&self.buckets, number, room);
         if !ends_idle(&self.shelves) {
             self.blocks.follow(&self.shelves, shelf, before);
-            self.filled.widen(number);
+            self.rest.know(first, number, room, before.widest_room);
             return Returned {
                 area,
                 drops: false,
@@ -388,7 +392,7 @@ impl Store {
             &mut self.unused,
         );
         self.blocks.follow_dropped(&self.shelves, shelf);
-        self.filled.forget();
+        self.rest.forget();
         forget_where_none(&self.shelves, &mut self.spans, &mut self.heights);
         Returned {
             area,
@@ -420,7 +424,7 @@ impl Store {
             (grows.shelves_widened
             (length self.old.shelves) 0 place added left self.old).buckets) }
     {
-        self.filled.forget();
+        self.rest.forget();
         self.rooms.forget();
         let rest = left_after(&self.shelves, added, left);
         reserve_records(&mut self.buckets, MOST_BUCKETS - rest)?;
@@ -787,22 +791,22 @@ fn keeps_widest(
     room < widest || has_room(widest, buckets, next_of(buckets, found.bucket))
 }
 
-/// Whether no bucket of the shelf of the one that was found can give anything, as when that gave an item before.
+/// What the buckets of the shelf of one that gave an item can give, where that is known by what the others of it can.
 #[inline(always)]
-fn is_filled(
+fn widest_beside(
     shelves: &[KeptShelf],
     buckets: &[LinkedBucket],
-    filled: &Filled,
+    rest: &Rest,
     found: &FoundBucket,
-) -> bool
+) -> Option<u16>
     requires number { found.now.shelf < length shelves.now }
-    requires filled { IsFilled filled.now buckets.now }
-    ensures { IsTrue result
-        → searching.widest_from most_buckets buckets.now
-        (spec.first_bucket_of shelves.now found.now.shelf)
-        ≡ 0 }
+    requires one { spec.GivesAsMuch found.now.shelf found.now.bucket shelves.now buckets.now }
+    requires rest { IsRest rest.now buckets.now }
+    ensures { IfSome result (λ widest. widest
+        ≡ searching.widest_from most_buckets buckets.now
+        (spec.first_bucket_of shelves.now found.now.shelf)) }
 {
-    filled.is_full(buckets, first_bucket(shelves, found.shelf), found.bucket)
+    rest.widest_beside(buckets, first_bucket(shelves, found.shelf), found.bucket)
 }
 
 /// Whether the bucket that was found is the only one of its shelf.
@@ -826,40 +830,41 @@ fn widest_after(
     shelves: &[KeptShelf],
     buckets: &[LinkedBucket],
     spans: &Spans,
-    filled: &mut Filled,
+    rest: &mut Rest,
     found: &FoundBucket,
     keeps: bool,
 ) -> u16
     requires number { found.now.shelf < length shelves.now }
+    requires bucket { found.now.bucket < length buckets.now }
     requires most { searching.widest_from most_buckets buckets.now
         (spec.first_bucket_of shelves.now found.now.shelf)
         ≤ spec.widest_of shelves.now found.now.shelf }
     requires keeps { spec.KeepsWidest found.now.shelf keeps shelves.now buckets.now }
     requires spans { AreSpans spans.now buckets.now }
-    requires filled { IsFilled filled.old buckets.now }
+    requires rest { IsRest rest.old buckets.now }
     ensures value { result
         ≡ searching.widest_from most_buckets buckets.now
         (spec.first_bucket_of shelves.now found.now.shelf) }
-    ensures filled { IsFilled filled.new buckets.now }
+    ensures rest { IsRest rest.new buckets.now }
 {
     let widest = widest_of(shelves, found.shelf);
     if keeps {
         return widest;
     }
     let first = first_bucket(shelves, found.shelf);
-    let room = widest_room(buckets, spans, first, widest);
-    filled.learn(first, found.bucket, room);
-    room
+    let widest = widest_room(buckets, spans, first, widest);
+    rest.learn(first, found.bucket, room_of(buckets, found.bucket), widest);
+    widest
 }
 
 /// Counts one more live item in the shelf of a bucket that was found and had this room before, and keeps what the
-/// buckets of the shelf can give now. Where they are all full, as when it gave an item before, none is looked at.
+/// buckets of the shelf can give now. Where it is known what the others can, none of them is looked at.
 #[inline(always)]
 fn give_from(
     shelves: &mut [KeptShelf],
     buckets: &[LinkedBucket],
     spans: &mut Spans,
-    filled: &mut Filled,
+    rest: &mut Rest,
     found: &FoundBucket,
     room: u16,
     may_be_long: bool,
@@ -870,24 +875,24 @@ fn give_from(
     requires widest { spec.IsWidestKept found.now.shelf found.now.bucket room shelves.old
         buckets.now }
     requires spans { AreSpans spans.old buckets.now }
-    requires filled { IsFilled filled.old buckets.now }
+    requires rest { IsRest rest.old buckets.now }
     ensures shelves { shelves.new ≡ spec.shelves_given found.now.shelf shelves.old buckets.now }
     ensures spans { AreSpans spans.new buckets.now }
-    ensures filled { IsFilled filled.new buckets.now }
+    ensures rest { IsRest rest.new buckets.now }
 {
     if room >= widest_of(shelves, found.shelf) {
         if is_only(shelves, buckets, found) {
             count_given(shelves, found.shelf, room_of(buckets, found.bucket));
             return;
         }
-        if is_filled(shelves, buckets, filled, found) {
-            count_given(shelves, found.shelf, 0);
+        if let Some(widest) = widest_beside(shelves, buckets, rest, found) {
+            count_given(shelves, found.shelf, widest);
             return;
         }
     }
     let keeps = keeps_widest(shelves, buckets, found, room);
     learn_row(shelves, buckets, spans, found, keeps, may_be_long);
-    let widest = widest_after(shelves, buckets, spans, filled, found, keeps);
+    let widest = widest_after(shelves, buckets, spans, rest, found, keeps);
     count_given(shelves, found.shelf, widest);
 }
 
@@ -912,7 +917,7 @@ impl Clone for Store {
             unused: self.unused,
             blocks: self.blocks,
             spans: self.spans,
-            filled: self.filled,
+            rest: self.rest,
             rooms: self.rooms,
             heights: self.heights,
             may_be_long: self.may_be_long,

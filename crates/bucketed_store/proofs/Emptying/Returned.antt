@@ -1,5 +1,5 @@
 -- What a return leaves: records that spell the returned state, and its totals.
-use Rattle.std.proofs.Common.{◌≡◌, ℕ, zero, suc, ◌+◌, ◌-◌, ◌*◌, ◌<◌, ◌≤◌, Bool, true, false, cond, Option, Some, List, [], ◌∷◌, ◌++◌, length, refl, ap, arith, sym, ◌∙◌}
+use Rattle.std.proofs.Common.{◌≡◌, ℕ, zero, suc, ◌+◌, ◌-◌, ◌*◌, ◌<◌, ◌≤◌, Bool, true, false, cond, Option, Some, List, [], ◌∷◌, ◌++◌, length, refl, ap, arith, sym, subst, ◌∙◌}
 use Rattle.std.proofs.Math.Nat.{zero-mul}
 use Rattle.std.proofs.lemmas.Bool.{and_parts}
 use Rattle.std.proofs.lemmas.List.{length-map}
@@ -24,10 +24,12 @@ use Rattle.bucketed_records.specs.Private.Witnessed.{Witnessed}
 use Rattle.bucketed_records.specs.StandsFor.{free_of, live_of, shelf_of}
 use Rattle.bucketed_records.proofs.Spelling.KeptShelves.{kept-append, length-kept}
 use Rattle.bucketed_store.specs.Private.Returns.{Dropping, dropping_of, end_dropped, gives_item, is_known_in, item_returned, returned_area, returned_kept, returned_record, width_of}
-use Rattle.bucketed_store.specs.Private.StoreEdits.{height_of}
+use Rattle.bucketed_store.specs.Private.StoreEdits.{KnowsWidest, height_of}
 use Rattle.bucketed_store.proofs.Emptying.EndDrops.{drops-all, DropsAll}
 use Rattle.bucketed_store.proofs.Emptying.ItemReturns.{item-spells}
 use Rattle.bucketed_store.proofs.Emptying.KnownRecords.{known-records, unused-knows}
+use Rattle.bucketed_store.proofs.Spelling.SpotRecords.{spot-at}
+use Rattle.bucketed_store.proofs.Spelling.WidestSpots.{shelf-knows}
 use Rattle.bucketed_store.proofs.Emptying.SpelledSpots.{has-bucket, HasBucket, is-spot, record-at, spot_at}
 
 -- a known id's bucket, which holds something live
@@ -77,6 +79,7 @@ pub record IsReturned (stored : Stored) (state : BucketedState) (id : ℕ) : Typ
   pub number : (tag_of id).number < length stored.buckets
   pub shelf : shelf_of stored.buckets (tag_of id).number < length stored.shelves
   pub free : free_of stored.buckets (tag_of id).number ≤ width_of stored.shelves (shelf_of stored.buckets (tag_of id).number)
+  pub widest : KnowsWidest (shelf_of stored.buckets (tag_of id).number) stored.shelves stored.buckets
   pub few_shelves : length (item_returned (tag_of id).number stored).shelves ≤ most_buckets
   pub few_buckets : length (item_returned (tag_of id).number stored).buckets ≤ most_buckets
   pub unused : List ℕ
@@ -140,6 +143,7 @@ returned-is stored unused state id witnessed known =
       number = slice_get_within records number _ at;
       shelf = slice_get_within stored.shelves (shelf_of records number) kept here;
       free = omega (arith, free, width);
+      widest = subst (λ (n : ℕ). KnowsWidest n stored.shelves records) (sym shelf) (shelf-knows state.frame stored unused xs i x valid.shelves spells (spot-at xs (spot_at has) spot));
       few_shelves = omega (arith, long, length-map xs (changed_in number returned_bucket), few-shelves state.frame xs valid.frame.column_width valid.shelves.each, valid.shelves.few);
       few_buckets = spelled.has_unused.few;
       unused = all.unused;

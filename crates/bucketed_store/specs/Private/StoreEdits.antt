@@ -19,6 +19,7 @@ pub use Rattle.bucketed_records.specs.declared.records.KeptShelf.{KeptShelf}
 use Rattle.bucketed_records.specs.Private.Store.{Stored}
 use Rattle.bucket_index.specs.declared.searching.FoundBucket.{FoundBucket}
 use Rattle.bucket_index.specs.Private.Searching.{widest_from}
+use Rattle.bucket_index.specs.Private.Spans.{room_at}
 use Rattle.bucketed_store.specs.Private.Placing.{Placement, InBucket, InAdded, InMerged, kept_height}
 -- buckets to be made side by side: the number of their shelf, their width, and where the first one
 -- begins
@@ -186,22 +187,31 @@ abbrev pub widest_of : List KeptShelf → ℕ → ℕ
 widest_of shelves number =
     option_map_or (λ (kept : KeptShelf). kept.widest_room) (slice_get shelves number) 0
 
+-- what is kept of a shelf is the greatest width that one of its buckets can give
+abbrev pub KnowsWidest : ℕ → List KeptShelf → List LinkedBucket → Type 0
+KnowsWidest shelf shelves buckets =
+    widest_from most_buckets buckets (first_bucket_of shelves shelf) ≡ widest_of shelves shelf
+
+-- the buckets of a shelf can give as much as this one
+abbrev pub GivesAsMuch : ℕ → ℕ → List KeptShelf → List LinkedBucket → Type 0
+GivesAsMuch shelf bucket shelves buckets =
+    room_at buckets bucket ≤ widest_from most_buckets buckets (first_bucket_of shelves shelf)
+
 -- what is kept of a shelf is no less than its buckets can give, and just that if the one that gave
--- last had less room than this before; the buckets behind that one are some of the shelf's
+-- last had less room than this before; that one and the buckets behind it are some of the shelf's
 pub record IsWidestKept (shelf bucket room : ℕ) (shelves : List KeptShelf)
     (buckets : List LinkedBucket) : Type 0 where
   pub most : widest_from most_buckets buckets (first_bucket_of shelves shelf)
       ≤ widest_of shelves shelf
-  pub exact : room < widest_of shelves shelf
-      → widest_from most_buckets buckets (first_bucket_of shelves shelf) ≡ widest_of shelves shelf
+  pub exact : room < widest_of shelves shelf → KnowsWidest shelf shelves buckets
+  pub one : GivesAsMuch shelf bucket shelves buckets
   pub behind : widest_from most_buckets buckets (next_of buckets bucket)
       ≤ widest_from most_buckets buckets (first_bucket_of shelves shelf)
 
 -- where it is true, the widest room that is kept of a shelf is that of one of its buckets
 abbrev pub KeepsWidest : ℕ → Bool → List KeptShelf → List LinkedBucket → Type 0
 KeepsWidest shelf keeps shelves buckets =
-    keeps ≡ true → widest_from most_buckets buckets (first_bucket_of shelves shelf)
-    ≡ widest_of shelves shelf
+    keeps ≡ true → KnowsWidest shelf shelves buckets
 
 -- a bucket of a shelf gave an item this wide
 abbrev pub stored_taken : ℕ → ℕ → ℕ → Stored → Stored
@@ -230,11 +240,12 @@ pub record CanTake (number width : ℕ) (buckets : List LinkedBucket) : Type 0 w
   pub given : bucket.item_count < most_given
   pub live : bucket.refcount ≤ bucket.item_count
 
--- what is kept of a shelf is what its buckets can give, and the buckets behind one that gives an
--- item this wide are some of the shelf's
+-- what is kept of a shelf is what its buckets can give, of which some are one that gives an item this
+-- wide, and those behind it
 pub record IsWidest (shelf bucket width : ℕ) (stored : Stored) : Type 0 where
-  pub exact : widest_from most_buckets stored.buckets (first_bucket_of stored.shelves shelf)
-      ≡ widest_of stored.shelves shelf
+  pub exact : KnowsWidest shelf stored.shelves stored.buckets
+  pub one : GivesAsMuch shelf bucket stored.shelves
+      (changed_by (Some bucket) (taken_record width) stored.buckets)
   pub behind : widest_from most_buckets
       (changed_by (Some bucket) (taken_record width) stored.buckets)
       (next_of stored.buckets bucket)

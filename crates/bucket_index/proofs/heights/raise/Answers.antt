@@ -1,4 +1,4 @@
-use Rattle.std.proofs.Common.{Some, false, max, refl}
+use Rattle.std.proofs.Common.{Some, max, refl}
 use Rattle.etagere_links.proofs.EditLemmas.{set-changed, changed_by-past}
 use Rattle.bucket_index.proofs.heights.raise.Goals as goal
 

@@ -1,4 +1,4 @@
-use Rattle.std.proofs.Common.{Some, false, refl}
+use Rattle.std.proofs.Common.{Some, refl}
 use Rattle.etagere_links.proofs.EditLemmas.{set-changed, changed_by-past}
 use Rattle.bucket_index.specs.Private.Rooms.{one_less}
 use Rattle.bucket_index.proofs.rooms.lower.Goals as goal

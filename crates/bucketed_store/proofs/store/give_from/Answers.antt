@@ -4,10 +4,10 @@ use Rattle.bucketed_store.specs.Private.StoreEdits.{given_from}
 use Rattle.bucketed_store.proofs.RoomsKept.{is-there}
 use Rattle.bucketed_store.proofs.store.give_from.Goals as goal
 
-pub returns-then-is_filled-clause-shelves : goal.returns-then-is_filled-clause-shelves
-returns-then-is_filled-clause-shelves c =
-    c.count_given-then-is_filled.ensures
-    ∙ ap (λ (room : ℕ). changed_by (Some c.args.found.now.shelf) (given_from room) c.args.shelves.now) (sym (c.is_filled.ensures c.if-is_filled.true))
+pub returns-in-Some-clause-shelves : goal.returns-in-Some-clause-shelves
+returns-in-Some-clause-shelves c =
+    c.count_given-in-Some.ensures
+    ∙ ap (λ (room : ℕ). changed_by (Some c.args.found.now.shelf) (given_from room) c.args.shelves.now) c.in-Some.ensures
 
 pub returns-then-is_only-clause-shelves : goal.returns-then-is_only-clause-shelves
 returns-then-is_only-clause-shelves c =

@@ -1,5 +1,8 @@
 use Rattle.std.proofs.Common.{sym}
+use Rattle.bucketed_store.proofs.RoomsKept.{is-there}
 use Rattle.bucketed_store.proofs.store.widest_after.Goals as goal
 
-pub returns-clause-filled : goal.returns-clause-filled
-returns-clause-filled c = c.learn.ensures c.args.buckets.now c.requires.filled (sym c.widest_room-room.ensures)
+pub returns-clause-rest : goal.returns-clause-rest
+returns-clause-rest c =
+    let one = is-there c.args.found.now.bucket c.args.buckets.now c.requires.bucket in
+    c.learn.ensures.known c.args.buckets.now one.bucket one.at (c.room_of.ensures one.bucket one.at) (sym c.widest_room-widest.ensures)

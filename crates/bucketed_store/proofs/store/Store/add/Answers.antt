@@ -3,7 +3,7 @@ use Rattle.bucketed_model.specs.Adding.{NewShelves, news_of}
 use Rattle.bucketed_records.specs.Private.Store.{Stored}
 use Rattle.bucket_index.specs.Private.Blocks.{AreKnown}
 use Rattle.bucket_index.specs.Private.Heights.{AreBelow}
-use Rattle.bucket_index.specs.Private.Filling.{IsFilled}
+use Rattle.bucket_index.specs.Private.Rest.{IsRest}
 use Rattle.bucket_index.specs.Private.Rooms.{AreCounted}
 use Rattle.bucket_index.specs.Private.Spans.{AreSpans}
 use Rattle.bucketed_store.specs.Private.StoreEdits.{IsShort, stored_shelf, stored_shelves}
@@ -53,7 +53,7 @@ invariant_of-self c = (subst (AreKnown c.self.inside.blocks) (sym c.reserve.ensu
 
 pub invariant_of-self-in_err-reserve_records : goal.invariant_of-self-in_err-reserve_records
 invariant_of-self-in_err-reserve_records c =
-    (subst (AreKnown c.self.inside.blocks) (sym c.reserve.ensures.items) c.self.invariant.0, subst (AreSpans c.self.inside.spans) (sym c.reserve_records.ensures.same) c.self.invariant.1, subst (IsFilled c.self.inside.filled) (sym c.reserve_records.ensures.same) c.self.invariant.2, subst (AreCounted c.self.inside.rooms) (sym c.reserve_records.ensures.same) c.self.invariant.3, subst (AreBelow c.self.inside.heights) (sym c.reserve.ensures.items) c.self.invariant.4)
+    (subst (AreKnown c.self.inside.blocks) (sym c.reserve.ensures.items) c.self.invariant.0, subst (AreSpans c.self.inside.spans) (sym c.reserve_records.ensures.same) c.self.invariant.1, subst (IsRest c.self.inside.rest) (sym c.reserve_records.ensures.same) c.self.invariant.2, subst (AreCounted c.self.inside.rooms) (sym c.reserve_records.ensures.same) c.self.invariant.3, subst (AreBelow c.self.inside.heights) (sym c.reserve.ensures.items) c.self.invariant.4)
 
 pub add_shelf-requires-clause-known : goal.add_shelf-requires-clause-known
 add_shelf-requires-clause-known c = subst (AreKnown c.self.inside.blocks) (sym c.reserve.ensures.items) c.self.invariant.0

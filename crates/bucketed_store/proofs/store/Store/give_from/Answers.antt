@@ -9,8 +9,8 @@ use Rattle.bucketed_records.specs.declared.records.KeptShelf.{KeptShelf}
 use Rattle.bucketed_records.specs.Private.Store.{Stored}
 use Rattle.bucket_index.specs.declared.blocks.Block.{Block}
 use Rattle.bucket_index.specs.Private.Blocks.{AreKnown, AreOthersKnown}
-use Rattle.bucket_index.specs.Private.Filling.{IsFilled}
 use Rattle.bucket_index.specs.Private.Heights.{AreBelow}
+use Rattle.bucket_index.specs.Private.Rest.{IsRest}
 use Rattle.bucket_index.proofs.TallestShelves.{below-kept}
 use Rattle.bucket_index.specs.Private.Searching.{widest_from}
 use Rattle.bucket_index.specs.Private.Spans.{AreSpans}
@@ -31,8 +31,8 @@ give_from-requires-clause-widest c =
 pub give_from-requires-clause-spans : goal.give_from-requires-clause-spans
 give_from-requires-clause-spans c = subst (AreSpans c.self.inside.spans) (sym c.deref.ensures.value) c.self.invariant.1
 
-pub give_from-requires-clause-filled : goal.give_from-requires-clause-filled
-give_from-requires-clause-filled c = subst (IsFilled c.self.inside.filled) (sym c.deref.ensures.value) c.self.invariant.2
+pub give_from-requires-clause-rest : goal.give_from-requires-clause-rest
+give_from-requires-clause-rest c = subst (IsRest c.self.inside.rest) (sym c.deref.ensures.value) c.self.invariant.2
 
 pub returns : goal.returns
 returns c =
@@ -81,7 +81,7 @@ invariant_of-self c =
     ∙ ap (λ (bs : List LinkedBucket). shelves_given shelf inside.shelves.items bs) c.deref.ensures.value in (
       subst (AreKnown c.follow.new.self) c.deref-2.ensures.value c.follow.ensures,
       subst (AreSpans c.give_from.new.spans) c.deref.ensures.value c.give_from.ensures.spans,
-      subst (IsFilled c.give_from.new.filled) c.deref.ensures.value c.give_from.ensures.filled,
+      subst (IsRest c.give_from.new.rest) c.deref.ensures.value c.give_from.ensures.rest,
       c.self.invariant.3,
       subst (AreBelow inside.heights) (sym (items ∙ given))
           (below-kept shelf (given_from (widest_from most_buckets inside.buckets.items (first_bucket_of inside.shelves.items shelf))) inside.heights inside.shelves.items (λ x. omega arith) c.self.invariant.4),

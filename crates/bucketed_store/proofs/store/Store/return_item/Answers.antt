@@ -1,27 +1,32 @@
-use Rattle.std.proofs.Common.{◌≡◌, ℕ, ◌<◌, List, Bool, true, false, Some, length, ap, cond, refl, subst, sym, ◌∙◌, arith, ◌==◌}
+use Rattle.std.proofs.Common.{◌≡◌, ℕ, ◌<◌, List, Bool, true, false, Some, length, ap, cond, Option, refl, subst, sym, ◌∙◌, arith, ◌==◌}
 use Rattle.std.proofs.lemmas.List.{with_items_is}
 use Rattle.std.proofs.lemmas.Option.{slice_get-get_or}
+use Rattle.std.specs.Option.{option_map_or}
 use Rattle.std.specs.Prelude.{nat_le, slice_get, vec_len}
 use Rattle.std.specs.Vec.{with_items}
 use Rattle.etagere_links.specs.Edits.{changed_by}
 use Rattle.bucketed_records.specs.declared.records.LinkedBucket.{LinkedBucket}
 use Rattle.bucketed_records.specs.declared.records.KeptShelf.{KeptShelf}
 use Rattle.bucketed_records.specs.StandsFor.{live_of, shelf_of}
-use Rattle.bucketed_records.specs.Private.Store.{Stored}
+use Rattle.bucketed_records.specs.Private.Store.{record_room, Stored}
 use Rattle.bucket_index.specs.declared.blocks.Block.{Block}
 use Rattle.bucket_index.specs.Private.Blocks.{AreKnown, AreOthersKnown}
-use Rattle.bucket_index.specs.Private.Filling.{IsFilled}
 use Rattle.bucket_index.specs.Private.Heights.{AreBelow}
+use Rattle.bucket_index.specs.Private.Rest.{IsRest}
 use Rattle.bucket_index.specs.Private.Rooms.{AreCounted, tally}
 use Rattle.bucket_index.proofs.TallestShelves.{below-kept, below-some}
+use Rattle.bucketed_model.specs.State.{most_buckets}
+use Rattle.bucket_index.specs.Private.Searching.{widest_from}
 use Rattle.bucket_index.specs.Private.Spans.{AreSpans, AreSpansExcept}
-use Rattle.bucket_index.proofs.FilledRows.{filled-changed}
+use Rattle.bucket_index.proofs.RestOfRows.{known-beside}
 use Rattle.bucket_index.proofs.KnownBlocks.{AreSome, followed-stays, known-at, known-others}
 use Rattle.bucket_index.proofs.KnownSpans.{spans-changed-room}
 use Rattle.bucketed_store.specs.Private.Returns.{Dropping, dropping_of, emptied_record, lessened_record, returned_kept, returned_record, width_of}
+use Rattle.bucketed_store.specs.Private.StoreEdits.{KnowsWidest, first_bucket_of, widest_of}
 use Rattle.bucketed_store.proofs.KnownShelves.{others-some, some-dropped}
 use Rattle.bucketed_store.proofs.RoomsKept.{counted-same, dropped-kept, followed, is-there}
 use Rattle.bucketed_store.proofs.store.Store.return_item.Goals as goal
+use Rattle.bucketed_store.proofs.store.Store.return_item.Goals.{After-first_bucket-first}
 
 -- a return keeps a record's link
 links-same : (width : ℕ) (b : LinkedBucket) → (returned_record width b).next ≡ b.next
@@ -40,20 +45,41 @@ track-requires-clause-others c =
     with_items_is inside.buckets c.return_item.new.buckets (omega (arith, c.return_item.auto.buckets, c.deref_mut-2.ensures.len)) in
     let returned : c.return_item.new.buckets ≡ changed_by (Some number) (returned_record width) inside.buckets.items =
     c.return_item.ensures.buckets ∙ ap (λ (bs : List LinkedBucket). changed_by (Some number) (returned_record width) bs) c.deref_mut-2.ensures.value in
-    subst (AreSpansExcept number inside.spans) (sym (c.deref-5.ensures.value ∙ items ∙ returned))
+    subst (AreSpansExcept number inside.spans) (sym (c.deref-6.ensures.value ∙ items ∙ returned))
     (spans-changed-room number (returned_record width) inside.spans inside.buckets.items (links-same width) c.self.invariant.1)
+
+-- the number of the shelf is that of the bucket
+shelf-is : (c : After-first_bucket-first) → c.shelf_number-shelf.result ≡ shelf_of c.self.inside.buckets.items c.args.number
+shelf-is c = c.shelf_number-shelf.ensures ∙ ap (λ (bs : List LinkedBucket). shelf_of bs c.args.number) c.deref-3.ensures.value
+
+-- what was read is the shelf
+shelf-there : (c : After-first_bucket-first) → slice_get c.self.inside.shelves.items c.shelf_number-shelf.result ≡ Some c.index.result.now
+shelf-there c =
+    let within : shelf_of c.self.inside.buckets.items c.args.number < length c.self.inside.shelves.items =
+    subst (λ (stored : Stored). shelf_of stored.buckets c.args.number < length stored.shelves) (sym c.self.view_is) c.requires.shelf in
+    slice_get-get_or c.self.inside.shelves.items c.shelf_number-shelf.result c.index.result.now (omega (arith, shelf-is c, within)) ∙ ap (λ (kept : KeptShelf). Some kept) (sym c.index.ensures)
+
+-- and what is known of it is what its buckets can give
+widest-is : (c : After-first_bucket-first) → widest_from most_buckets c.self.inside.buckets.items c.first_bucket-first.result ≡ c.known_of-before.result.widest_room
+widest-is c =
+    let shelves = c.self.inside.shelves.items in
+    let buckets = c.self.inside.buckets.items in
+    let knows : KnowsWidest (shelf_of buckets c.args.number) shelves buckets =
+    subst (λ (stored : Stored). KnowsWidest (shelf_of stored.buckets c.args.number) stored.shelves stored.buckets) (sym c.self.view_is) c.requires.widest in
+    let read : widest_from most_buckets buckets c.first_bucket-first.result ≡ c.index.result.now.widest_room =
+    ap (widest_from most_buckets buckets)
+    (c.first_bucket-first.ensures ∙ ap (λ (xs : List KeptShelf). first_bucket_of xs c.shelf_number-shelf.result) c.deref-4.ensures.value ∙ ap (first_bucket_of shelves) (shelf-is c))
+    ∙ knows
+    ∙ ap (widest_of shelves) (sym (shelf-is c))
+    ∙ ap (λ (o : Option KeptShelf). option_map_or (λ (kept : KeptShelf). kept.widest_room) o 0) (shelf-there c) in
+    omega (arith, read, ap (λ (b : Block). b.widest_room) c.known_of-before.ensures)
 
 pub follow-requires-clause-before : goal.follow-requires-clause-before
 follow-requires-clause-before c =
-    let inside = c.self.inside in
-    let shelves = inside.shelves.items in
-    let shelf = c.shelf_number-shelf.result in
     let before = c.index.result.now in
-    let same : shelf ≡ shelf_of inside.buckets.items c.args.number = c.shelf_number-shelf.ensures ∙ ap (λ (bs : List LinkedBucket). shelf_of bs c.args.number) c.deref-3.ensures.value in
-    let within : shelf_of inside.buckets.items c.args.number < length shelves =
-    subst (λ (stored : Stored). shelf_of stored.buckets c.args.number < length stored.shelves) (sym c.self.view_is) c.requires.shelf in
-    let there : slice_get shelves shelf ≡ Some before = slice_get-get_or shelves shelf before (omega (arith, same, within)) ∙ ap (λ (kept : KeptShelf). Some kept) (sym c.index.ensures) in
-    λ counts kept narrow busy. followed-stays shelf before kept inside.blocks (omega (arith, narrow, ap (λ (b : Block). b.widest_room) c.known_of-before.ensures)) busy (known-at shelf before inside.blocks shelves there c.self.invariant.0 counts)
+    let there = shelf-there (goal.at.follow-requires-clause-before c).After-first_bucket-first in
+    λ counts kept narrow busy. followed-stays c.shelf_number-shelf.result before kept c.self.inside.blocks (omega (arith, narrow, ap (λ (b : Block). b.widest_room) c.known_of-before.ensures)) busy
+    (known-at c.shelf_number-shelf.result before c.self.inside.blocks c.self.inside.shelves.items there c.self.invariant.0 counts)
 
 pub follow-requires-clause-others : goal.follow-requires-clause-others
 follow-requires-clause-others c =
@@ -97,15 +123,18 @@ invariant_of-self c =
     let items : (with_items inside.buckets c.return_item.new.buckets).items ≡ c.return_item.new.buckets =
     with_items_is inside.buckets c.return_item.new.buckets (omega (arith, c.return_item.auto.buckets, c.deref_mut-2.ensures.len)) in
     let returned : c.return_item.new.buckets ≡ changed_by (Some number) (returned_record width) inside.buckets.items =
-    c.return_item.ensures.buckets ∙ ap (λ (bs : List LinkedBucket). changed_by (Some number) (returned_record width) bs) c.deref_mut-2.ensures.value in (
+    c.return_item.ensures.buckets ∙ ap (λ (bs : List LinkedBucket). changed_by (Some number) (returned_record width) bs) c.deref_mut-2.ensures.value in
+    let room : c.room_of-room.result ≡ record_room one.bucket = c.room_of-room.ensures one.bucket (ap (λ (bs : List LinkedBucket). slice_get bs number) c.deref-5.ensures.value ∙ one.at) in
+    let known : IsRest c.know.new.self (changed_by (Some number) (returned_record width) inside.buckets.items) =
+    subst (λ (n : ℕ). IsRest c.know.new.self (changed_by (Some n) (returned_record width) inside.buckets.items)) c.know.ensures.bucket
+    (known-beside (returned_record width) c.know.new.self inside.buckets.items (links-same width)
+    (c.know.ensures.known inside.buckets.items one.bucket one.at room (widest-is (goal.at.invariant_of-self c).After-first_bucket-first) c.self.invariant.2)) in (
       subst (AreKnown c.follow.new.self) c.deref-then-not-ends_idle.ensures.value c.follow.ensures,
-      subst (AreSpans c.track.new.self) c.deref-5.ensures.value c.track.ensures,
-      c.widen.ensures (with_items inside.buckets c.return_item.new.buckets).items
-          (λ same. subst (IsFilled inside.filled) (sym (items ∙ returned))
-          (filled-changed number (returned_record width) inside.filled inside.buckets.items (links-same width) (λ differs b. absurd (apart number inside.filled.bucket same differs)) c.self.invariant.2)),
+      subst (AreSpans c.track.new.self) c.deref-6.ensures.value c.track.ensures,
+      subst (IsRest c.know.new.self) (sym (items ∙ returned)) known,
       subst (AreCounted c.follow_record.new.self) (sym (items ∙ returned))
-          (followed number c.room_of-room.result (returned_record width) inside.buckets.items c.deref-6.result.now one.bucket inside.rooms c.follow_record.new.self (c.deref-6.ensures.value ∙ items ∙ returned) one.at
-          (c.room_of-room.ensures one.bucket (ap (λ (bs : List LinkedBucket). slice_get bs number) c.deref-4.ensures.value ∙ one.at)) c.self.invariant.3 c.follow_record.ensures),
+          (followed number c.room_of-room.result (returned_record width) inside.buckets.items c.deref-7.result.now one.bucket inside.rooms c.follow_record.new.self (c.deref-7.ensures.value ∙ items ∙ returned) one.at
+          (c.room_of-room.ensures one.bucket (ap (λ (bs : List LinkedBucket). slice_get bs number) c.deref-5.ensures.value ∙ one.at)) c.self.invariant.3 c.follow_record.ensures),
       below,
     )
 
@@ -131,7 +160,7 @@ follow_dropped-requires c =
     let known : AreOthersKnown c.shelf_number-shelf.result inside.blocks (with_items inside.shelves c.return_item.new.shelves).items =
     subst (AreOthersKnown c.shelf_number-shelf.result inside.blocks) (sym (items ∙ returned))
     (known-others c.shelf_number-shelf.result change inside.blocks inside.shelves.items (λ x. refl) c.self.invariant.0) in
-    subst (AreOthersKnown c.shelf_number-shelf.result inside.blocks) (sym c.deref-8.ensures.value)
+    subst (AreOthersKnown c.shelf_number-shelf.result inside.blocks) (sym c.deref-9.ensures.value)
     (others-some c.shelf_number-shelf.result inside.blocks (with_items inside.shelves c.return_item.new.shelves).items c.drop_idle_end-dropped.new.shelves.items some known)
 
 pub invariant_of-self-2 : goal.invariant_of-self-2
@@ -158,11 +187,11 @@ invariant_of-self-2 c =
     c.return_item.ensures.buckets ∙ ap (λ (bs : List LinkedBucket). changed_by (Some number) (returned_record width) bs) c.deref_mut-2.ensures.value in
     let counted : AreCounted c.follow_record.new.self (with_items inside.buckets c.return_item.new.buckets).items =
     subst (AreCounted c.follow_record.new.self) (sym (items ∙ returned))
-    (followed number c.room_of-room.result (returned_record width) inside.buckets.items c.deref-6.result.now one.bucket inside.rooms c.follow_record.new.self (c.deref-6.ensures.value ∙ items ∙ returned) one.at
-    (c.room_of-room.ensures one.bucket (ap (λ (bs : List LinkedBucket). slice_get bs number) c.deref-4.ensures.value ∙ one.at)) c.self.invariant.3 c.follow_record.ensures) in
+    (followed number c.room_of-room.result (returned_record width) inside.buckets.items c.deref-7.result.now one.bucket inside.rooms c.follow_record.new.self (c.deref-7.ensures.value ∙ items ∙ returned) one.at
+    (c.room_of-room.ensures one.bucket (ap (λ (bs : List LinkedBucket). slice_get bs number) c.deref-5.ensures.value ∙ one.at)) c.self.invariant.3 c.follow_record.ensures) in
     let buckets : (with_items (with_items inside.buckets c.return_item.new.buckets) c.drop_idle_end-dropped.new.buckets).items ≡ c.drop_idle_end-dropped.new.buckets =
     with_items_is (with_items inside.buckets c.return_item.new.buckets) c.drop_idle_end-dropped.new.buckets (omega (arith, c.drop_idle_end-dropped.auto.buckets, c.deref_mut-3.ensures.len)) in (
-      subst (AreKnown c.follow_dropped.new.self) c.deref-8.ensures.value c.follow_dropped.ensures,
+      subst (AreKnown c.follow_dropped.new.self) c.deref-9.ensures.value c.follow_dropped.ensures,
       c.forget_where_none.ensures.kept _ (subst (AreSpans c.drop_idle_end-dropped.new.spans) (sym buckets) c.drop_idle_end-dropped.ensures.spans),
       c.forget.ensures _,
       subst (AreCounted c.follow_record.new.self) (sym buckets)

@@ -44,6 +44,10 @@ return_item-returned-requires-clause-few_buckets c =
     let returned = atlas-returned c.self.inside c.args.id c.self.invariant (sym c.is_known.ensures ∙ c.if-not-is_known.false) in
     omega (arith, returned.few_buckets, buckets-returned (tag_of c.args.id).number c.self.inside.store)
 
+pub return_item-returned-requires-clause-widest : goal.return_item-returned-requires-clause-widest
+return_item-returned-requires-clause-widest c =
+    rw c.bucket_number.ensures (atlas-returned c.self.inside c.args.id c.self.invariant (sym c.is_known.ensures ∙ c.if-not-is_known.false)).widest
+
 pub end-end-requires-clause-short : goal.end-end-requires-clause-short
 end-end-requires-clause-short c =
     (after-return c.self.inside c.args.id (item_returned c.bucket_number.result c.self.inside.store) c.return_item-returned.new.self c.bucket_number.result c.return_item-returned.result.dropped c.return_item-returned.result.area

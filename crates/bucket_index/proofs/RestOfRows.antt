@@ -1,0 +1,224 @@
+-- What the rest of a row of buckets can give: how the widest room follows that of each bucket.
+use Rattle.std.proofs.Common.{◌≡◌, ℕ, zero, suc, ◌≤◌, ◌<◌, Bool, true, false, cond, Option, None, Some, List, max, refl, ap, sym, ◌∙◌, arith, ◌==◌}
+use Rattle.std.proofs.lemmas.Bool.{eqb-true}
+use Rattle.std.specs.Option.{option_map_or}
+use Rattle.std.specs.Prelude.{nat_lt, option_map, slice_get}
+use Rattle.etagere_links.specs.Edits.{changed_by}
+use Rattle.etagere_links.proofs.RecordChanges.{get-changed_by, get-changed_by-other}
+use Rattle.bucketed_model.specs.State.{most_buckets}
+use Rattle.bucketed_records.specs.declared.records.LinkedBucket.{LinkedBucket}
+use Rattle.bucketed_records.specs.Private.Store.{record_room}
+use Rattle.bucket_index.specs.declared.rest.Rest.{Rest}
+use Rattle.bucket_index.specs.Private.Rest.{IsRest, full_record}
+use Rattle.bucket_index.specs.Private.Searching.{widest_from}
+
+-- a record has no more room than another, and leads where that does
+pub record IsLess (one other : LinkedBucket) : Type 0 where
+  pub room : record_room one ≤ record_room other
+  pub next : one.next ≡ other.next
+
+-- the same of records that may be there
+abbrev pub IsLessAt : Option LinkedBucket → Option LinkedBucket → Type 0
+IsLessAt None other = other ≡ None
+IsLessAt (Some one) None = ⊥
+IsLessAt (Some one) (Some other) = IsLess one other
+
+-- the widest from a link on is no more where no record has more room
+pub widest-less : (steps : ℕ) (bs cs : List LinkedBucket) (at : Option ℕ) → ((k : ℕ) → IsLessAt (slice_get bs k) (slice_get cs k)) → widest_from steps bs at ≤ widest_from steps cs at
+widest-less zero bs cs at less = omega arith
+widest-less (suc steps) bs cs None less = omega arith
+widest-less (suc steps) bs cs (Some k) less = by_found (λ next. widest-less steps bs cs next less) (slice_get bs k) (slice_get cs k) (less k)
+  where
+    wide : List LinkedBucket → Option LinkedBucket → ℕ
+    wide buckets found = option_map_or (λ (bucket : LinkedBucket). max (record_room bucket) (widest_from steps buckets bucket.next)) found 0
+
+    by_found : ((next : Option ℕ) → widest_from steps bs next ≤ widest_from steps cs next) → (x y : Option LinkedBucket) → IsLessAt x y → wide bs x ≤ wide cs y
+    by_found later None y same = omega arith
+    by_found later (Some x) None never = absurd never
+    by_found later (Some x) (Some y) is =
+        let rest : widest_from steps bs x.next ≤ widest_from steps cs y.next = rw is.next (later y.next) in
+        omega (arith, is.room, rest)
+
+-- a record is no more than itself
+same-at : (o : Option LinkedBucket) → IsLessAt o o
+same-at None = refl
+same-at (Some x) = record { room = omega arith; next = refl }
+
+-- one number is not another
+apart : (k n : ℕ) → k ≡ n → (k == n) ≡ false → ⊥
+apart k n same h = grind arith
+
+-- what is read where an element was changed
+own : (n : ℕ) (f : LinkedBucket → LinkedBucket) (bs : List LinkedBucket) → slice_get (changed_by (Some n) f bs) n ≡ option_map f (slice_get bs n)
+own n f bs = get-changed_by f bs (Some n) n refl
+
+-- what is read elsewhere
+elsewhere : (n k : ℕ) (f : LinkedBucket → LinkedBucket) (bs : List LinkedBucket) → (k == n) ≡ false → slice_get (changed_by (Some n) f bs) k ≡ slice_get bs k
+elsewhere n k f bs e = get-changed_by-other f bs (Some n) k (λ (is : Some n ≡ Some k). let same : k ≡ n = cc in absurd (apart k n same e))
+
+-- no record has more room where that of a number has not, and the others are the same
+less-where : (n : ℕ) (bs cs : List LinkedBucket) → IsLessAt (slice_get bs n) (slice_get cs n) → ((k : ℕ) → (k == n) ≡ false → IsLessAt (slice_get bs k) (slice_get cs k)) → (k : ℕ)
+    → IsLessAt (slice_get bs k) (slice_get cs k)
+less-where n bs cs here there k = by_number (k == n) refl
+  where
+    by_number : (t : Bool) → (k == n) ≡ t → IsLessAt (slice_get bs k) (slice_get cs k)
+    by_number true e = rw (eqb-true k n e) here
+    by_number false e = there k e
+
+-- a full record has no room
+full-room : (x : LinkedBucket) → record_room (full_record x) ≡ 0
+full-room x = by_test 0 refl (nat_lt x.item_count 4095)
+  where
+    by_test : (n : ℕ) → n ≡ 0 → (t : Bool) → cond t n n ≡ 0
+    by_test n none true = none
+    by_test n none false = none
+
+-- a full record leads where it did, and has no more room
+full-less : (o : Option LinkedBucket) → IsLessAt (option_map full_record o) o
+full-less None = refl
+full-less (Some x) = record { room = omega (arith, full-room x); next = refl }
+
+-- the rest of a row can give no more than the row
+pub rest-less : (n : ℕ) (first : Option ℕ) (bs : List LinkedBucket) → widest_from most_buckets (changed_by (Some n) full_record bs) first ≤ widest_from most_buckets bs first
+rest-less n first bs =
+    widest-less most_buckets (changed_by (Some n) full_record bs) bs first
+    (less-where n (changed_by (Some n) full_record bs) bs (rw (own n full_record bs) (full-less (slice_get bs n))) (λ k e. rw (elsewhere n k full_record bs e) (same-at (slice_get bs k))))
+
+-- a width that was, and the one after a bucket of this room was lowered: it is no more, and it is the same unless the
+-- bucket was the widest
+pub record IsLowered (room new old : ℕ) : Type 0 where
+  pub less : new ≤ old
+  pub rest : old ≤ max new room
+
+-- the widest after a bucket was lowered that keeps its link
+pub widest-lowered : (f : LinkedBucket → LinkedBucket) → ((x : LinkedBucket) → (f x).next ≡ x.next) → ((x : LinkedBucket) → record_room (f x) ≤ record_room x) → (steps n : ℕ) (bs : List LinkedBucket) (b : LinkedBucket) (at : Option ℕ) → slice_get bs n ≡ Some b
+    → IsLowered (record_room b) (widest_from steps (changed_by (Some n) f bs) at) (widest_from steps bs at)
+widest-lowered f links lowers zero n bs b at here = record { less = omega arith; rest = omega arith }
+widest-lowered f links lowers (suc steps) n bs b None here = record { less = omega arith; rest = omega arith }
+widest-lowered f links lowers (suc steps) n bs b (Some k) here = by_number (λ next. widest-lowered f links lowers steps n bs b next here) (k == n) refl
+  where
+    after : List LinkedBucket
+    after = changed_by (Some n) f bs
+
+    wide : List LinkedBucket → Option LinkedBucket → ℕ
+    wide buckets found = option_map_or (λ (bucket : LinkedBucket). max (record_room bucket) (widest_from steps buckets bucket.next)) found 0
+
+    other : (found : Option LinkedBucket) → ((next : Option ℕ) → IsLowered (record_room b) (widest_from steps after next) (widest_from steps bs next)) → IsLowered (record_room b) (wide after found) (wide bs found)
+    other None later = record { less = omega arith; rest = omega arith }
+    other (Some c) later = record { less = omega (arith, (later c.next).less); rest = omega (arith, (later c.next).rest) }
+
+    by_number : ((next : Option ℕ) → IsLowered (record_room b) (widest_from steps after next) (widest_from steps bs next)) → (t : Bool) → (k == n) ≡ t
+        → IsLowered (record_room b) (wide after (slice_get after k)) (wide bs (slice_get bs k))
+    by_number later true e =
+        let old : slice_get bs k ≡ Some b = ap (slice_get bs) (eqb-true k n e) ∙ here in
+        let new : slice_get after k ≡ Some (f b) = ap (slice_get after) (eqb-true k n e) ∙ own n f bs ∙ ap (option_map f) here in
+        let lead : widest_from steps after (f b).next ≡ widest_from steps after b.next = ap (widest_from steps after) (links b) in
+        rw (old, new) (record { less = omega (arith, (later b.next).less, lowers b, lead); rest = omega (arith, (later b.next).rest, lowers b, lead) })
+    by_number later false e = rw (elsewhere n k f bs e) (other (slice_get bs k) later)
+
+-- a row can give no more than its rest or the bucket beside that
+pub rest-beside : (n : ℕ) (first : Option ℕ) (bs : List LinkedBucket) (b : LinkedBucket) → slice_get bs n ≡ Some b
+    → widest_from most_buckets bs first ≤ max (widest_from most_buckets (changed_by (Some n) full_record bs) first) (record_room b)
+rest-beside n first bs b here = (widest-lowered full_record (λ x. refl) (λ x. omega (arith, full-room x)) most_buckets n bs b first here).rest
+
+-- what a row can give, where the bucket beside what is known of its rest has this room
+pub record IsWidestBy (rest : Rest) (room widest : ℕ) : Type 0 where
+  pub own : rest.most ≤ room → room ≡ widest
+  pub others : rest.is_exact ≡ true → room < rest.most → rest.most ≡ widest
+
+-- what is known beside a bucket by the widest of all
+pub rest-learned : (rest : Rest) (bs : List LinkedBucket) (b : LinkedBucket) → slice_get bs rest.bucket ≡ Some b → widest_from most_buckets bs rest.first ≡ rest.most
+    → (rest.is_exact ≡ true → record_room b < rest.most) → IsRest rest bs
+rest-learned rest bs b here widest exact =
+    let less = rest-less rest.bucket rest.first bs in
+    let beside = rest-beside rest.bucket rest.first bs b here in
+    record {
+      most = omega (arith, less, widest);
+      exact = λ is. omega (arith, less, widest, beside, exact is);
+    }
+
+-- records that lead to the same
+abbrev Alike : Option LinkedBucket → Option LinkedBucket → Type 0
+Alike None o = o ≡ None
+Alike (Some x) None = ⊥
+Alike (Some x) (Some y) = x.next ≡ y.next
+
+-- a changed record leads where it did, where the change keeps links
+alike-changed : (f : LinkedBucket → LinkedBucket) → ((x : LinkedBucket) → (f x).next ≡ x.next) → (o : Option LinkedBucket) → Alike (option_map f o) o
+alike-changed f links None = refl
+alike-changed f links (Some x) = links x
+
+-- the other way round
+alike-back : (x y : Option LinkedBucket) → Alike x y → Alike y x
+alike-back None y same = rw same refl
+alike-back (Some x) None never = absurd never
+alike-back (Some x) (Some y) same = sym same
+
+-- full records have the same room
+left-out : (x y : Option LinkedBucket) → Alike x y → IsLessAt (option_map full_record x) (option_map full_record y)
+left-out None y same = rw same refl
+left-out (Some x) None never = absurd never
+left-out (Some x) (Some y) same = record { room = omega (arith, full-room x, full-room y); next = same }
+
+-- the rest of a row can give no more where none of its buckets can, which all keep their links
+beside-less : (n : ℕ) (first : Option ℕ) (bs cs : List LinkedBucket) → Alike (slice_get bs n) (slice_get cs n) → ((k : ℕ) → (k == n) ≡ false → IsLessAt (slice_get bs k) (slice_get cs k))
+    → widest_from most_buckets (changed_by (Some n) full_record bs) first ≤ widest_from most_buckets (changed_by (Some n) full_record cs) first
+beside-less n first bs cs here there =
+    widest-less most_buckets (changed_by (Some n) full_record bs) (changed_by (Some n) full_record cs) first
+    (less-where n (changed_by (Some n) full_record bs) (changed_by (Some n) full_record cs)
+    (rw (own n full_record bs, own n full_record cs) (left-out (slice_get bs n) (slice_get cs n) here))
+    (λ k e. rw (elsewhere n k full_record bs e, elsewhere n k full_record cs e) (there k e)))
+
+-- the rest can give as much where the bucket beside it changed, which keeps its link
+pub rest-same : (n : ℕ) (f : LinkedBucket → LinkedBucket) (first : Option ℕ) (bs : List LinkedBucket) → ((x : LinkedBucket) → (f x).next ≡ x.next)
+    → widest_from most_buckets (changed_by (Some n) full_record (changed_by (Some n) f bs)) first ≡ widest_from most_buckets (changed_by (Some n) full_record bs) first
+rest-same n f first bs links =
+    let here : Alike (slice_get (changed_by (Some n) f bs) n) (slice_get bs n) = rw (own n f bs) (alike-changed f links (slice_get bs n)) in
+    omega (
+      arith,
+      beside-less n first (changed_by (Some n) f bs) bs here (λ k e. rw (elsewhere n k f bs e) (same-at (slice_get bs k))),
+      beside-less n first bs (changed_by (Some n) f bs) (alike-back _ _ here) (λ k e. rw (elsewhere n k f bs e) (same-at (slice_get bs k))),
+    )
+
+-- the rest can give no more where a bucket has no more room, and keeps its link
+pub rest-lowered : (m n : ℕ) (f : LinkedBucket → LinkedBucket) (first : Option ℕ) (bs : List LinkedBucket) → ((x : LinkedBucket) → (f x).next ≡ x.next) → ((x : LinkedBucket) → record_room (f x) ≤ record_room x)
+    → widest_from most_buckets (changed_by (Some n) full_record (changed_by (Some m) f bs)) first ≤ widest_from most_buckets (changed_by (Some n) full_record bs) first
+rest-lowered m n f first bs links lowers =
+    beside-less n first (changed_by (Some m) f bs) bs (linked (slice_get (changed_by (Some m) f bs) n) (slice_get bs n) (lowered n)) (λ k e. lowered k)
+  where
+    linked : (x y : Option LinkedBucket) → IsLessAt x y → Alike x y
+    linked None y less = less
+    linked (Some x) None less = less
+    linked (Some x) (Some y) less = less.next
+
+    one : (o : Option LinkedBucket) → IsLessAt (option_map f o) o
+    one None = refl
+    one (Some x) = record { room = lowers x; next = links x }
+
+    lowered : (k : ℕ) → IsLessAt (slice_get (changed_by (Some m) f bs) k) (slice_get bs k)
+    lowered k = by_number (k == m) refl
+      where
+        by_number : (t : Bool) → (k == m) ≡ t → IsLessAt (slice_get (changed_by (Some m) f bs) k) (slice_get bs k)
+        by_number true e = rw (eqb-true k m e, own m f bs) (one (slice_get bs m))
+        by_number false e = rw (elsewhere m k f bs e) (same-at (slice_get bs k))
+
+-- what a row can give by what is known of its rest: the bucket beside that where it can give at least as much
+pub widest-known : (n : ℕ) (rest : Rest) (bs : List LinkedBucket) (b : LinkedBucket) (first : Option ℕ) → slice_get bs n ≡ Some b → n ≡ rest.bucket → first ≡ rest.first → record_room b ≤ widest_from most_buckets bs first
+    → IsRest rest bs → IsWidestBy rest (record_room b) (widest_from most_buckets bs first)
+widest-known n rest bs b first here same leads one known =
+    let row : widest_from most_buckets bs first ≡ widest_from most_buckets bs rest.first = ap (widest_from most_buckets bs) leads in
+    let less = rest-less rest.bucket rest.first bs in
+    let beside = rest-beside rest.bucket rest.first bs b (ap (slice_get bs) (sym same) ∙ here) in
+    record {
+      own = λ more. omega (arith, row, beside, known.most, more, one);
+      others = λ is more. omega (arith, row, less, beside, known.exact is, more);
+    }
+
+-- what is known stays known where the bucket beside the rest changed, which keeps its link
+pub known-beside : (f : LinkedBucket → LinkedBucket) (rest : Rest) (bs : List LinkedBucket) → ((x : LinkedBucket) → (f x).next ≡ x.next) → IsRest rest bs → IsRest rest (changed_by (Some rest.bucket) f bs)
+known-beside f rest bs links known =
+    let same = rest-same rest.bucket f rest.first bs links in
+    record {
+      most = omega (arith, same, known.most);
+      exact = λ is. omega (arith, same, known.exact is);
+    }
