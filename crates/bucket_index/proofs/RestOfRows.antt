@@ -124,17 +124,17 @@ rest-beside n first bs b here = (widest-lowered full_record (λ x. refl) (λ x. 
 -- what a row can give, where the bucket beside what is known of its rest has this room
 pub record IsWidestBy (rest : Rest) (room widest : ℕ) : Type 0 where
   pub own : rest.most ≤ room → room ≡ widest
-  pub others : rest.is_exact ≡ true → room < rest.most → rest.most ≡ widest
+  pub others : rest.room < rest.most → room < rest.most → rest.most ≡ widest
 
 -- what is known beside a bucket by the widest of all
 pub rest-learned : (rest : Rest) (bs : List LinkedBucket) (b : LinkedBucket) → slice_get bs rest.bucket ≡ Some b → widest_from most_buckets bs rest.first ≡ rest.most
-    → (rest.is_exact ≡ true → record_room b < rest.most) → IsRest rest bs
-rest-learned rest bs b here widest exact =
+    → rest.room ≡ record_room b → IsRest rest bs
+rest-learned rest bs b here widest room =
     let less = rest-less rest.bucket rest.first bs in
     let beside = rest-beside rest.bucket rest.first bs b here in
     record {
       most = omega (arith, less, widest);
-      exact = λ is. omega (arith, less, widest, beside, exact is);
+      exact = λ more. omega (arith, less, widest, beside, room, more);
     }
 
 -- records that lead to the same

@@ -18,12 +18,12 @@ use etagere_links::Link;
 /// others can give.
 #[derive(Clone, Copy)]
 pub struct Rest {
-    pub first: Link,
     pub bucket: usize,
+    pub first: Link,
     /// None of the others can give more.
     pub most: u16,
-    /// Whether one of the others can give as much.
-    pub is_exact: bool,
+    /// One of the others can give as much as the most, if that is more than this.
+    pub room: u16,
 }
 
 impl Rest {
@@ -32,10 +32,10 @@ impl Rest {
         ensures { (buckets : List LinkedBucket) → spec.IsRest result buckets }
     {
         Rest {
-            first: Link::none(),
             bucket: usize::from(u16::MAX),
+            first: Link::none(),
             most: 0,
-            is_exact: false,
+            room: 0,
         }
     }
 
@@ -44,7 +44,7 @@ impl Rest {
         ensures { (buckets : List LinkedBucket) → spec.IsRest self.new buckets }
     {
         self.first = Link::none();
-        self.is_exact = false;
+        self.most = 0;
     }
 
     /// Knows that the bucket of a number gave an item, so that the rest may not be able to give as much any more.
@@ -54,7 +54,7 @@ impl Rest {
             → spec.IsRest self.new buckets }
     {
         if bucket != self.bucket {
-            self.is_exact = false;
+            self.room = self.most;
         }
     }
 
@@ -71,7 +71,7 @@ impl Rest {
         let room = record_room(&buckets[bucket]);
         if room >= self.most {
             Some(room)
-        } else if self.is_exact {
+        } else if self.room < self.most {
             Some(self.most)
         } else {
             None
@@ -86,10 +86,10 @@ impl Rest {
             → widest_from most_buckets buckets first ≡ widest → spec.IsRest self.new buckets }
     {
         *self = Rest {
-            first,
             bucket,
+            first,
             most: widest,
-            is_exact: room < widest,
+            room,
         };
     }
 

@@ -501,32 +501,42 @@ impl Spans {
         ensures { spec.AreSpans self.new buckets.now }
     {
         if self.are_learned {
-            let room = record_room(&buckets[number]);
-            let change = Change {
-                number,
-                before,
-                room,
-            };
-            if self.was_widened(number) {
-                self.bound_again(&change);
-            } else {
-                self.track_change(buckets, &change);
-            }
+            self.track_learned(buckets, number, before);
+        }
+    }
+
+    /// The same where spans are learned.
+    #[inline(always)]
+    fn track_learned(&mut self, buckets: &[LinkedBucket], number: usize, before: u16)
+        requires within { number < length buckets.now }
+        requires others { spec.AreLearnedExcept number self.old buckets.now }
+        ensures { spec.AreLearned self.new buckets.now }
+    {
+        let room = record_room(&buckets[number]);
+        if self.was_widened(number) {
+            self.bound_again(number, room);
+        } else {
+            self.track_change(buckets, number, before, room);
         }
     }
 
     /// Knows a record whose room changed, and that wasn't widened last.
     #[inline(never)]
-    fn track_change(&mut self, buckets: &[LinkedBucket], change: &Change)
-        requires number { change.now.number < length buckets.now }
-        requires room { spec.room_at buckets.now change.now.number ≤ change.now.room }
-        requires others { spec.AreLearnedExcept change.now.number self.old buckets.now }
+    fn track_change(&mut self, buckets: &[LinkedBucket], number: usize, before: u16, room: u16)
+        requires number { number < length buckets.now }
+        requires room { spec.room_at buckets.now number ≤ room }
+        requires others { spec.AreLearnedExcept number self.old buckets.now }
         ensures { spec.AreLearned self.new buckets.now }
     {
-        if change.before <= change.room {
-            self.widen(change);
+        let change = Change {
+            number,
+            before,
+            room,
+        };
+        if before <= room {
+            self.widen(&change);
         } else {
-            self.narrow(buckets, change);
+            self.narrow(buckets, &change);
         }
     }
 
@@ -560,21 +570,20 @@ impl Spans {
 
     /// Knows the record that was widened last, whose room changed again: what others have is known.
     #[inline(always)]
-    fn bound_again(&mut self, change: &Change)
-        requires last { self.old.others.number ≡ change.now.number }
-        requires some { change.now.number < no_link }
+    fn bound_again(&mut self, number: usize, room: u16)
+        requires last { self.old.others.number ≡ number }
+        requires some { number < no_link }
         ensures { (buckets : List LinkedBucket)
-            → spec.room_at buckets change.now.number ≤ change.now.room
-            → spec.AreKnownSpansExcept change.now.number self.old buckets
+            → spec.room_at buckets number ≤ room
+            → spec.AreKnownSpansExcept number self.old buckets
             → spec.AreOthers self.old buckets → spec.AreLearned self.new buckets }
     {
-        let room = change.room;
         let small = self.others.small.max(room);
         let middle = self.others.middle.max(room);
         let large = self.others.large.max(room);
-        bound_span(&mut self.small, block_of(SMALL, change.number), small);
-        bound_span(&mut self.middle, block_of(MIDDLE, change.number), middle);
-        bound_span(&mut self.large, block_of(LARGE, change.number), large);
+        bound_span(&mut self.small, block_of(SMALL, number), small);
+        bound_span(&mut self.middle, block_of(MIDDLE, number), middle);
+        bound_span(&mut self.large, block_of(LARGE, number), large);
     }
 
     /// Knows a record that may have less room now. Never inlined, so that one that has more doesn't carry it.

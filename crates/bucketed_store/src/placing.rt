@@ -4,6 +4,7 @@
 
 ghost use Rattle.std.specs.Prelude.{◌≡◌, ◌<◌, ◌^◌, IsTrue};
 ghost use Rattle.std.specs.Option.{option_map};
+ghost use Rattle.bucketed_model.specs.Adding.{can_add};
 ghost use Rattle.bucketed_model.specs.Frames.{IsBucketedFrame};
 ghost use Rattle.bucket_index.specs.Private.Blocks.{AreKnown};
 ghost use Rattle.bucket_index.specs.Private.Heights.{AreBelow};
@@ -109,6 +110,28 @@ fn placement_in(
     if let Some(found) = pick(adds, sides, shelves, buckets, blocks, spans, rooms, heights) {
         return Some(Placement::InBucket(found));
     }
+    placement_elsewhere(adds, frame, left, sides, shelves, blocks)
+}
+
+/// The placement of these sides where no bucket is picked, by whether shelves can be added. A part of its own, so that what
+/// it is found in is made ready only then.
+#[inline(always)]
+fn placement_elsewhere(
+    adds: bool,
+    frame: &Frame,
+    left: &Remaining,
+    sides: &Sides,
+    shelves: &[KeptShelf],
+    blocks: &Blocks,
+) -> Option<Placement>
+    requires frame { IsBucketedFrame frame.now }
+    requires across { (0 < sides.now.across) × (sides.now.across < 2 ^ 31) }
+    requires column { left.now.column < 2 ^ 31 }
+    requires adds { adds ≡ can_add frame.now left.now sides.now.across }
+    requires known { AreKnown blocks.now shelves.now }
+    ensures { option_map spec.placement_seen result
+        ≡ spec.kept_elsewhere adds frame.now left.now sides.now shelves.now }
+{
     if adds {
         return Some(Placement::InAdded(new_shelves(frame, left, sides)));
     }

@@ -371,13 +371,13 @@ impl Store {
         let area = returned_area(&self.shelves, &self.buckets, number);
         let shelf = shelf_number(&self.buckets, number);
         let before = known_of(&self.shelves[shelf]);
-        let first = first_bucket(&self.shelves, shelf);
         let room = room_of(&self.buckets, number);
         return_item(&mut self.shelves, &mut self.buckets, number);
         self.spans.track(&self.buckets, number, room);
         self.rooms.follow_record(&self.buckets, number, room);
         if !ends_idle(&self.shelves) {
             self.blocks.follow(&self.shelves, shelf, before);
+            let first = first_bucket(&self.shelves, shelf);
             self.rest.know(first, number, room, before.widest_room);
             return Returned {
                 area,

@@ -16,7 +16,17 @@ use crate::choosing::{Candidate, NO_NUMBER, Searched, rank_of, search_free_list}
 use etagere_links::Link;
 use shelf_records::{LinkedShelf, Records};
 
-/// What the first shelf of least rank offers. Never inlined, so that a search by height doesn't carry it.
+/// What the first shelf of least rank offers. A part of its own, so that what it is found in is made ready only for it.
+#[inline(always)]
+pub(crate) fn best_by_place(records: &Records, width: u32, height: u32) -> Option<Candidate>
+    requires linked { IsLinked records.now (walked_lists records.now) }
+    requires short { height ≤ longest_side }
+    ensures { result ≡ searching.best_candidate records.now width height }
+{
+    first_of_least_rank(records, width, height)
+}
+
+/// The same. Never inlined, so that a search by height doesn't carry it.
 #[inline(never)]
 pub(crate) fn first_of_least_rank(records: &Records, width: u32, height: u32) -> Option<Candidate>
     requires linked { IsLinked records.now (walked_lists records.now) }

@@ -26,7 +26,7 @@ ghost use Rattle.shelf_search.specs.Private.Searching as searching;
 ghost use Rattle.shelf_search.specs.Private.Searching.{AreTooTall, IsFirstGood};
 ghost use Rattle.shelf_model.specs.State as state;
 
-use crate::by_place::first_of_least_rank;
+use crate::by_place::best_by_place;
 use etagere_base::{Frame, Sides, Size, asked, step};
 use shelf_heights::by_height::{BoundedShelf, ShelvesByHeight};
 use shelf_heights::heights::{chain_order_of, first_as_tall};
@@ -170,7 +170,7 @@ fn lowest_ranked(
     if follows {
         best_candidate(records, by_height, frame.column_width, width, height)
     } else {
-        first_of_least_rank(records, width, height)
+        best_by_place(records, width, height)
     }
 }
 

@@ -1,5 +1,5 @@
 -- What is known of the rest of a row of buckets.
-use Rattle.std.specs.Prelude.{ℕ, ◌≡◌, ◌≤◌, true, Some, List}
+use Rattle.std.specs.Prelude.{ℕ, ◌≡◌, ◌<◌, ◌≤◌, Some, List}
 use Rattle.etagere_links.specs.Edits.{changed_by}
 use Rattle.bucketed_model.specs.State.{most_buckets}
 use Rattle.bucketed_records.specs.declared.records.LinkedBucket.{LinkedBucket}
@@ -19,7 +19,7 @@ widest_of_rest rest buckets =
 abbrev pub IsAtMost : Rest → List LinkedBucket → Type 0
 IsAtMost rest buckets = widest_of_rest rest buckets ≤ rest.most
 
--- the same, and just that where it is said
+-- the same, and just that where it is more than the room that was left out
 pub record IsRest (rest : Rest) (buckets : List LinkedBucket) : Type 0 where
   pub most : IsAtMost rest buckets
-  pub exact : rest.is_exact ≡ true → widest_of_rest rest buckets ≡ rest.most
+  pub exact : rest.room < rest.most → widest_of_rest rest buckets ≡ rest.most

@@ -58,12 +58,16 @@ abbrev pub serves_at : Sides → ℕ → List KeptShelf → Bool
 serves_at sides others [] = false
 serves_at sides others (kept ∷ shelves) = kept_serves sides others kept shelves
 
--- the placement of these sides: the bucket that is picked, else shelves to be added, else shelves to
--- be merged
+-- the placement of these sides where no bucket is picked: shelves to be added, else shelves to be merged
+abbrev pub kept_elsewhere : Bool → Frame → Remaining → Sides → List KeptShelf → Option Placement
+kept_elsewhere adds frame left sides shelves =
+    if adds then Some (InAdded (new_shelves frame left sides))
+    else option_map InMerged (kept_mergeable sides 0 shelves)
+
+-- the placement of these sides: the bucket that is picked, else one elsewhere
 abbrev pub kept_placement : Frame → Remaining → Sides → List KeptShelf → List LinkedBucket → Option Placement
 kept_placement frame left sides shelves buckets =
     let adds = can_add frame left sides.across in
     or_else
     (option_map InBucket (picked adds sides shelves buckets))
-    (if adds then Some (InAdded (new_shelves frame left sides))
-    else option_map InMerged (kept_mergeable sides 0 shelves))
+    (kept_elsewhere adds frame left sides shelves)

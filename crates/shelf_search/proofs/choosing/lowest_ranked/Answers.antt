@@ -22,8 +22,8 @@ best_candidate-requires-clause-column c =
 pub best_candidate-requires-clause-linked : goal.best_candidate-requires-clause-linked
 best_candidate-requires-clause-linked c = (witnesses c.requires.kept).linked
 
-pub first_of_least_rank-requires-clause-linked : goal.first_of_least_rank-requires-clause-linked
-first_of_least_rank-requires-clause-linked c = (witnesses c.requires.kept).linked
+pub best_by_place-requires-clause-linked : goal.best_by_place-requires-clause-linked
+best_by_place-requires-clause-linked c = (witnesses c.requires.kept).linked
 
 pub returns-then-follows-clause-value : goal.returns-then-follows-clause-value
 returns-then-follows-clause-value c =

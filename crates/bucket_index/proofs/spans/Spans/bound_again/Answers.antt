@@ -5,8 +5,8 @@ use Rattle.bucket_index.proofs.spans.Spans.bound_again.Goals as goal
 
 pub returns : goal.returns
 returns c buckets narrow but others =
-    let one = c.args.change.now.number in
-    let room = c.args.change.now.room in
+    let one = c.args.number in
+    let room = c.args.room in
     let self = c.args.self.now in
     let last = self.others.number in
     let bounds = others (omega (arith, c.requires.last, c.requires.some)) in
