@@ -34,6 +34,13 @@ def full_shelf(position):
     return filling, goes_and_comes([position] * ROUNDS, len(filling) - 1, "a 16 1")
 
 
+def little_left(buckets):
+    """A row of buckets 64 wide, in each of which 4 are left, and of which any goes and comes."""
+    chooser = random.Random(3)
+    filling = [f"bucketed {64 * buckets} 4 1 1 1 h", "a 4 4"] + ["a 60 4"] * buckets
+    return filling, goes_and_comes([1 + chooser.randrange(buckets) for _ in range(ROUNDS)], len(filling) - 1, "a 60 4")
+
+
 def whole_shelf(_program):
     """The only item of a shelf of 4095 buckets, which is added with it and dropped with it."""
     return ["bucketed 65534 1 1 1 1 h"], comes_and_goes(0, "a 1 1")
@@ -117,6 +124,9 @@ ROWS = {
     "the same, added with its only item and dropped with it": Row(whole_shelf),
     # What the crate takes here was counted with plain geometry types in place of its own.
     "a shelf of 512, the same": Row(shelf_alone, 9679, before=10321),
+    # Counted likewise, as the next one.
+    "a shelf of 16 buckets with a little left: any goes and comes": Row(lambda _: little_left(16), 218, before=386),
+    "a shelf of 64, the same": Row(lambda _: little_left(64), 381, before=923),
     "4095 full shelves: the first goes and comes": Row(first_goes, 158, before=26829),
     "the same, any": Row(any_goes, 49080, before=26829, most=MOST),
     "the same, a refused size": Row(refused, 311351, before=82013, most=MOST),

@@ -368,38 +368,56 @@ known-at k before blocks shelves at known counts = own (known.counted counts)
       beside = λ some. counted.others some k before tt at;
     }
 
--- shelves of two small blocks are known to what was counted of these
-pub known-counted : (first second : Block) (blocks : Blocks) (shelves : List KeptShelf) → length shelves ≤ 16
-    → ((number : ℕ) (kept : KeptShelf) → 0 ≤ number → number < 0 + 8 → slice_get shelves number ≡ Some kept → IsKnown kept first)
-    → ((number : ℕ) (kept : KeptShelf) → 8 ≤ number → number < 8 + 8 → slice_get shelves number ≡ Some kept → IsKnown kept second)
-    → AreKnownOf (λ n. Unit {0}) 8 (changed_by (Some 1) (λ _. second) (changed_by (Some 0) (λ _. first) blocks.small)) shelves
-    × AreKnownOf (λ n. Unit {0}) 64 (changed_by (Some 0) (λ _. joined first second) blocks.middle) shelves
-    × AreKnownOf (λ n. Unit {0}) 512 (changed_by (Some 0) (λ _. joined first second) blocks.large) shelves
-known-counted first second blocks shelves few low high = (small, whole 64 blocks.middle (λ number below. omega (arith, below)), whole 512 blocks.large (λ number below. omega (arith, below)))
+-- a shelf of a block of a number is known to what was counted of that
+abbrev pub IsCounted : ℕ → Block → List KeptShelf → Type 0
+IsCounted n block shelves = (number : ℕ) (kept : KeptShelf) → 8 * n ≤ number → number < 8 * n + 8 → slice_get shelves number ≡ Some kept → IsKnown kept block
+
+-- shelves of three small blocks are known to what was counted of these
+pub known-counted : (first second third : Block) (blocks : Blocks) (shelves : List KeptShelf) → length shelves ≤ 24 → IsCounted 0 first shelves → IsCounted 1 second shelves → IsCounted 2 third shelves
+    → AreKnownOf (λ n. Unit {0}) 8 (changed_by (Some 2) (λ _. third) (changed_by (Some 1) (λ _. second) (changed_by (Some 0) (λ _. first) blocks.small))) shelves
+    × AreKnownOf (λ n. Unit {0}) 64 (changed_by (Some 0) (λ _. joined (joined first second) third) blocks.middle) shelves
+    × AreKnownOf (λ n. Unit {0}) 512 (changed_by (Some 0) (λ _. joined (joined first second) third) blocks.large) shelves
+known-counted first second third blocks shelves few low next high = (small, whole 64 blocks.middle (λ number below. omega (arith, below)), whole 512 blocks.large (λ number below. omega (arith, below)))
   where
-    small : AreKnownOf (λ n. Unit {0}) 8 (changed_by (Some 1) (λ _. second) (changed_by (Some 0) (λ _. first) blocks.small)) shelves
+    all : Block
+    all = joined (joined first second) third
+
+    small : AreKnownOf (λ n. Unit {0}) 8 (changed_by (Some 2) (λ _. third) (changed_by (Some 1) (λ _. second) (changed_by (Some 0) (λ _. first) blocks.small))) shelves
     small number kept block any at in_block =
         let within = slice_get_within shelves number kept at in
-        read-changed (λ _. second) (changed_by (Some 0) (λ _. first) blocks.small) 1 (block_of 8 number) block in_block
+        read-changed (λ _. third) (changed_by (Some 1) (λ _. second) (changed_by (Some 0) (λ _. first) blocks.small)) 2 (block_of 8 number) block in_block
         (λ z stood same is. subst (IsKnown kept) (sym is) (high number kept (omega (arith, same)) (omega (arith, within, few)) at))
+        (λ past there.
+        read-changed (λ _. second) (changed_by (Some 0) (λ _. first) blocks.small) 1 (block_of 8 number) block there
+        (λ z stood same is. subst (IsKnown kept) (sym is) (next number kept (omega (arith, same)) (omega (arith, same)) at))
         (λ apart stood.
         read-changed (λ _. first) blocks.small 0 (block_of 8 number) block stood
-        (λ z stood same is. subst (IsKnown kept) (sym is) (low number kept (omega arith) (omega (arith, same)) at)) (λ other stood. absurd (omega (arith, apart, other, within, few))))
+        (λ z stood same is. subst (IsKnown kept) (sym is) (low number kept (omega arith) (omega (arith, same)) at)) (λ other stood. absurd (omega (arith, past, apart, other, within, few)))))
 
-    both : (number : ℕ) (kept : KeptShelf) → slice_get shelves number ≡ Some kept → IsKnown kept (joined first second)
-    both number kept at = by_low (nat_le 8 number) refl
+    -- what is known of a part is known of all
+    same : (block : Block) → IsPart block block
+    same block = record { room = omega arith; idle = λ h. h }
+
+    any : (number : ℕ) (kept : KeptShelf) → slice_get shelves number ≡ Some kept → IsKnown kept all
+    any number kept at = by_half (nat_le 16 number) refl
       where
-        by_low : (t : Bool) → nat_le 8 number ≡ t → IsKnown kept (joined first second)
-        by_low true e =
-            let within = slice_get_within shelves number kept at in
-            known-part kept second (joined first second) (high number kept (leb-true 8 number e) (omega (arith, within, few)) at) (part-own first second)
-        by_low false e =
-            let same : IsPart first first = record { room = omega arith; idle = λ h. h } in
-            known-part kept first (joined first second) (low number kept (omega arith) (omega (arith, leb-false 8 number e)) at) (part-still first first second same)
+        by_low : (t : Bool) → nat_le 8 number ≡ t → number < 16 → IsKnown kept all
+        by_low true e below =
+            known-part kept second all (next number kept (leb-true 8 number e) (omega (arith, below)) at)
+            (part-still second (joined first second) third (part-own first second))
+        by_low false e below =
+            known-part kept first all (low number kept (omega arith) (omega (arith, leb-false 8 number e)) at)
+            (part-still first (joined first second) third (part-still first first second (same first)))
 
-    whole : (size : ℕ) (bs : List Block) → ((number : ℕ) → number < 16 → block_of size number ≡ 0) → AreKnownOf (λ n. Unit {0}) size (changed_by (Some 0) (λ _. joined first second) bs) shelves
-    whole size bs zero_ number kept block any at in_block =
-        read-changed (λ _. joined first second) bs 0 (block_of size number) block in_block (λ z stood same is. subst (IsKnown kept) (sym is) (both number kept at))
+        by_half : (t : Bool) → nat_le 16 number ≡ t → IsKnown kept all
+        by_half true e =
+            let within = slice_get_within shelves number kept at in
+            known-part kept third all (high number kept (omega (arith, leb-true 16 number e)) (omega (arith, within, few)) at) (part-own (joined first second) third)
+        by_half false e = by_low (nat_le 8 number) refl (omega (arith, leb-false 16 number e))
+
+    whole : (size : ℕ) (bs : List Block) → ((number : ℕ) → number < 24 → block_of size number ≡ 0) → AreKnownOf (λ n. Unit {0}) size (changed_by (Some 0) (λ _. all) bs) shelves
+    whole size bs zero_ number kept block such at in_block =
+        read-changed (λ _. all) bs 0 (block_of size number) block in_block (λ z stood is_first is. subst (IsKnown kept) (sym is) (any number kept at))
         (λ apart stood. absurd (apart (zero_ number (omega (arith, slice_get_within shelves number kept at, few)))))
 
 -- a busy shelf with no more room than it had is known where it was

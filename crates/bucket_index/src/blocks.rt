@@ -14,6 +14,9 @@ use bucketed_records::records::KeptShelf;
 /// How many shelves stand in a small block.
 pub const SHELVES_OF_BLOCK: usize = 8;
 
+/// So many shelves are gone through without blocks.
+pub const FEW_SHELVES: usize = 2 * SHELVES_OF_BLOCK;
+
 /// How many blocks stand in one of the next size.
 const PARTS_OF_BLOCK: usize = 8;
 
@@ -282,7 +285,7 @@ impl Blocks {
             known.expect(kept.shelf.height);
             known.raise(number, kept);
         }
-        known.are_counted = SHELVES_OF_BLOCK < shelves.len();
+        known.are_counted = FEW_SHELVES < shelves.len();
         known
     }
 
@@ -610,7 +613,7 @@ impl Blocks {
         }
     }
 
-    /// Knows the last shelf beside the others. Where it is one more than a small block has, all are counted.
+    /// Knows the last shelf beside the others. Where it is one more than a few, all are counted.
     pub fn add_last(&mut self, shelves: &[KeptShelf])
         requires some { 0 < length shelves.now }
         requires others { spec.AreOthersKnown (length shelves.now - 1) self.old shelves.now }
@@ -619,25 +622,27 @@ impl Blocks {
         let last = shelves.len() - 1;
         if self.are_counted {
             self.raise_beside(shelves, last, 0);
-        } else if last == SHELVES_OF_BLOCK {
+        } else if last == FEW_SHELVES {
             self.count(shelves);
         }
     }
 
-    /// Knows all shelves, no more than stand in two small blocks.
+    /// Knows all shelves, no more than stand in three small blocks.
     #[inline(never)]
     fn count(&mut self, shelves: &[KeptShelf])
-        requires few { length shelves.now ≤ 16 }
+        requires few { length shelves.now ≤ 24 }
         requires steps { self.old.in_steps ≡ true → spec.AreInSteps shelves.now }
         ensures { spec.AreKnown self.new shelves.now }
     {
         let first = counted(shelves, 0);
         let second = counted(shelves, SHELVES_OF_BLOCK);
-        let both = joined(first, second);
+        let third = counted(shelves, 2 * SHELVES_OF_BLOCK);
+        let all = joined(joined(first, second), third);
         set_block(&mut self.small, 0, first);
         set_block(&mut self.small, 1, second);
-        set_block(&mut self.middle, 0, both);
-        set_block(&mut self.large, 0, both);
+        set_block(&mut self.small, 2, third);
+        set_block(&mut self.middle, 0, all);
+        set_block(&mut self.large, 0, all);
         self.others = NO_OTHERS;
         self.is_late = false;
         self.are_counted = true;

@@ -7,7 +7,7 @@ ghost use Rattle.std.specs.Prelude.{◌≡◌, ◌-◌, ◌<◌, ◌≤◌, ◌^
 ghost use Rattle.etagere_links.specs.Edits.{changed_by};
 ghost use Rattle.bucket_index.specs.Private.Heights as spec;
 
-use crate::blocks::{SHELVES_OF_BLOCK, end_of};
+use crate::blocks::{FEW_SHELVES, end_of};
 use bucketed_records::records::KeptShelf;
 
 /// How many shelves stand in a small block.
@@ -65,7 +65,7 @@ impl Heights {
         ensures { spec.AreBelow result shelves.now }
     {
         let mut heights = Heights::new();
-        if SHELVES_OF_BLOCK < shelves.len() {
+        if FEW_SHELVES < shelves.len() {
             heights.learn(shelves);
         }
         heights
@@ -109,7 +109,7 @@ impl Heights {
         if self.are_known {
             let kept = &shelves[last];
             self.add(last, kept.shelf.height);
-        } else if last == SHELVES_OF_BLOCK {
+        } else if last == FEW_SHELVES {
             self.learn(shelves);
         }
     }

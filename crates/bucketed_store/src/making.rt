@@ -210,7 +210,8 @@ fn make_rest(
     first
 }
 
-/// Makes so many buckets from left to right, each in front of the one before, and answers the link to the last.
+/// Makes so many buckets from left to right, each in front of the one before, and answers the link to the last. Most shelves
+/// have one.
 #[inline(always)]
 pub(crate) fn make_buckets(
     buckets: &mut Vec<LinkedBucket>,
@@ -247,6 +248,9 @@ pub(crate) fn make_buckets(
     *unused = left;
     if rest == 0 {
         return first;
+    }
+    if rest == 1 {
+        return make_bucket(buckets, spans, unused, first, &here);
     }
     make_rest(buckets, spans, unused, first, &here, rest)
 }

@@ -736,7 +736,7 @@ fn goes_far(
 }
 
 /// Beyond so many buckets a search is worth spans.
-const FAR: u32 = 64;
+const FAR: u32 = 256;
 
 /// Whether more buckets this wide than a search is worth lie between two places.
 fn is_far(from: u32, to: u32, width: u16) -> bool {

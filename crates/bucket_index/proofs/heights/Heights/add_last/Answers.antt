@@ -14,8 +14,8 @@ returns-then-self c = λ known.
     rw c.add.ensures
     (subst (AreAllBelow (with_height last one.shelf.height c.args.self.now)) all (below-next c.args.self.now shelves last one within c.index-shelves-last.is (c.requires.others c.if-self.true)))
 
-pub returns-then-last-eq-SHELVES_OF_BLOCK : goal.returns-then-last-eq-SHELVES_OF_BLOCK
-returns-then-last-eq-SHELVES_OF_BLOCK c = λ known. c.learn.ensures
+pub returns-then-last-eq-FEW_SHELVES : goal.returns-then-last-eq-FEW_SHELVES
+returns-then-last-eq-FEW_SHELVES c = λ known. c.learn.ensures
 
-pub returns-else-last-eq-SHELVES_OF_BLOCK : goal.returns-else-last-eq-SHELVES_OF_BLOCK
-returns-else-last-eq-SHELVES_OF_BLOCK c = λ known. absurd (cc)
+pub returns-else-last-eq-FEW_SHELVES : goal.returns-else-last-eq-FEW_SHELVES
+returns-else-last-eq-FEW_SHELVES c = λ known. absurd (cc)
