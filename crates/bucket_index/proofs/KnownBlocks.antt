@@ -11,11 +11,11 @@ use Rattle.bucketed_records.specs.Private.Store.{is_kept_idle}
 use Rattle.bucket_index.specs.declared.blocks.Block.{Block}
 use Rattle.bucket_index.specs.declared.blocks.Blocks.{Blocks}
 use Rattle.bucket_index.specs.declared.blocks.Others.{Others}
-use Rattle.bucket_index.specs.Private.Blocks.{AreCountedWhere, AreFirstKnown, AreInSteps, AreKnown, AreKnownOf, AreKnownWhere, AreOthers, AreOthersKnown, IsBeside, IsFollowed, IsKnown, IsKnownOf, IsPart, block_of, expecting, joined, may_be_idle, may_give, raised, with_shelf}
+use Rattle.bucket_index.specs.Private.Blocks.{AreCountedWhere, AreFirstKnown, AreInSteps, AreKnown, AreKnownOf, AreKnownWhere, AreOthers, AreOthersKnown, IsBeside, IsCovered, IsFollowed, IsKnown, IsKnownOf, IsPart, block_of, expecting, height_at, joined, may_be_idle, may_give, raised, with_shelf, with_standing}
 
 -- a shelf is known to a block that was counted with it
 pub known-own : (kept : KeptShelf) (block : Block) → IsKnown kept (with_shelf kept block)
-known-own kept block = record { room = omega arith; idle = λ idle. either block.has_idle (is_kept_idle kept) idle }
+known-own kept block = λ tall. record { room = omega arith; idle = λ idle. either block.has_idle (is_kept_idle kept) idle }
   where
     either : (s t : Bool) → t ≡ true → (s || t) ≡ true
     either true t h = refl
@@ -23,11 +23,26 @@ known-own kept block = record { room = omega arith; idle = λ idle. either block
 
 -- a shelf stays known where another one is counted with it
 pub known-still : (kept other : KeptShelf) (block : Block) → IsKnown kept block → IsKnown kept (with_shelf other block)
-known-still kept other block known = record { room = omega (arith, known.room); idle = λ idle. either block.has_idle (is_kept_idle other) (known.idle idle) }
+known-still kept other block known = λ tall. record { room = omega (arith, (known tall).room); idle = λ idle. either block.has_idle (is_kept_idle other) ((known tall).idle idle) }
   where
     either : (s t : Bool) → s ≡ true → (s || t) ≡ true
     either true t h = refl
     either false t h = absurd (cc)
+
+-- the same where it is counted only if it has a height
+pub standing-own : (kept : KeptShelf) (block : Block) → IsKnown kept (with_standing kept block)
+standing-own kept block = λ tall. by_test (kept.shelf.height == 0) refl tall
+  where
+    by_test : (t : Bool) → (kept.shelf.height == 0) ≡ t → 0 < kept.shelf.height → IsCovered kept (cond t block (with_shelf kept block))
+    by_test true flat tall = absurd (grind arith)
+    by_test false flat tall = known-own kept block tall
+
+pub standing-still : (kept other : KeptShelf) (block : Block) → IsKnown kept block → IsKnown kept (with_standing other block)
+standing-still kept other block known = by_test (other.shelf.height == 0)
+  where
+    by_test : (t : Bool) → IsKnown kept (cond t block (with_shelf other block))
+    by_test true = known
+    by_test false = known-still kept other block known
 
 -- the same element was read twice
 pub some-same : {X : Type 0} (o : Option X) (x y : X) → o ≡ Some x → o ≡ Some y → x ≡ y
@@ -97,7 +112,7 @@ set-of Before After size k fresh blocks shelves before all others number kept bl
 
 -- what is known of a shelf by its block is known by a larger one
 pub known-part : (kept : KeptShelf) (block whole : Block) → IsKnown kept block → IsPart block whole → IsKnown kept whole
-known-part kept block whole known part = record { room = omega (arith, known.room, part.room); idle = λ idle. part.idle (known.idle idle) }
+known-part kept block whole known part = λ tall. record { room = omega (arith, (known tall).room, part.room); idle = λ idle. part.idle ((known tall).idle idle) }
 
 -- an element of a list below its length
 element-below : {X P : Type 0} (xs : List X) (n : ℕ) → n < length xs → ((x : X) → slice_get xs n ≡ Some x → P) → P
@@ -137,25 +152,25 @@ part-still block whole other part = record { room = omega (arith, part.room); id
     either true t h = refl
     either false t h = absurd (cc)
 
--- where a block has no room for a width, none of its shelves has
+-- where a block has no room for a width, none of its shelves that has a height has
 pub narrow-of : (size width b : ℕ) (blocks : List Block) (shelves : List KeptShelf) → AreKnownOf (λ number. Unit {0}) size blocks shelves → may_give width blocks b ≡ false
-    → (k : ℕ) (kept : KeptShelf) → block_of size k ≡ b → slice_get shelves k ≡ Some kept → kept.widest_room < width
-narrow-of size width b blocks shelves known narrow k kept here at = by_block (slice_get blocks b) refl narrow
+    → (k : ℕ) (kept : KeptShelf) → block_of size k ≡ b → slice_get shelves k ≡ Some kept → 0 < kept.shelf.height → kept.widest_room < width
+narrow-of size width b blocks shelves known narrow k kept here at tall = by_block (slice_get blocks b) refl narrow
   where
     by_block : (o : Option Block) → slice_get blocks b ≡ o → option_map_or (λ (block : Block). nat_le width block.widest_room) o true ≡ false → kept.widest_room < width
     by_block None e h = absurd (cc)
-    by_block (Some block) e h = omega (arith, leb-false width block.widest_room h, (known k kept block tt at (ap (slice_get blocks) here ∙ e)).room)
+    by_block (Some block) e h = omega (arith, leb-false width block.widest_room h, (known k kept block tt at (ap (slice_get blocks) here ∙ e) tall).room)
 
--- where a block has nothing that may be idle, each of its shelves is busy
+-- where a block has nothing that may be idle, each of its shelves that has a height is busy
 pub busy-of : (size b : ℕ) (blocks : List Block) (shelves : List KeptShelf) → AreKnownOf (λ number. Unit {0}) size blocks shelves → may_be_idle blocks b ≡ false
-    → (k : ℕ) (kept : KeptShelf) → block_of size k ≡ b → slice_get shelves k ≡ Some kept → is_kept_idle kept ≡ false
-busy-of size b blocks shelves known busy k kept here at = by_block (slice_get blocks b) refl busy
+    → (k : ℕ) (kept : KeptShelf) → block_of size k ≡ b → slice_get shelves k ≡ Some kept → 0 < kept.shelf.height → is_kept_idle kept ≡ false
+busy-of size b blocks shelves known busy k kept here at tall = by_block (slice_get blocks b) refl busy
   where
     by_block : (o : Option Block) → slice_get blocks b ≡ o → option_map_or (λ (block : Block). block.has_idle) o true ≡ false → is_kept_idle kept ≡ false
     by_block None e h = absurd (cc)
-    by_block (Some block) e h = by_test (is_kept_idle kept) refl (known k kept block tt at (ap (slice_get blocks) here ∙ e))
+    by_block (Some block) e h = by_test (is_kept_idle kept) refl (known k kept block tt at (ap (slice_get blocks) here ∙ e) tall)
       where
-        by_test : (t : Bool) → is_kept_idle kept ≡ t → IsKnown kept block → is_kept_idle kept ≡ false
+        by_test : (t : Bool) → is_kept_idle kept ≡ t → IsCovered kept block → is_kept_idle kept ≡ false
         by_test true idle is = let both = is.idle idle in absurd (cc)
         by_test false idle is = idle
 
@@ -319,41 +334,6 @@ some-taken (suc count) [] number kept at = at
 some-taken (suc count) (x ∷ shelves) zero kept at = at
 some-taken (suc count) (x ∷ shelves) (suc number) kept at = some-taken count shelves number kept at
 
--- what a block knows of a shelf
-abbrev pub known_of : KeptShelf → List ℕ
-known_of kept = kept.widest_room ∷ kept.live_items ∷ []
-
--- the same element of a list in which the same is known of each
-same-at : {P : Type 0} (xs ys : List KeptShelf) (n : ℕ) (y : KeptShelf) → map known_of ys ≡ map known_of xs → slice_get ys n ≡ Some y
-    → ((x : KeptShelf) → slice_get xs n ≡ Some x → y.widest_room ≡ x.widest_room → y.live_items ≡ x.live_items → P) → P
-same-at [] [] n y same at found = absurd (cc)
-same-at [] (z ∷ ys) n y same at found = absurd (cc)
-same-at (x ∷ xs) [] n y same at found = absurd (cc)
-same-at (x ∷ xs) (z ∷ ys) zero y same at found =
-    let is : z ≡ y = cc in
-    let heads : known_of z ≡ known_of x = cc in
-    found x refl (sym (ap (λ (k : KeptShelf). k.widest_room) is) ∙ room z heads) (sym (ap (λ (k : KeptShelf). k.live_items) is) ∙ live z heads)
-  where
-    room : (k : KeptShelf) → known_of k ≡ known_of x → k.widest_room ≡ x.widest_room
-    room k h = cc
-
-    live : (k : KeptShelf) → known_of k ≡ known_of x → k.live_items ≡ x.live_items
-    live k h = cc
-same-at (x ∷ xs) (z ∷ ys) (suc n) y same at found =
-    let tails : map known_of ys ≡ map known_of xs = cc in
-    same-at xs ys n y tails at found
-
--- shelves of which the same is known, and whose heights are in steps too
-pub known-same : (blocks : Blocks) (xs ys : List KeptShelf) → map known_of ys ≡ map known_of xs → (AreInSteps xs → AreInSteps ys) → AreKnown blocks xs → AreKnown blocks ys
-known-same blocks xs ys same stepped known =
-    carry-all blocks xs ys
-    (λ number kept _ at. same-at xs ys number kept same at (λ x was room live. record {
-      was = x;
-      such = tt;
-      there = was;
-      known = λ block is. record { room = omega (arith, is.room, room); idle = λ idle. is.idle (ap (λ (n : ℕ). n == 0) (sym live) ∙ idle) };
-    })) stepped known
-
 -- a shelf is known to its blocks, and to what is kept of others, where all are known and counted
 pub known-at : (k : ℕ) (before : KeptShelf) (blocks : Blocks) (shelves : List KeptShelf) → slice_get shelves k ≡ Some before → AreKnown blocks shelves → blocks.are_counted ≡ true → IsFollowed k before blocks
 known-at k before blocks shelves at known counts = own (known.counted counts)
@@ -420,9 +400,13 @@ known-counted first second third blocks shelves few low next high = (small, whol
         read-changed (λ _. all) bs 0 (block_of size number) block in_block (λ z stood is_first is. subst (IsKnown kept) (sym is) (any number kept at))
         (λ apart stood. absurd (apart (zero_ number (omega (arith, slice_get_within shelves number kept at, few)))))
 
+-- how tall a shelf is that was read
+pub height-read : (shelves : List KeptShelf) (number : ℕ) (kept : KeptShelf) → slice_get shelves number ≡ Some kept → kept.shelf.height ≡ height_at shelves number
+height-read shelves number kept at = sym (ap (λ (o : Option KeptShelf). option_map_or (λ (one : KeptShelf). one.shelf.height) o 0) at)
+
 -- a busy shelf with no more room than it had is known where it was
-pub followed-stays : (k : ℕ) (before one : KeptShelf) (blocks : Blocks) → one.widest_room ≤ before.widest_room → is_kept_idle one ≡ false → IsFollowed k before blocks → IsFollowed k one blocks
-followed-stays k before one blocks narrow busy was = record {
+pub followed-stays : (k : ℕ) (before one : KeptShelf) (blocks : Blocks) → one.shelf.height ≡ before.shelf.height → one.widest_room ≤ before.widest_room → is_kept_idle one ≡ false → IsFollowed k before blocks → IsFollowed k one blocks
+followed-stays k before one blocks as_tall narrow busy was = record {
   known = record {
     small = λ block at. stays block (was.known.small block at);
     middle = λ block at. stays block (was.known.middle block at);
@@ -438,7 +422,7 @@ followed-stays k before one blocks narrow busy was = record {
 }
   where
     stays : (block : Block) → IsKnown before block → IsKnown one block
-    stays block known = record { room = omega (arith, known.room, narrow); idle = λ idle. absurd (cc) }
+    stays block known = λ tall. record { room = omega (arith, (known (omega (arith, tall, as_tall))).room, narrow); idle = λ idle. absurd (cc) }
 
 -- all are known where one is and the others are
 pub known-with : (k : ℕ) (one : KeptShelf) (blocks : Blocks) (shelves : List KeptShelf) → slice_get shelves k ≡ Some one → IsFollowed k one blocks → AreOthersKnown k blocks shelves → AreKnown blocks shelves

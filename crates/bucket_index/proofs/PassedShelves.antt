@@ -34,6 +34,42 @@ exact-none sides buckets number kept narrow =
     ap (λ (t : Bool). cond t (found_in (Exact sides.along) buckets number kept) None)
     (second-fails (kept.shelf.height == sides.across) (nat_le sides.along kept.widest_room) (too-wide kept.widest_room sides.along narrow))
 
+-- two tests of which the first fails
+first-fails : (s t : Bool) → s ≡ false → (s && t) ≡ false
+first-fails true t h = absurd (cc)
+first-fails false t h = refl
+
+-- a height that isn't the one of what is asked for
+other-height : (height across : ℕ) → height < across → (height == across) ≡ false
+other-height height across h = grind (arith, nat_tests)
+
+-- a shelf without height is too low
+pub waste-flat : (adds : Bool) (sides : Sides) (kept : KeptShelf) → kept.shelf.height < sides.across → kept_waste adds sides kept ≡ None
+waste-flat adds sides kept low =
+    ap (λ (t : Bool). cond t (Some (kept.shelf.height - sides.across)) None)
+    (first-fails (nat_le sides.across kept.shelf.height && (nat_le sides.along kept.shelf.bucket_width && not (adds && nat_lt sides.across (kept.shelf.height - sides.across))))
+    (nat_le sides.along kept.widest_room)
+    (first-fails (nat_le sides.across kept.shelf.height) (nat_le sides.along kept.shelf.bucket_width && not (adds && nat_lt sides.across (kept.shelf.height - sides.across))) (too-wide kept.shelf.height sides.across low)))
+
+-- a shelf with a height has little room where each that has one does, or it is too low
+by_height : {P : Type 0} (kept : KeptShelf) (across along : ℕ) → 0 < across → (0 < kept.shelf.height → kept.widest_room < along) → (kept.shelf.height < across → P) → (kept.widest_room < along → P) → P
+by_height {P} kept across along some narrow low wide = by_test (nat_lt 0 kept.shelf.height) refl
+  where
+    by_test : (t : Bool) → nat_lt 0 kept.shelf.height ≡ t → P
+    by_test true e = wide (narrow (grind (arith, nat_tests)))
+    by_test false e = low (grind (arith, nat_tests))
+
+-- a shelf counts for nothing where it has too little room if it has a height
+pub waste-passed : (adds : Bool) (sides : Sides) (kept : KeptShelf) → 0 < sides.across → (0 < kept.shelf.height → kept.widest_room < sides.along) → kept_waste adds sides kept ≡ None
+waste-passed adds sides kept some narrow = by_height kept sides.across sides.along some narrow (waste-flat adds sides kept) (waste-none adds sides kept)
+
+-- and it has no exact bucket
+pub exact-passed : (sides : Sides) (buckets : List LinkedBucket) (number : ℕ) (kept : KeptShelf) → 0 < sides.across → (0 < kept.shelf.height → kept.widest_room < sides.along) → exact_in sides buckets number kept ≡ None
+exact-passed sides buckets number kept some narrow =
+    by_height kept sides.across sides.along some narrow
+    (λ low. ap (λ (t : Bool). cond t (found_in (Exact sides.along) buckets number kept) None)
+    (first-fails (kept.shelf.height == sides.across) (nat_le sides.along kept.widest_room) (other-height kept.shelf.height sides.across low))) (exact-none sides buckets number kept)
+
 -- a search for an exact bucket goes on past a shelf that has none
 pub exact-past : (sides : Sides) (buckets : List LinkedBucket) (m n : ℕ) (xs : List KeptShelf) (kept : KeptShelf) → slice_get xs n ≡ Some kept → exact_in sides buckets m kept ≡ None
     → exact_from sides buckets m (drop n xs) ≡ exact_from sides buckets (suc m) (drop (suc n) xs)

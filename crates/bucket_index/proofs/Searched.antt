@@ -50,7 +50,7 @@ better-same None = refl
 better-same (Some found) = refl
 
 -- past the end nothing is left
-drop-past : {X : Type 0} (n : ℕ) (xs : List X) → length xs ≤ n → drop n xs ≡ []
+pub drop-past : {X : Type 0} (n : ℕ) (xs : List X) → length xs ≤ n → drop n xs ≡ []
 drop-past zero [] past = refl
 drop-past zero (x ∷ xs) past = absurd (omega arith)
 drop-past (suc n) [] past = refl

@@ -1,8 +1,8 @@
 //! What is known of neighbouring shelves together, so that a search passes over many of them at once: how much room
 //! the buckets of one may have, and whether one may hold nothing live.
 //!
-//! Definitions: `Private/Blocks`. What is known of a block may be too much, never too little. Where no more shelves stand
-//! than in a small block nothing need be known.
+//! Definitions: `Private/Blocks`. What is known of a block may be too much, never too little. Nothing need be known of few
+//! shelves, nor of one without height, which gives nothing.
 
 ghost use Rattle.std.specs.Prelude.{IsTrue, ◌≡◌, ◌+◌, ◌-◌, ◌*◌, ◌<◌, ◌≤◌, ◌^◌, Some, [], false, true, length, slice_get};
 ghost use Rattle.etagere_links.specs.Edits.{changed_by};
@@ -109,6 +109,17 @@ fn with_shelf(block: Block, kept: &KeptShelf) -> Block
     }
 }
 
+/// The same, if the shelf has a height: one without, as a merge leaves it, gives nothing.
+fn with_standing(block: Block, kept: &KeptShelf) -> Block
+    ensures { result ≡ spec.with_standing kept.now block }
+{
+    if kept.shelf.height == 0 {
+        block
+    } else {
+        with_shelf(block, kept)
+    }
+}
+
 /// Whether a shelf is known wherever one with this room is: it has no more, and holds something live.
 fn stays_known(room: u16, kept: &KeptShelf) -> bool
     ensures { IsTrue result → (kept.now.widest_room ≤ room) × (is_kept_idle kept.now ≡ false) }
@@ -152,7 +163,7 @@ fn counted(shelves: &[KeptShelf], from: usize) -> Block
 {
     let mut block = NO_SHELVES;
     for number in from..shelves.len().min(from + SHELVES_OF_BLOCK) {
-        block = with_shelf(block, &shelves[number]);
+        block = with_standing(block, &shelves[number]);
     }
     block
 }
@@ -317,7 +328,7 @@ impl Blocks {
     }
 
     /// Where a search for a shelf with room for this width goes on that has come to the shelf of a number: at that
-    /// one, or behind blocks in which none has room.
+    /// one, or behind blocks in which none that has a height has room.
     pub(crate) fn behind_narrow(&self, from: usize, width: u32) -> usize
         requires counted { self.now.are_counted ≡ true }
         requires from { from < 2 ^ 62 }
@@ -357,8 +368,8 @@ impl Blocks {
         (first + BLOCKS_AT_ONCE) * SHELVES_OF_BLOCK
     }
 
-    /// Where a search for a shelf that holds nothing live goes on that has come to the shelf of a number: at that one,
-    /// or behind a block in which each holds something live.
+    /// Where a search for a shelf that has a height and holds nothing live goes on that has come to the shelf of a number:
+    /// at that one, or behind a block in which there is none.
     pub fn behind_busy(&self, from: usize) -> usize
         requires { from < 2 ^ 62 }
         ensures on { from ≤ result }
@@ -540,7 +551,7 @@ impl Blocks {
     pub fn follow(&mut self, shelves: &[KeptShelf], number: usize, before: Block)
         requires within { number < length shelves.now }
         requires before { self.old.are_counted ≡ true
-            → spec.IsFollowedUpTo number before.widest_room self.old }
+            → spec.IsFollowedUpTo number (spec.height_at shelves.now number) before.widest_room self.old }
         requires others { spec.AreOthersKnown number self.old shelves.now }
         ensures { spec.AreKnown self.new shelves.now }
     {
@@ -564,7 +575,8 @@ impl Blocks {
     fn follow_change(&mut self, shelves: &[KeptShelf], number: usize, before: Block)
         requires counted { self.old.are_counted ≡ true }
         requires within { number < length shelves.now }
-        requires before { spec.IsFollowedUpTo number before.widest_room self.old }
+        requires before { spec.IsFollowedUpTo number (spec.height_at shelves.now number)
+            before.widest_room self.old }
         requires others { spec.AreOthersKnown number self.old shelves.now }
         ensures { spec.AreKnown self.new shelves.now }
     {
@@ -580,7 +592,8 @@ impl Blocks {
     fn follow_late(&mut self, shelves: &[KeptShelf], number: usize, before: Block)
         requires counted { self.old.are_counted ≡ true }
         requires within { number < length shelves.now }
-        requires before { spec.IsFollowedUpTo number before.widest_room self.old }
+        requires before { spec.IsFollowedUpTo number (spec.height_at shelves.now number)
+            before.widest_room self.old }
         requires others { spec.AreOthersKnown number self.old shelves.now }
         ensures { spec.AreKnown self.new shelves.now }
     {
@@ -597,7 +610,8 @@ impl Blocks {
     fn follow_alone(&mut self, shelves: &[KeptShelf], number: usize, before: Block)
         requires counted { self.old.are_counted ≡ true }
         requires within { number < length shelves.now }
-        requires before { spec.IsFollowedUpTo number before.widest_room self.old }
+        requires before { spec.IsFollowedUpTo number (spec.height_at shelves.now number)
+            before.widest_room self.old }
         requires others { spec.AreOthersKnown number self.old shelves.now }
         ensures { spec.AreKnown self.new shelves.now }
     {
@@ -670,6 +684,19 @@ impl Blocks {
         if shelves.len() < SHELVES_OF_BLOCK {
             self.are_counted = false;
         } else if number < shelves.len() {
+            self.settle_beside(shelves, number);
+            self.recount(shelves, number);
+        }
+    }
+
+    /// Knows the shelf of a number anew, which got a height.
+    #[inline(never)]
+    pub fn know_anew(&mut self, shelves: &[KeptShelf], number: usize)
+        requires within { number < length shelves.now }
+        requires others { spec.AreOthersKnown number self.old shelves.now }
+        ensures { spec.AreKnown self.new shelves.now }
+    {
+        if self.are_counted {
             self.settle_beside(shelves, number);
             self.recount(shelves, number);
         }

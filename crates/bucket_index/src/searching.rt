@@ -303,6 +303,7 @@ fn least_waste(
     blocks: &Blocks,
     heights: &Heights,
 ) -> Option<FoundShelf>
+    requires across { 0 < sides.now.across }
     requires known { AreKnown blocks.now shelves.now }
     requires below { AreBelow heights.now shelves.now }
     ensures least { result ≡ first_least (map (spec.kept_waste adds sides.now) shelves.now) }
@@ -322,6 +323,7 @@ fn least_by_blocks(
     blocks: &Blocks,
     heights: &Heights,
 ) -> Option<FoundShelf>
+    requires across { 0 < sides.now.across }
     requires counted { blocks.now.are_counted ≡ true }
     requires known { AreKnown blocks.now shelves.now }
     requires below { AreBelow heights.now shelves.now }
@@ -405,6 +407,7 @@ fn exact_from(
     heights: &Heights,
     from: usize,
 ) -> Option<FoundBucket>
+    requires across { 0 < sides.now.across }
     requires from { from ≤ length shelves.now }
     requires known { AreKnown blocks.now shelves.now }
     requires spans { AreSpans spans.now buckets.now }
@@ -431,6 +434,7 @@ fn exact_by_blocks(
     heights: &Heights,
     from: usize,
 ) -> Option<FoundBucket>
+    requires across { 0 < sides.now.across }
     requires counted { blocks.now.are_counted ≡ true }
     requires from { from ≤ length shelves.now }
     requires known { AreKnown blocks.now shelves.now }
@@ -522,6 +526,7 @@ fn exact_or_found(
     least: FoundShelf,
     bucket: usize,
 ) -> FoundBucket
+    requires across { 0 < sides.now.across }
     requires known { AreKnown blocks.now shelves.now }
     requires spans { AreSpans spans.now buckets.now }
     requires rooms { AreCounted rooms.now buckets.now }
@@ -561,6 +566,7 @@ pub fn pick(
     rooms: &Rooms,
     heights: &Heights,
 ) -> Option<FoundBucket>
+    requires across { 0 < sides.now.across }
     requires known { AreKnown blocks.now shelves.now }
     requires spans { AreSpans spans.now buckets.now }
     requires rooms { AreCounted rooms.now buckets.now }

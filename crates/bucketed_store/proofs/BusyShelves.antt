@@ -1,28 +1,89 @@
--- Shelves that hold something live, so that a search for some to be merged may pass over them.
+-- Shelves that hold something live or have no height, so that a search for some to be merged may pass over them.
 use Rattle.std.proofs.Common.{◌≡◌, ℕ, zero, suc, ◌+◌, ◌-◌, ◌<◌, ◌≤◌, Bool, true, false, Some, List, [], ◌∷◌, length, take, drop, refl, sym, ap, arith, ◌∙◌, ◌==◌}
+use Rattle.std.proofs.lemmas.Bool.{and_parts}
+use Rattle.std.proofs.lemmas.Bool.Decides.{nat_tests}
 use Rattle.std.proofs.lemmas.Option.{slice_get_within}
 use Rattle.std.specs.List.{list_all}
-use Rattle.std.specs.Prelude.{nat_le, slice_get, ◌&&◌}
+use Rattle.std.specs.Prelude.{nat_le, nat_lt, slice_get, ◌&&◌}
 use Rattle.etagere_base.specs.declared.sides.Sides.{Sides}
 use Rattle.bucketed_records.specs.Private.Store.{is_kept_idle}
 use Rattle.bucketed_records.specs.declared.records.KeptShelf.{KeptShelf}
-use Rattle.bucket_index.specs.Private.Blocks.{AreBusy}
 use Rattle.bucket_index.proofs.Searched.{search-skip}
 use Rattle.bucketed_store.specs.Private.Placing.{is_kept_idle_in, kept_height, kept_mergeable, serves_at}
 
--- a shelf that is busy serves with none after it
-pub serves-busy : (sides : Sides) (others n : ℕ) (xs : List KeptShelf) (kept : KeptShelf) → slice_get xs n ≡ Some kept → is_kept_idle kept ≡ false → serves_at sides others (drop n xs) ≡ false
-serves-busy sides others n [] kept at busy = absurd (cc)
-serves-busy sides others zero (x ∷ xs) kept at busy =
-    let same : x ≡ kept = cc in
-    let one : is_kept_idle x ≡ false = ap is_kept_idle same ∙ busy in
-    tests (length (take others xs) == others) (is_kept_idle x) (list_all (is_kept_idle_in x.shelf.x) (take others xs))
-    (nat_le sides.along x.shelf.bucket_width && nat_le sides.across (x.shelf.height + kept_height (take others xs))) one
+-- a shelf holds something live, if it has a height
+abbrev pub IsFlatOrBusy : KeptShelf → Type 0
+IsFlatOrBusy kept = 0 < kept.shelf.height → is_kept_idle kept ≡ false
+
+-- the same of the shelf of a number, if it is there
+abbrev pub IsSpent : List KeptShelf → ℕ → Type 0
+IsSpent shelves number = (kept : KeptShelf) → slice_get shelves number ≡ Some kept → IsFlatOrBusy kept
+
+-- such a shelf has no height where it is idle
+flat-idle : (kept : KeptShelf) → IsFlatOrBusy kept → is_kept_idle kept ≡ true → kept.shelf.height ≡ 0
+flat-idle kept spent idle = by_test (nat_lt 0 kept.shelf.height) refl
   where
-    tests : (p q r s : Bool) → q ≡ false → (p && (q && r) && s) ≡ false
-    tests true q r s h = rw h refl
-    tests false q r s h = refl
-serves-busy sides others (suc n) (x ∷ xs) kept at busy = serves-busy sides others n xs kept at busy
+    by_test : (t : Bool) → nat_lt 0 kept.shelf.height ≡ t → kept.shelf.height ≡ 0
+    by_test true e = let busy = spent (grind (arith, nat_tests)) in absurd (cc)
+    by_test false e = grind (arith, nat_tests)
+
+-- such shelves have no height together where all are idle
+flat-height : (place others : ℕ) (xs : List KeptShelf) → ((k : ℕ) → k < others → IsSpent xs k) → list_all (is_kept_idle_in place) (take others xs) ≡ true → kept_height (take others xs) ≡ 0
+flat-height place zero xs spent idle = refl
+flat-height place (suc others) [] spent idle = refl
+flat-height place (suc others) (x ∷ xs) spent idle =
+    let parts = and_parts (is_kept_idle_in place x) (list_all (is_kept_idle_in place) (take others xs)) idle in
+    let own = and_parts (x.shelf.x == place) (is_kept_idle x) parts.0 in
+    omega (
+      arith,
+      flat-idle x (spent 0 (omega arith) x refl) own.1,
+      flat-height place others xs (λ k low kept at. spent (suc k) (omega (arith, low)) kept at) parts.1,
+    )
+
+-- such a shelf serves with no such ones after it
+serves-none : (sides : Sides) → 0 < sides.across → (others : ℕ) (x : KeptShelf) (xs : List KeptShelf) → IsFlatOrBusy x → ((k : ℕ) → k < others → IsSpent xs k) → serves_at sides others (x ∷ xs) ≡ false
+serves-none sides some others x xs own spent = by_idle (is_kept_idle x) refl
+  where
+    next : List KeptShelf
+    next = take others xs
+
+    one : (p s : Bool) → (p && (false && list_all (is_kept_idle_in x.shelf.x) next) && s) ≡ false
+    one true s = refl
+    one false s = refl
+
+    all : (p s : Bool) → (p && (true && false) && s) ≡ false
+    all true s = refl
+    all false s = refl
+
+    tall : (p q r : Bool) → r ≡ false → (p && (true && true) && (q && r)) ≡ false
+    tall true true r h = h
+    tall true false r h = refl
+    tall false q r h = refl
+
+    low : (height : ℕ) → height ≡ 0 → nat_le sides.across height ≡ false
+    low height none = grind (arith, nat_tests)
+
+    Serves : Bool → Bool → Type 0
+    Serves idle same = (length next == others && (idle && same) && (nat_le sides.along x.shelf.bucket_width && nat_le sides.across (x.shelf.height + kept_height next))) ≡ false
+
+    by_all : is_kept_idle x ≡ true → (t : Bool) → list_all (is_kept_idle_in x.shelf.x) next ≡ t → Serves true t
+    by_all idle true e =
+        tall (length next == others) (nat_le sides.along x.shelf.bucket_width) (nat_le sides.across (x.shelf.height + kept_height next))
+        (low (x.shelf.height + kept_height next) (omega (arith, flat-idle x own idle, flat-height x.shelf.x others xs spent e)))
+    by_all idle false e = all (length next == others) (nat_le sides.along x.shelf.bucket_width && nat_le sides.across (x.shelf.height + kept_height next))
+
+    by_idle : (t : Bool) → is_kept_idle x ≡ t → serves_at sides others (x ∷ xs) ≡ false
+    by_idle true e = rw e (by_all e (list_all (is_kept_idle_in x.shelf.x) next) refl)
+    by_idle false e = rw e (one (length next == others) (nat_le sides.along x.shelf.bucket_width && nat_le sides.across (x.shelf.height + kept_height next)))
+
+-- the same of the shelf of a number
+serves-spent : (sides : Sides) → 0 < sides.across → (others n : ℕ) (xs : List KeptShelf) → others ≤ 2 → ((k : ℕ) → n ≤ k → k < n + 3 → IsSpent xs k) → serves_at sides others (drop n xs) ≡ false
+serves-spent sides some others zero [] few spent = refl
+serves-spent sides some others (suc n) [] few spent = refl
+serves-spent sides some others zero (x ∷ xs) few spent =
+    serves-none sides some others x xs (spent 0 (omega arith) (omega arith) x refl) (λ k low kept at. spent (suc k) (omega arith) (omega (arith, low, few)) kept at)
+serves-spent sides some others (suc n) (x ∷ xs) few spent =
+    serves-spent sides some others n xs few (λ k low high kept at. spent (suc k) (omega (arith, low)) (omega (arith, high)) kept at)
 
 -- past a shelf that doesn't serve the search goes on
 pub mergeable-past : (sides : Sides) (m n : ℕ) (xs : List KeptShelf) → n < length xs → serves_at sides 1 (drop n xs) ≡ false → serves_at sides 2 (drop n xs) ≡ false
@@ -31,13 +92,13 @@ mergeable-past sides m n [] within one two = absurd (omega arith)
 mergeable-past sides m zero (x ∷ xs) within one two = rw (one, two) refl
 mergeable-past sides m (suc n) (x ∷ xs) within one two = mergeable-past sides m n xs (omega arith) one two
 
--- past shelves that are busy the search goes on
-pub mergeable-behind : (sides : Sides) (shelves : List KeptShelf) (from behind : ℕ) → from ≤ behind → AreBusy from behind shelves
+-- past such shelves the search goes on, where the two behind them are such too
+pub mergeable-behind : (sides : Sides) → 0 < sides.across → (shelves : List KeptShelf) (from behind : ℕ) → from ≤ behind → (from < behind → (k : ℕ) → from ≤ k → k < behind + 2 → IsSpent shelves k)
     → kept_mergeable sides behind (drop behind shelves) ≡ kept_mergeable sides from (drop from shelves)
-mergeable-behind sides shelves from behind on busy =
+mergeable-behind sides some shelves from behind on spent =
     let end : behind ≡ from + (behind - from) = omega (arith, on) in
     ap (λ (k : ℕ). kept_mergeable sides k (drop k shelves)) end
     ∙ sym (search-skip (kept_mergeable sides) shelves from (behind - from) (λ m k. refl)
     (λ k x low high at.
-    let is = busy k x low (omega (arith, high, end)) at in
-    mergeable-past sides k k shelves (slice_get_within shelves k x at) (serves-busy sides 1 k shelves x at is) (serves-busy sides 2 k shelves x at is)))
+    let each : (m : ℕ) → k ≤ m → m < k + 3 → IsSpent shelves m = λ m least most. spent (omega (arith, low, high, end)) m (omega (arith, low, least)) (omega (arith, high, end, most)) in
+    mergeable-past sides k k shelves (slice_get_within shelves k x at) (serves-spent sides some 1 k shelves (omega arith) each) (serves-spent sides some 2 k shelves (omega arith) each)))

@@ -1,17 +1,18 @@
 -- What blocks know of the shelves that are left when some were dropped or merged, and how tall those are at most.
-use Rattle.std.proofs.Common.{◌≡◌, ℕ, zero, suc, ◌+◌, ◌-◌, Bool, true, false, Option, None, Some, List, [], ◌∷◌, length, map, take, drop, cond, refl, arith, ◌∙◌, ◌==◌}
+use Rattle.std.proofs.Common.{◌≡◌, ℕ, zero, suc, ◌+◌, ◌-◌, ◌<◌, Bool, true, false, Option, None, Some, List, [], ◌∷◌, length, take, drop, cond, refl, ap, subst, sym, arith, ◌∙◌, ◌==◌}
 use Rattle.std.specs.Option.{option_map_or}
-use Rattle.std.specs.Prelude.{slice_get, ◌%◌}
+use Rattle.std.specs.Prelude.{option_map, slice_get, ◌%◌}
 use Rattle.etagere_links.specs.Edits.{changed_by}
-use Rattle.etagere_links.proofs.RecordChanges.{map-changed_by}
+use Rattle.etagere_links.proofs.RecordChanges.{get-changed_by}
 use Rattle.bucketed_model.specs.Merging.{Group}
 use Rattle.bucketed_records.specs.declared.records.KeptShelf.{KeptShelf}
 use Rattle.bucketed_records.specs.Private.Store.{last_kept}
+use Rattle.bucket_index.specs.declared.blocks.Block.{Block}
 use Rattle.bucket_index.specs.declared.blocks.Blocks.{Blocks}
 use Rattle.bucket_index.specs.declared.heights.Heights.{Heights}
-use Rattle.bucket_index.specs.Private.Blocks.{AreInSteps, AreKnown, AreOthersKnown}
+use Rattle.bucket_index.specs.Private.Blocks.{AreCountedWhere, AreInSteps, AreKnown, AreOthersKnown, IsKnown, height_at}
 use Rattle.bucket_index.specs.Private.Heights.{AreBelow, with_height}
-use Rattle.bucket_index.proofs.KnownBlocks.{AreSome, carry-counted, known-same, known_of, some-taken, steps-changed}
+use Rattle.bucket_index.proofs.KnownBlocks.{AreSome, carry-counted, known-except, read-changed, some-taken, steps-changed}
 use Rattle.bucket_index.proofs.TallestShelves.{below-changed, below-kept}
 use Rattle.bucketed_store.specs.Private.Placing.{kept_height}
 use Rattle.bucketed_store.specs.Private.Returns.{Dropping, end_dropped, last_dropped}
@@ -83,9 +84,42 @@ steps-merged group shelves steps = by_test (group.others == 2)
     by_test true = steps-changed (group.first + 2) (flattened across) next (λ x h. refl) two
     by_test false = two
 
--- merging shelves changes nothing that is known
-pub known-merged : (group : Group) (blocks : Blocks) (shelves : List KeptShelf) → AreKnown blocks shelves → AreKnown blocks (kept_merged group shelves)
-known-merged group blocks shelves known = known-same blocks shelves (kept_merged group shelves) (by_test (group.others == 2)) (steps-merged group shelves) known
+-- how tall a shelf is that changed, but for its height
+pub height-kept : (k : ℕ) (change : KeptShelf → KeptShelf) (shelves : List KeptShelf) (before : KeptShelf) → ((x : KeptShelf) → (change x).shelf.height ≡ x.shelf.height) → slice_get shelves k ≡ Some before
+    → height_at (changed_by (Some k) change shelves) k ≡ before.shelf.height
+height-kept k change shelves before keeps there =
+    ap (λ (o : Option KeptShelf). option_map_or (λ (one : KeptShelf). one.shelf.height) o 0) (get-changed_by change shelves (Some k) k refl ∙ ap (option_map change) there) ∙ keeps before
+
+-- a shelf that has no more room than it had, is not idle unless it was, and has no height unless it had
+record IsStill (was kept : KeptShelf) : Type 0 where
+  pub room : kept.widest_room ≡ was.widest_room
+  pub live : kept.live_items ≡ was.live_items
+  pub tall : 0 < kept.shelf.height → 0 < was.shelf.height
+
+-- what was known of it is known
+still-known : (was kept : KeptShelf) (block : Block) → IsStill was kept → IsKnown was block → IsKnown kept block
+still-known was kept block still known = λ tall.
+    let is = known (still.tall tall) in
+    record { room = omega (arith, is.room, still.room); idle = λ idle. is.idle (ap (λ (n : ℕ). n == 0) (sym still.live) ∙ idle) }
+
+-- what is counted of such shelves stays so where one of them changed so
+counted-changed : (IsSuch : ℕ → Type 0) (k : ℕ) (change : KeptShelf → KeptShelf) (blocks : Blocks) (shelves : List KeptShelf) → (IsSuch k → (x : KeptShelf) → slice_get shelves k ≡ Some x → IsStill x (change x))
+    → AreCountedWhere IsSuch blocks shelves → AreCountedWhere IsSuch blocks (changed_by (Some k) change shelves)
+counted-changed IsSuch k change blocks shelves still counted =
+    carry-counted IsSuch IsSuch blocks shelves (changed_by (Some k) change shelves)
+    (λ number kept such at. read-changed change shelves k number kept at
+    (λ z stood same is. record {
+      was = z;
+      such = such;
+      there = ap (slice_get shelves) same ∙ stood;
+      known = λ block known. subst (λ (s : KeptShelf). IsKnown s block) (sym is) (still-known z (change z) block (still (subst IsSuch same such) z stood) known);
+    })
+    (λ apart stood. record { was = kept; such = such; there = stood; known = λ block known. known })) counted
+
+-- the same where shelves were merged, of which the first had a height
+merged-counted : (IsSuch : ℕ → Type 0) (group : Group) (blocks : Blocks) (shelves : List KeptShelf) → (IsSuch group.first → (x : KeptShelf) → slice_get shelves group.first ≡ Some x → 0 < x.shelf.height)
+    → AreCountedWhere IsSuch blocks shelves → AreCountedWhere IsSuch blocks (kept_merged group shelves)
+merged-counted IsSuch group blocks shelves stood counted = by_test (group.others == 2)
   where
     height : ℕ
     height = group_height group shelves
@@ -99,14 +133,32 @@ known-merged group blocks shelves known = known-same blocks shelves (kept_merged
     next : List KeptShelf
     next = changed_by (Some (group.first + 1)) (flattened across) risen
 
-    two : map known_of next ≡ map known_of shelves
-    two =
-        map-changed_by known_of (flattened across) risen (Some (group.first + 1)) (λ x. refl)
-        ∙ map-changed_by known_of (to_height height) shelves (Some group.first) (λ x. refl)
+    flat : (x : KeptShelf) → IsStill x (flattened across x)
+    flat x = record { room = refl; live = refl; tall = λ tall. absurd (omega (arith, tall)) }
 
-    by_test : (t : Bool) → map known_of (cond t (changed_by (Some (group.first + 2)) (flattened across) next) next) ≡ map known_of shelves
-    by_test true = map-changed_by known_of (flattened across) next (Some (group.first + 2)) (λ x. refl) ∙ two
+    two : AreCountedWhere IsSuch blocks next
+    two =
+        counted-changed IsSuch (group.first + 1) (flattened across) blocks risen (λ such x at. flat x)
+        (counted-changed IsSuch group.first (to_height height) blocks shelves (λ such x at. record { room = refl; live = refl; tall = λ tall. stood such x at }) counted)
+
+    by_test : (t : Bool) → AreCountedWhere IsSuch blocks (cond t (changed_by (Some (group.first + 2)) (flattened across) next) next)
+    by_test true = counted-changed IsSuch (group.first + 2) (flattened across) blocks next (λ such x at. flat x) two
     by_test false = two
+
+-- merging shelves of which the first has a height changes nothing that is known
+pub known-merged : (group : Group) (blocks : Blocks) (shelves : List KeptShelf) → ((x : KeptShelf) → slice_get shelves group.first ≡ Some x → 0 < x.shelf.height) → AreKnown blocks shelves
+    → AreKnown blocks (kept_merged group shelves)
+known-merged group blocks shelves stood known = record {
+  counted = λ counts. merged-counted (λ n. Unit {0}) group blocks shelves (λ such. stood) (known.counted counts);
+  steps = λ in_steps. steps-merged group shelves (known.steps in_steps);
+}
+
+-- else it changes nothing that is known of the others
+pub others-merged : (group : Group) (blocks : Blocks) (shelves : List KeptShelf) → AreKnown blocks shelves → AreOthersKnown group.first blocks (kept_merged group shelves)
+others-merged group blocks shelves known = record {
+  counted = λ counts. merged-counted (λ n. n ≡ group.first → ⊥) group blocks shelves (λ other. absurd (other refl)) ((known-except group.first blocks shelves known).counted counts);
+  steps = λ in_steps. steps-merged group shelves (known.steps in_steps);
+}
 
 -- merged shelves are known by the height that the first of them gets
 pub below-merged : (group : Group) (heights : Heights) (shelves : List KeptShelf) → AreBelow heights shelves → AreBelow (with_height group.first (group_height group shelves) heights) (kept_merged group shelves)

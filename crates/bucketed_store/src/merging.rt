@@ -75,17 +75,19 @@ fn serves(sides: &Sides, shelves: &[KeptShelf], number: usize, others: usize) ->
         && sides.across <= u32::from(kept.shelf.height) + total_height(next)
 }
 
-/// The first shelf that serves these sides with the next one, or with the next two. Blocks in which none holds nothing
-/// live are passed over.
+/// The first shelf that serves these sides with the next one, or with the next two. Blocks are passed over in which each
+/// shelf holds something live or has no height, but for the last two shelves before another block.
 #[inline(never)]
 pub(crate) fn mergeable_shelves(
     sides: Sides,
     shelves: &[KeptShelf],
     blocks: &Blocks,
 ) -> Option<Group>
-    requires { AreKnown blocks.now shelves.now }
+    requires across { 0 < sides.across }
+    requires known { AreKnown blocks.now shelves.now }
     ensures { result ≡ spec.kept_mergeable sides 0 shelves.now }
 {
+    let mut first = 0;
     let mut from = 0;
     for _block in 0..shelves.len() {
         if from >= shelves.len() {
@@ -93,26 +95,28 @@ pub(crate) fn mergeable_shelves(
         }
         let behind = blocks.behind_busy(from);
         if from < behind {
+            first = behind.saturating_sub(2).max(first);
             from = behind;
         } else {
-            let group = mergeable_in(&sides, shelves, from);
+            from += SHELVES_OF_BLOCK;
+            let group = mergeable_between(&sides, shelves, first, from);
             if group.is_some() {
                 return group;
             }
-            from += SHELVES_OF_BLOCK;
+            first = from;
         }
     }
     None
 }
 
-/// The same where the first shelf is one of as many as a block has, from the one of this number on.
-fn mergeable_in(sides: &Sides, shelves: &[KeptShelf], from: usize) -> Option<Group>
-    requires { from ≤ length shelves.now }
-    ensures { or_else result
-        (spec.kept_mergeable sides.now (from + 8) (drop (from + 8) shelves.now))
+/// The same where the first shelf has a number from this one up to another one.
+fn mergeable_between(sides: &Sides, shelves: &[KeptShelf], from: usize, end: usize) -> Option<Group>
+    requires from { from ≤ length shelves.now }
+    requires end { from ≤ end }
+    ensures { or_else result (spec.kept_mergeable sides.now end (drop end shelves.now))
         ≡ spec.kept_mergeable sides.now from (drop from shelves.now) }
 {
-    for first in from..shelves.len().min(from + SHELVES_OF_BLOCK) {
+    for first in from..shelves.len().min(end) {
         if serves(sides, shelves, first, 1) {
             return Some(Group { first, others: 1 });
         }

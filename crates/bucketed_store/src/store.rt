@@ -254,8 +254,12 @@ impl Store {
         ensures { self.new
             ≡ record self.old { shelves = spec.kept_merged group.now self.old.shelves } }
     {
+        let is_flat = self.shelves[group.first].shelf.height == 0;
         let height = merge(&mut self.shelves, group);
         self.heights.add(group.first, height);
+        if is_flat {
+            self.blocks.know_anew(&self.shelves, group.first);
+        }
     }
 
     /// Makes what is known of shelves exact where that was put off, so that a search passes over as many as it can.

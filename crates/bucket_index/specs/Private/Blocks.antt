@@ -1,8 +1,8 @@
 -- What is known of neighbouring shelves together.
 pub use Rattle.std.specs.Prelude.{ℕ}
-use Rattle.std.specs.Prelude.{◌≡◌, ◌<◌, ◌≤◌, ◌+◌, ◌*◌, ◌/◌, ◌%◌, ◌==◌, cond, get_or, max, Bool, true, false, ◌&&◌, ◌||◌, Some, List, slice_get, nat_le}
+use Rattle.std.specs.Prelude.{◌≡◌, ◌<◌, ◌≤◌, ◌+◌, ◌*◌, ◌/◌, ◌%◌, ◌==◌, cond, get_or, max, Bool, true, false, ◌&&◌, ◌||◌, Some, List, slice_get, nat_le, if◌then◌else◌}
 use Rattle.std.specs.Option.{option_map_or}
-use Rattle.etagere_links.specs.Edits.{changed_by}
+use Rattle.etagere_links.specs.Edits.{changed_by, field_at}
 use Rattle.bucketed_records.specs.Private.Store.{is_kept_idle}
 pub use Rattle.bucketed_records.specs.declared.records.KeptShelf.{KeptShelf}
 pub use Rattle.bucket_index.specs.declared.blocks.Block.{Block}
@@ -34,9 +34,17 @@ joined one other =
     }
 
 -- a shelf has no more room than is known of its block; if it holds nothing live that is known too
-pub record IsKnown (kept : KeptShelf) (block : Block) : Type 0 where
+pub record IsCovered (kept : KeptShelf) (block : Block) : Type 0 where
   pub room : kept.widest_room ≤ block.widest_room
   pub idle : is_kept_idle kept ≡ true → block.has_idle ≡ true
+
+-- the same of a shelf that has a height: of one without none is to be known, since it gives nothing
+abbrev pub IsKnown : KeptShelf → Block → Type 0
+IsKnown kept block = 0 < kept.shelf.height → IsCovered kept block
+
+-- what is known of a block with this shelf beside the others, if that has a height
+abbrev pub with_standing : KeptShelf → Block → Block
+with_standing kept block = if kept.shelf.height == 0 then block else with_shelf kept block
 
 -- the shelf of a number is known to its block of this size, if there is one of it
 abbrev pub IsKnownOf : ℕ → ℕ → KeptShelf → List Block → Type 0
@@ -205,16 +213,20 @@ AreKnown = AreKnownIf (λ number. Unit {0})
 abbrev pub AreOthersKnown : ℕ → Blocks → List KeptShelf → Type 0
 AreOthersKnown one = AreKnownIf (λ number. number ≡ one → ⊥)
 
+-- how tall the shelf of a number is
+abbrev pub height_at : List KeptShelf → ℕ → ℕ
+height_at shelves number = field_at (λ (kept : KeptShelf). kept.shelf.height) 0 shelves number
+
 -- the shelf of a number is known to its blocks, and to what is kept of others
 pub record IsFollowed (number : ℕ) (kept : KeptShelf) (blocks : Blocks) : Type 0 where
   pub known : IsKnownAt number kept blocks
   pub beside : blocks.others.number < 4096 → IsBeside blocks.others number kept
 
--- the same of any with no more room than this that holds something live
-abbrev pub IsFollowedUpTo : ℕ → ℕ → Blocks → Type 0
-IsFollowedUpTo number room blocks =
-    (kept : KeptShelf) → kept.widest_room ≤ room → is_kept_idle kept ≡ false
-    → IsFollowed number kept blocks
+-- the same of any as tall as this that has no more room than this, and holds something live
+abbrev pub IsFollowedUpTo : ℕ → ℕ → ℕ → Blocks → Type 0
+IsFollowedUpTo number height room blocks =
+    (kept : KeptShelf) → kept.shelf.height ≡ height → kept.widest_room ≤ room
+    → is_kept_idle kept ≡ false → IsFollowed number kept blocks
 
 -- each of the first so many shelves is known to its blocks
 abbrev pub AreFirstKnown : ℕ → Blocks → List KeptShelf → Type 0
@@ -230,14 +242,14 @@ abbrev pub may_be_idle : List Block → ℕ → Bool
 may_be_idle blocks number =
     option_map_or (λ (block : Block). block.has_idle) (slice_get blocks number) true
 
--- none of the shelves from one number up to another has room for this width
+-- none of the shelves from one number up to another has both a height and room for this width
 abbrev pub AreNarrow : ℕ → ℕ → ℕ → List KeptShelf → Type 0
 AreNarrow width from behind shelves =
     (number : ℕ) (kept : KeptShelf) → from ≤ number → number < behind
-    → slice_get shelves number ≡ Some kept → kept.widest_room < width
+    → slice_get shelves number ≡ Some kept → 0 < kept.shelf.height → kept.widest_room < width
 
--- each of the shelves from one number up to another holds something live
+-- each of the shelves from one number up to another that has a height holds something live
 abbrev pub AreBusy : ℕ → ℕ → List KeptShelf → Type 0
 AreBusy from behind shelves =
     (number : ℕ) (kept : KeptShelf) → from ≤ number → number < behind
-    → slice_get shelves number ≡ Some kept → is_kept_idle kept ≡ false
+    → slice_get shelves number ≡ Some kept → 0 < kept.shelf.height → is_kept_idle kept ≡ false

@@ -1,11 +1,9 @@
 -- The widest room of a shelf after one of its buckets gave an item.
-use Rattle.std.proofs.Common.{◌≡◌, ℕ, zero, suc, ◌+◌, ◌-◌, ◌≤◌, Bool, true, false, cond, Option, None, Some, List, max, refl, subst, ap, sym, ◌∙◌, arith, ◌==◌}
-use Rattle.std.proofs.lemmas.Bool.{eqb-true}
+use Rattle.std.proofs.Common.{◌≡◌, ℕ, ◌+◌, ◌-◌, ◌≤◌, Bool, true, false, cond, Option, Some, refl, subst, sym, arith}
 use Rattle.std.proofs.lemmas.Bool.Decides.{nat_tests}
-use Rattle.std.specs.Option.{option_map_or}
-use Rattle.std.specs.Prelude.{nat_lt, option_map, slice_get}
+use Rattle.std.specs.Prelude.{nat_lt, slice_get}
 use Rattle.etagere_links.specs.Edits.{changed_by}
-use Rattle.etagere_links.proofs.RecordChanges.{get-changed_by, get-changed_by-other, link_at-same, map-changed_by}
+use Rattle.etagere_links.proofs.RecordChanges.{link_at-same, map-changed_by}
 use Rattle.bucketed_model.specs.State.{most_buckets}
 use Rattle.bucketed_records.specs.declared.records.LinkedBucket.{LinkedBucket}
 use Rattle.bucketed_records.specs.Private.Store.{record_room, Stored}

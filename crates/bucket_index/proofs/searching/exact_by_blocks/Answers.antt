@@ -3,7 +3,7 @@ use Rattle.std.specs.Prelude.{is_some}
 use Rattle.bucketed_model.specs.Picking.{or_else}
 use Rattle.bucket_index.specs.declared.searching.FoundBucket.{FoundBucket}
 use Rattle.bucket_index.specs.Private.Searching.{exact_from}
-use Rattle.bucket_index.proofs.PassedShelves.{exact-behind, exact-none}
+use Rattle.bucket_index.proofs.PassedShelves.{exact-behind, exact-passed}
 use Rattle.bucket_index.proofs.TallestShelves.{exact-low}
 use Rattle.bucket_index.proofs.searching.exact_by_blocks.Goals as goal
 use Rattle.bucket_index.proofs.searching.exact_by_blocks.Goals.{then-at-behind, else-at-behind+else-is_some}
@@ -24,7 +24,7 @@ loop-block-preserved c =
       | then-at-behind w ↦ record {
         rest = ap (λ (k : ℕ). exact_from sides buckets k (drop k shelves)) w.at-is
             ∙ exact-behind sides buckets shelves at behind.result behind.ensures.on
-            (λ number kept on under there. exact-none sides buckets number kept (behind.ensures.narrow shelves c.requires.known number kept on under there)) ∙ c.loop-block.invariant.rest;
+            (λ number kept on under there. exact-passed sides buckets number kept c.requires.across (behind.ensures.narrow shelves c.requires.known number kept on under there)) ∙ c.loop-block.invariant.rest;
         on = omega (arith, w.at-is, w.if-at-behind.true, c.loop-block.invariant.on);
       }
       | else-at-behind+else-is_some w ↦ record {

@@ -1,6 +1,6 @@
 use Rattle.std.proofs.Common.{sym, ◌∙◌, arith}
 use Rattle.bucket_index.specs.Private.Searching.{kept_waste}
-use Rattle.bucket_index.proofs.PassedShelves.{least-past, waste-none}
+use Rattle.bucket_index.proofs.PassedShelves.{least-past, waste-passed}
 use Rattle.bucket_index.proofs.FoundShelves.{all-within, before-end}
 use Rattle.bucket_index.proofs.SteppedShelves.{best-of_all}
 use Rattle.bucket_index.proofs.TallestShelves.{waste-low}
@@ -10,7 +10,7 @@ pub loop-from-preserved-then-from-behind : goal.loop-from-preserved-then-from-be
 loop-from-preserved-then-from-behind c =
     let behind = c.behind_narrow-behind in
     least-past c.args.adds c.args.sides.now c.args.shelves.now c.loop-from.best c.loop-from.from behind.result c.loop-from.invariant behind.ensures.on
-    (λ number kept on under at. waste-none c.args.adds c.args.sides.now kept (behind.ensures.narrow c.args.shelves.now c.requires.known number kept on under at))
+    (λ number kept on under at. waste-passed c.args.adds c.args.sides.now kept c.requires.across (behind.ensures.narrow c.args.shelves.now c.requires.known number kept on under at))
 
 pub loop-from-preserved : goal.loop-from-preserved
 loop-from-preserved c =

@@ -1,6 +1,6 @@
 use Rattle.std.proofs.Common.{length, refl}
 use Rattle.std.proofs.lemmas.Option.{slice_get_read}
-use Rattle.bucket_index.proofs.KnownBlocks.{known-with}
+use Rattle.bucket_index.proofs.KnownBlocks.{height-read, known-with}
 use Rattle.bucket_index.proofs.OtherShelves.{followed-own, known-late}
 use Rattle.bucket_index.proofs.blocks.Blocks.follow.Goals as goal
 
@@ -10,8 +10,8 @@ returns-then-stays_equal c =
     let number = c.args.number in
     let one = c.index-shelves-number.result in
     let is = c.stays_equal.ensures c.if-stays_equal.true in
-    known-with number one c.args.self.now shelves (slice_get_read shelves (length shelves) number one refl c.requires.within c.index-shelves-number.is)
-    (c.requires.before c.if-not-self.false one is.0 is.1) c.requires.others
+    let there = slice_get_read shelves (length shelves) number one refl c.requires.within c.index-shelves-number.is in
+    known-with number one c.args.self.now shelves there (c.requires.before c.if-not-self.false one (height-read shelves number one there) is.0 is.1) c.requires.others
 
 pub returns-then-knows_again : goal.returns-then-knows_again
 returns-then-knows_again c =

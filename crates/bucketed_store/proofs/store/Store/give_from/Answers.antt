@@ -8,13 +8,14 @@ use Rattle.bucketed_records.specs.declared.records.LinkedBucket.{LinkedBucket}
 use Rattle.bucketed_records.specs.declared.records.KeptShelf.{KeptShelf}
 use Rattle.bucketed_records.specs.Private.Store.{Stored}
 use Rattle.bucket_index.specs.declared.blocks.Block.{Block}
-use Rattle.bucket_index.specs.Private.Blocks.{AreKnown, AreOthersKnown}
+use Rattle.bucket_index.specs.Private.Blocks.{AreKnown, AreOthersKnown, height_at}
 use Rattle.bucket_index.specs.Private.Heights.{AreBelow}
 use Rattle.bucket_index.specs.Private.Rest.{IsRest}
 use Rattle.bucket_index.proofs.TallestShelves.{below-kept}
 use Rattle.bucket_index.specs.Private.Searching.{widest_from}
 use Rattle.bucket_index.specs.Private.Spans.{AreSpans}
 use Rattle.bucket_index.proofs.KnownBlocks.{followed-stays, known-at, known-others}
+use Rattle.bucketed_store.proofs.KnownShelves.{height-kept}
 use Rattle.bucketed_store.specs.Private.StoreEdits.{IsWidestKept, first_bucket_of, given_from, shelves_given}
 use Rattle.bucketed_store.proofs.store.Store.give_from.Goals as goal
 
@@ -54,7 +55,16 @@ follow-requires-clause-before c =
     let before = c.index.result.now in
     let there : slice_get shelves shelf ≡ Some before =
     slice_get-get_or shelves shelf before (omega (arith, c.requires.shelf, ap (λ (stored : Stored). length stored.shelves) c.self.view_is)) ∙ ap (λ (kept : KeptShelf). Some kept) (sym c.index.ensures) in
-    λ counts kept narrow busy. followed-stays shelf before kept c.self.inside.blocks (omega (arith, narrow, ap (λ (b : Block). b.widest_room) c.known_of-before.ensures)) busy (known-at shelf before c.self.inside.blocks shelves there c.self.invariant.0 counts)
+    let items : (with_items c.self.inside.shelves c.give_from.new.shelves).items ≡ c.give_from.new.shelves =
+    with_items_is c.self.inside.shelves c.give_from.new.shelves (omega (arith, c.give_from.auto.shelves, c.deref_mut.ensures.len)) in
+    let given : c.give_from.new.shelves ≡ shelves_given shelf shelves c.self.inside.buckets.items =
+    c.give_from.ensures.shelves
+    ∙ ap (λ (xs : List KeptShelf). shelves_given shelf xs c.deref.result.now) c.deref_mut.ensures.value
+    ∙ ap (λ (bs : List LinkedBucket). shelves_given shelf shelves bs) c.deref.ensures.value in
+    let tall : height_at c.deref-2.result.now shelf ≡ before.shelf.height =
+    ap (λ (xs : List KeptShelf). height_at xs shelf) (c.deref-2.ensures.value ∙ items ∙ given)
+    ∙ height-kept shelf (given_from (widest_from most_buckets c.self.inside.buckets.items (first_bucket_of shelves shelf))) shelves before (λ x. refl) there in
+    λ counts kept as_tall narrow busy. followed-stays shelf before kept c.self.inside.blocks (as_tall ∙ tall) (omega (arith, narrow, ap (λ (b : Block). b.widest_room) c.known_of-before.ensures)) busy (known-at shelf before c.self.inside.blocks shelves there c.self.invariant.0 counts)
 
 pub follow-requires-clause-others : goal.follow-requires-clause-others
 follow-requires-clause-others c =

@@ -11,7 +11,7 @@ use Rattle.bucketed_records.specs.declared.records.KeptShelf.{KeptShelf}
 use Rattle.bucketed_records.specs.StandsFor.{live_of, shelf_of}
 use Rattle.bucketed_records.specs.Private.Store.{record_room, Stored}
 use Rattle.bucket_index.specs.declared.blocks.Block.{Block}
-use Rattle.bucket_index.specs.Private.Blocks.{AreKnown, AreOthersKnown}
+use Rattle.bucket_index.specs.Private.Blocks.{AreKnown, AreOthersKnown, height_at}
 use Rattle.bucket_index.specs.Private.Heights.{AreBelow}
 use Rattle.bucket_index.specs.Private.Rest.{IsRest}
 use Rattle.bucket_index.specs.Private.Rooms.{AreCounted, tally}
@@ -24,7 +24,7 @@ use Rattle.bucket_index.proofs.KnownBlocks.{AreSome, followed-stays, known-at, k
 use Rattle.bucket_index.proofs.KnownSpans.{spans-changed-room}
 use Rattle.bucketed_store.specs.Private.Returns.{Dropping, dropping_of, emptied_record, lessened_record, returned_kept, returned_record, width_of}
 use Rattle.bucketed_store.specs.Private.StoreEdits.{KnowsWidest, first_bucket_of}
-use Rattle.bucketed_store.proofs.KnownShelves.{others-some, some-dropped}
+use Rattle.bucketed_store.proofs.KnownShelves.{height-kept, others-some, some-dropped}
 use Rattle.bucketed_store.proofs.RoomsKept.{counted-same, dropped-kept, followed, is-there}
 use Rattle.bucketed_store.proofs.store.Store.return_item.Goals as goal
 use Rattle.bucketed_store.proofs.store.Store.return_item.Goals.{After-room_of-room}
@@ -80,7 +80,21 @@ pub follow-requires-clause-before : goal.follow-requires-clause-before
 follow-requires-clause-before c =
     let before = c.index.result.now in
     let there = shelf-there (goal.at.follow-requires-clause-before c).After-room_of-room in
-    λ counts kept narrow busy. followed-stays c.shelf_number-shelf.result before kept c.self.inside.blocks (omega (arith, narrow, ap (λ (b : Block). b.widest_room) c.known_of-before.ensures)) busy
+    let inside = c.self.inside in
+    let number = c.args.number in
+    let shelf : c.shelf_number-shelf.result ≡ shelf_of inside.buckets.items number = shelf-is (goal.at.follow-requires-clause-before c).After-room_of-room in
+    let change = returned_kept (nat_le (live_of inside.buckets.items number) 1) in
+    let items : (with_items inside.shelves c.return_item.new.shelves).items ≡ c.return_item.new.shelves =
+    with_items_is inside.shelves c.return_item.new.shelves (omega (arith, c.return_item.auto.shelves, c.deref_mut.ensures.len)) in
+    let returned : c.return_item.new.shelves ≡ changed_by (Some c.shelf_number-shelf.result) change inside.shelves.items =
+    c.return_item.ensures.shelves
+    ∙ ap (λ (bs : List LinkedBucket). changed_by (Some (shelf_of bs number)) (returned_kept (nat_le (live_of bs number) 1)) c.deref_mut.result.now) c.deref_mut-2.ensures.value
+    ∙ ap (λ (xs : List KeptShelf). changed_by (Some (shelf_of inside.buckets.items number)) change xs) c.deref_mut.ensures.value
+    ∙ ap (λ (n : ℕ). changed_by (Some n) change inside.shelves.items) (sym shelf) in
+    let tall : height_at c.deref-then-not-ends_idle.result.now c.shelf_number-shelf.result ≡ before.shelf.height =
+    ap (λ (xs : List KeptShelf). height_at xs c.shelf_number-shelf.result) (c.deref-then-not-ends_idle.ensures.value ∙ items ∙ returned)
+    ∙ height-kept c.shelf_number-shelf.result change inside.shelves.items before (λ x. refl) there in
+    λ counts kept as_tall narrow busy. followed-stays c.shelf_number-shelf.result before kept c.self.inside.blocks (as_tall ∙ tall) (omega (arith, narrow, ap (λ (b : Block). b.widest_room) c.known_of-before.ensures)) busy
     (known-at c.shelf_number-shelf.result before c.self.inside.blocks c.self.inside.shelves.items there c.self.invariant.0 counts)
 
 pub follow-requires-clause-others : goal.follow-requires-clause-others

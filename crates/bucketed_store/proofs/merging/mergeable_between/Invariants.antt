@@ -1,6 +1,6 @@
 use Rattle.std.proofs.Common.{◌≡◌, drop}
 use Rattle.bucketed_store.specs.Private.Placing.{kept_mergeable}
-use Rattle.bucketed_store.proofs.merging.mergeable_in.Given as goal
+use Rattle.bucketed_store.proofs.merging.mergeable_between.Given as goal
 
 -- what is sought from the first shelf of the block on is what is sought from here on
 abbrev pub invariant-loop-first : goal.invariant-loop-first

@@ -1,6 +1,6 @@
 use Rattle.std.proofs.Common.{◌≡◌, suc, ◌+◌, sym, ◌∙◌, arith}
 use Rattle.bucketed_store.proofs.BusyShelves.{mergeable-past}
-use Rattle.bucketed_store.proofs.merging.mergeable_in.Goals as goal
+use Rattle.bucketed_store.proofs.merging.mergeable_between.Goals as goal
 
 pub loop-first-preserved : goal.loop-first-preserved
 loop-first-preserved c =
