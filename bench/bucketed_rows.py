@@ -125,8 +125,8 @@ ROWS = {
     # What the crate takes here was counted with plain geometry types in place of its own.
     "a shelf of 512, the same": Row(shelf_alone, 9679, before=10321),
     # Counted likewise, as the next one.
-    "a shelf of 16 buckets with a little left: any goes and comes": Row(lambda _: little_left(16), 218, before=386),
-    "a shelf of 64, the same": Row(lambda _: little_left(64), 381, before=923),
+    "a shelf of 16 buckets with a little left: any goes and comes": Row(lambda _: little_left(16), 218, before=390),
+    "a shelf of 64, the same": Row(lambda _: little_left(64), 381, before=927),
     "4095 full shelves: the first goes and comes": Row(first_goes, 158, before=26829),
     "the same, any": Row(any_goes, 49080, before=26829, most=MOST),
     "the same, a refused size": Row(refused, 311351, before=82013, most=MOST),
