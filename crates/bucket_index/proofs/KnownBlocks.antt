@@ -1,9 +1,10 @@
 -- What is known of blocks of shelves: after a shelf was added or changed, and of shelves that are passed over.
-use Rattle.std.proofs.Common.{◌≡◌, ℕ, zero, suc, ◌+◌, ◌-◌, ◌*◌, ◌<◌, ◌≤◌, Bool, true, false, Option, None, Some, List, [], ◌∷◌, ◌++◌, length, length-append, map, take, cond, refl, ap, sym, subst, ◌∙◌, arith, ◌==◌}
+use Rattle.std.proofs.Common.{◌≡◌, ℕ, zero, suc, ◌+◌, ◌-◌, ◌*◌, ◌<◌, ◌≤◌, Bool, true, false, Option, None, Some, List, [], ◌∷◌, ◌++◌, length, length-append, take, cond, refl, ap, sym, subst, ◌∙◌, arith, ◌==◌}
+use Rattle.std.proofs.lemmas.Bool.Decides.{nat_tests}
 use Rattle.std.proofs.lemmas.Bool.{and_parts, eqb-true, leb-false, leb-true}
 use Rattle.std.proofs.lemmas.Option.{slice_get_within}
 use Rattle.std.specs.Option.{option_map_or}
-use Rattle.std.specs.Prelude.{option_map, nat_le, slice_get, ◌%◌, ◌||◌}
+use Rattle.std.specs.Prelude.{option_map, nat_le, nat_lt, slice_get, ◌%◌, ◌||◌}
 use Rattle.etagere_links.specs.Edits.{changed_by}
 use Rattle.etagere_links.proofs.RecordChanges.{get-changed_by, get-changed_by-other}
 use Rattle.bucketed_records.specs.declared.records.KeptShelf.{KeptShelf}
@@ -11,7 +12,7 @@ use Rattle.bucketed_records.specs.Private.Store.{is_kept_idle}
 use Rattle.bucket_index.specs.declared.blocks.Block.{Block}
 use Rattle.bucket_index.specs.declared.blocks.Blocks.{Blocks}
 use Rattle.bucket_index.specs.declared.blocks.Others.{Others}
-use Rattle.bucket_index.specs.Private.Blocks.{AreCountedWhere, AreFirstKnown, AreInSteps, AreKnown, AreKnownOf, AreKnownWhere, AreOthers, AreOthersKnown, IsBeside, IsCovered, IsFollowed, IsKnown, IsKnownOf, IsPart, block_of, expecting, height_at, joined, may_be_idle, may_give, raised, with_shelf, with_standing}
+use Rattle.bucket_index.specs.Private.Blocks.{AreBusy, AreCountedWhere, AreFirstKnown, AreInSteps, AreKnown, AreKnownOf, AreKnownWhere, AreOthers, AreOthersKnown, IsBeside, IsCovered, IsFollowed, IsKnown, IsKnownOf, IsPart, block_of, expecting, height_at, joined, may_be_idle, may_give, raised, with_shelf, with_standing}
 
 -- a shelf is known to a block that was counted with it
 pub known-own : (kept : KeptShelf) (block : Block) → IsKnown kept (with_shelf kept block)
@@ -173,6 +174,14 @@ busy-of size b blocks shelves known busy k kept here at tall = by_block (slice_g
         by_test : (t : Bool) → is_kept_idle kept ≡ t → IsCovered kept block → is_kept_idle kept ≡ false
         by_test true idle is = let both = is.idle idle in absurd (cc)
         by_test false idle is = idle
+
+-- shelves up to one that have a height are busy, and so are those from there on
+pub busy-joined : (from at behind : ℕ) (shelves : List KeptShelf) → AreBusy from at shelves → AreBusy at behind shelves → AreBusy from behind shelves
+busy-joined from at behind shelves before after number kept low high here = by_number (nat_lt number at) refl
+  where
+    by_number : (t : Bool) → nat_lt number at ≡ t → 0 < kept.shelf.height → is_kept_idle kept ≡ false
+    by_number true e = before number kept low (grind (arith, nat_tests)) here
+    by_number false e = after number kept (grind (arith, nat_tests)) high here
 
 -- what is known of a shelf is what was known of the one of its number among others
 pub record IsCarried (Before : ℕ → Type 0) (xs : List KeptShelf) (number : ℕ) (kept : KeptShelf) : Type 0 where

@@ -1,9 +1,9 @@
 -- What is known of spans: after a record was changed or made, and of records that a search passes.
-use Rattle.std.proofs.Common.{◌≡◌, ℕ, zero, suc, ◌+◌, ◌-◌, ◌/◌, ◌<◌, ◌≤◌, Bool, true, false, cond, Option, None, Some, List, [], ◌∷◌, ◌++◌, length, max, refl, ap, sym, subst, ◌∙◌, arith, ◌==◌}
+use Rattle.std.proofs.Common.{◌≡◌, ℕ, zero, suc, ◌+◌, ◌-◌, ◌/◌, ◌<◌, ◌≤◌, Bool, true, false, cond, Option, None, Some, List, [], ◌∷◌, ◌++◌, length, map, max, refl, ap, sym, subst, ◌∙◌, arith, ◌==◌}
 use Rattle.std.proofs.lemmas.Bool.{eqb-true, leb-true}
-use Rattle.std.proofs.lemmas.Option.{slice_get_within}
+use Rattle.std.proofs.lemmas.Option.{slice_get-map, slice_get_within}
 use Rattle.std.specs.Option.{option_map_or}
-use Rattle.std.specs.Prelude.{nat_le, nat_lt, option_and_then, replicate, slice_get, ◌&&◌}
+use Rattle.std.specs.Prelude.{nat_le, nat_lt, option_and_then, option_map, replicate, slice_get, ◌&&◌}
 use Rattle.etagere_links.specs.Edits.{changed_by}
 use Rattle.etagere_links.proofs.RecordChanges.{get-changed_by-other, length-changed_by, link_at-same, map-changed_by}
 use Rattle.bucketed_records.specs.BucketRecords.{next_of}
@@ -357,6 +357,66 @@ spans-changed-room one change spans xs links are learned =
       };
       others = λ same. others-changed-room one change spans xs links (are learned).others same;
     }
+
+-- a span stays one where a record was changed that links to the same and has the same room
+span-same : (numbered : ℕ → ℕ) (block : ℕ) (span : Span) (xs ys : List LinkedBucket) → length xs ≤ length ys → ((k : ℕ) → next_of ys k ≡ next_of xs k) → ((k : ℕ) → room_at ys k ≡ room_at xs k)
+    → IsKnownSpan numbered block span xs → IsKnownSpan numbered block span ys
+span-same numbered block span xs ys long links rooms is known =
+    let before = is known in
+    record {
+      some = before.some;
+      lead = lead-still span.steps (IsWithin numbered block span.widest_room xs) (IsWithin numbered block span.widest_room ys) xs ys (Some span.first) (link_of span.behind) long (λ k low in_. links k)
+          (λ k low in_. (in_.0, omega (arith, in_.1, rooms k))) before.lead;
+    }
+
+-- the same where nothing is said of the room of one record
+span-except-same : (one : ℕ) (numbered : ℕ → ℕ) (block : ℕ) (span : Span) (xs ys : List LinkedBucket) → length xs ≤ length ys → ((k : ℕ) → next_of ys k ≡ next_of xs k) → ((k : ℕ) → room_at ys k ≡ room_at xs k)
+    → IsKnownSpanExcept one numbered block span xs → IsKnownSpanExcept one numbered block span ys
+span-except-same one numbered block span xs ys long links rooms is known =
+    let before = is known in
+    record {
+      some = before.some;
+      lead = lead-still span.steps (IsWithinExcept one numbered block span.widest_room xs) (IsWithinExcept one numbered block span.widest_room ys) xs ys (Some span.first) (link_of span.behind) long (λ k low in_. links k)
+          (λ k low in_. (in_.0, λ other. omega (arith, in_.1 other, rooms k))) before.lead;
+    }
+
+-- spans stay right where a record was changed that links to the same and has the same room
+pub spans-same : (one : ℕ) (change : LinkedBucket → LinkedBucket) (spans : Spans) (xs : List LinkedBucket) → ((b : LinkedBucket) → (change b).next ≡ b.next) → ((b : LinkedBucket) → record_room (change b) ≡ record_room b)
+    → AreSpans spans xs → AreSpans spans (changed_by (Some one) change xs)
+spans-same one change spans xs links rooms are learned =
+    let is = are learned in
+    let number = spans.others.number in
+    record {
+      known = record {
+        small = λ block span at. span-same (block_of 1) block span xs ys long next room (is.known.small block span at);
+        middle = λ block span at. span-same (block_of 8) block span xs ys long next room (is.known.middle block span at);
+        large = λ block span at. span-same (block_of 64) block span xs ys long next room (is.known.large block span at);
+      };
+      others = λ some. record {
+        small = λ span at. span-except-same number (block_of 1) (block_of 1 number) (bounded spans.others.small span) xs ys long next room ((is.others some).small span at);
+        middle = λ span at. span-except-same number (block_of 8) (block_of 8 number) (bounded spans.others.middle span) xs ys long next room ((is.others some).middle span at);
+        large = λ span at. span-except-same number (block_of 64) (block_of 64 number) (bounded spans.others.large span) xs ys long next room ((is.others some).large span at);
+      };
+    }
+  where
+    ys : List LinkedBucket
+    ys = changed_by (Some one) change xs
+
+    long : length xs ≤ length ys
+    long = omega (arith, length-changed_by change xs (Some one))
+
+    next : (k : ℕ) → next_of ys k ≡ next_of xs k
+    next k = link_at-same (λ (b : LinkedBucket). b.next) xs ys k (map-changed_by (λ (b : LinkedBucket). b.next) change xs (Some one) links)
+
+    read : (zs : List LinkedBucket) (k : ℕ) → room_at zs k ≡ option_map_or (λ (n : ℕ). n) (slice_get (map record_room zs) k) 0
+    read zs k = by_found (slice_get zs k) ∙ ap (λ (o : Option ℕ). option_map_or (λ (n : ℕ). n) o 0) (sym (slice_get-map record_room zs k))
+      where
+        by_found : (o : Option LinkedBucket) → option_map_or record_room o 0 ≡ option_map_or (λ (n : ℕ). n) (option_map record_room o) 0
+        by_found None = refl
+        by_found (Some b) = refl
+
+    room : (k : ℕ) → room_at ys k ≡ room_at xs k
+    room k = read ys k ∙ ap (λ (ns : List ℕ). option_map_or (λ (n : ℕ). n) (slice_get ns k) 0) (map-changed_by record_room change xs (Some one) rooms) ∙ sym (read xs k)
 
 -- where the record of a number was changed
 of-changed : (one : ℕ) (change : LinkedBucket → LinkedBucket) (numbered : ℕ → ℕ) (spans : List Span) (xs : List LinkedBucket) → AreSpansOf numbered spans xs → AreOtherSpansOf one numbered spans (changed_by (Some one) change xs)

@@ -4,6 +4,7 @@ pub mod KnownBlocks
 pub mod KnownSpans
 pub mod LimitedWaste
 pub mod LinkedRecords
+pub mod MissedShelves
 pub mod OtherShelves
 pub mod PassedShelves
 pub mod RestOfRows

@@ -180,17 +180,18 @@ rest-same n f first bs links =
       beside-less n first bs (changed_by (Some n) f bs) (alike-back _ _ here) (λ k e. rw (elsewhere n k f bs e) (same-at (slice_get bs k))),
     )
 
+-- a record that has no more room leads where the other one does
+linked : (x y : Option LinkedBucket) → IsLessAt x y → Alike x y
+linked None y less = less
+linked (Some x) None less = less
+linked (Some x) (Some y) less = less.next
+
 -- the rest can give no more where a bucket has no more room, and keeps its link
 pub rest-lowered : (m n : ℕ) (f : LinkedBucket → LinkedBucket) (first : Option ℕ) (bs : List LinkedBucket) → ((x : LinkedBucket) → (f x).next ≡ x.next) → ((x : LinkedBucket) → record_room (f x) ≤ record_room x)
     → widest_from most_buckets (changed_by (Some n) full_record (changed_by (Some m) f bs)) first ≤ widest_from most_buckets (changed_by (Some n) full_record bs) first
 rest-lowered m n f first bs links lowers =
     beside-less n first (changed_by (Some m) f bs) bs (linked (slice_get (changed_by (Some m) f bs) n) (slice_get bs n) (lowered n)) (λ k e. lowered k)
   where
-    linked : (x y : Option LinkedBucket) → IsLessAt x y → Alike x y
-    linked None y less = less
-    linked (Some x) None less = less
-    linked (Some x) (Some y) less = less.next
-
     one : (o : Option LinkedBucket) → IsLessAt (option_map f o) o
     one None = refl
     one (Some x) = record { room = lowers x; next = links x }
@@ -222,3 +223,26 @@ known-beside f rest bs links known =
       most = omega (arith, same, known.most);
       exact = λ is. omega (arith, same, known.exact is);
     }
+
+-- what is known stays known where a bucket changed that keeps its room and its link
+pub rest-kept : (m : ℕ) (f : LinkedBucket → LinkedBucket) (rest : Rest) (bs : List LinkedBucket) → ((x : LinkedBucket) → (f x).next ≡ x.next) → ((x : LinkedBucket) → record_room (f x) ≡ record_room x) → IsRest rest bs
+    → IsRest rest (changed_by (Some m) f bs)
+rest-kept m f rest bs links rooms known =
+    let n = rest.bucket in
+    let less = rest-lowered m n f rest.first bs links (λ x. omega (arith, rooms x)) in
+    let more = beside-less n rest.first bs (changed_by (Some m) f bs) (linked (slice_get bs n) (slice_get (changed_by (Some m) f bs) n) (kept n)) (λ k e. kept k) in
+    record {
+      most = omega (arith, less, known.most);
+      exact = λ is. omega (arith, less, more, known.exact is);
+    }
+  where
+    one : (o : Option LinkedBucket) → IsLessAt o (option_map f o)
+    one None = refl
+    one (Some x) = record { room = omega (arith, rooms x); next = sym (links x) }
+
+    kept : (k : ℕ) → IsLessAt (slice_get bs k) (slice_get (changed_by (Some m) f bs) k)
+    kept k = by_number (k == m) refl
+      where
+        by_number : (t : Bool) → (k == m) ≡ t → IsLessAt (slice_get bs k) (slice_get (changed_by (Some m) f bs) k)
+        by_number true e = rw (eqb-true k m e, own m f bs) (one (slice_get bs m))
+        by_number false e = rw (elsewhere m k f bs e) (same-at (slice_get bs k))

@@ -269,6 +269,24 @@ fn behind_narrow_small(blocks: &[Block], shelf: usize, width: u32) -> usize
     end * SHELVES_OF_BLOCK
 }
 
+/// Where a search for a shelf that has a height and holds nothing live goes on that has come to the shelf of a number: at
+/// that one, or behind blocks of one size in which there is none. It ends at the shelf of another number.
+#[inline(always)]
+fn behind_busy_of(blocks: &[Block], size: usize, from: usize, end: usize) -> usize
+    requires size { (0 < size) × (size ≤ 512) }
+    requires end { end < 2 ^ 62 }
+    ensures on { from ≤ result }
+    ensures busy { (shelves : spec.Shelves)
+        → spec.AreKnownOf (λ number. Unit {0}) size blocks.now shelves
+        → spec.AreBusy from result shelves }
+{
+    let mut at = from;
+    while at < end && !may_be_idle(blocks, at / size) {
+        at = end_of(size, at);
+    }
+    at
+}
+
 impl Blocks {
     /// Those of no shelves.
     pub fn new() -> Blocks
@@ -368,27 +386,28 @@ impl Blocks {
         (first + BLOCKS_AT_ONCE) * SHELVES_OF_BLOCK
     }
 
-    /// Where a search for a shelf that has a height and holds nothing live goes on that has come to the shelf of a number:
-    /// at that one, or behind a block in which there is none.
-    pub fn behind_busy(&self, from: usize) -> usize
-        requires { from < 2 ^ 62 }
+    /// Where a search for a shelf that has a height and holds nothing live goes on that has come to the shelf of a number,
+    /// one of so many: at that one, or behind blocks in which there is none.
+    pub fn behind_busy(&self, from: usize, count: usize) -> usize
+        requires { count < 2 ^ 62 }
         ensures on { from ≤ result }
-        ensures small { result ≤ from + 512 }
         ensures busy { (shelves : spec.Shelves) → spec.AreKnown self.now shelves
             → spec.AreBusy from result shelves }
     {
         if !self.are_counted {
             return from;
         }
-        if may_be_idle(&self.small, from / SHELVES_OF_BLOCK) {
-            from
-        } else if may_be_idle(&self.middle, from / SHELVES_OF_MIDDLE) {
-            end_of(SHELVES_OF_BLOCK, from)
-        } else if may_be_idle(&self.large, from / SHELVES_OF_LARGE) {
-            end_of(SHELVES_OF_MIDDLE, from)
-        } else {
-            end_of(SHELVES_OF_LARGE, from)
+        let large = behind_busy_of(&self.large, SHELVES_OF_LARGE, from, count);
+        if large >= count {
+            return large;
         }
+        let end = end_of(SHELVES_OF_LARGE, large).min(count);
+        let middle = behind_busy_of(&self.middle, SHELVES_OF_MIDDLE, large, end);
+        if middle >= end {
+            return middle;
+        }
+        let end = end_of(SHELVES_OF_MIDDLE, middle).min(count);
+        behind_busy_of(&self.small, SHELVES_OF_BLOCK, middle, end)
     }
 
     /// Knows the shelf of a number beside the others.
@@ -689,7 +708,7 @@ impl Blocks {
         }
     }
 
-    /// Knows the shelf of a number anew, which got a height.
+    /// Knows the shelf of a number beside the others, which got a height.
     #[inline(never)]
     pub fn know_anew(&mut self, shelves: &[KeptShelf], number: usize)
         requires within { number < length shelves.now }
@@ -697,8 +716,11 @@ impl Blocks {
         ensures { spec.AreKnown self.new shelves.now }
     {
         if self.are_counted {
-            self.settle_beside(shelves, number);
-            self.recount(shelves, number);
+            if self.is_late {
+                self.settle_beside(shelves, number);
+            }
+            self.others = NO_OTHERS;
+            self.raise(number, &shelves[number]);
         }
     }
 }

@@ -10,12 +10,14 @@ ghost use Rattle.bucketed_model.specs.Picking.{or_else};
 ghost use Rattle.bucketed_model.specs.State.{most_buckets};
 ghost use Rattle.bucket_index.specs.Private.Blocks.{AreKnown, IsStep};
 ghost use Rattle.bucket_index.specs.Private.Heights.{AreBelow};
+ghost use Rattle.bucket_index.specs.Private.Missed.{IsMissed};
 ghost use Rattle.bucket_index.specs.Private.Rooms.{AreCounted};
 ghost use Rattle.bucket_index.specs.Private.Searching as spec;
 ghost use Rattle.bucket_index.specs.Private.Spans.{AreSpans};
 
 use crate::blocks::Blocks;
 use crate::heights::Heights;
+use crate::missed::Missed;
 use crate::rooms::Rooms;
 use crate::spans::Spans;
 use bucketed_records::records::{KeptShelf, LinkedBucket, MOST_BUCKETS, MOST_GIVEN, record_room};
@@ -263,7 +265,7 @@ pub fn has_room(room: u16, buckets: &[LinkedBucket], first: Link) -> bool
 }
 
 /// The height that a shelf wastes where it has room and that is below a limit.
-fn waste_below(limit: u32, sides: &Sides, kept: &KeptShelf) -> Option<u32>
+pub(crate) fn waste_below(limit: u32, sides: &Sides, kept: &KeptShelf) -> Option<u32>
     ensures value { result ≡ spec.waste_below limit sides.now kept.now }
     ensures small { kept.now.shelf.height < 2 ^ 16 }
 {
@@ -302,17 +304,49 @@ fn least_waste(
     shelves: &[KeptShelf],
     blocks: &Blocks,
     heights: &Heights,
+    missed: &mut Missed,
 ) -> Option<FoundShelf>
     requires across { 0 < sides.now.across }
     requires known { AreKnown blocks.now shelves.now }
     requires below { AreBelow heights.now shelves.now }
+    requires missed { IsMissed missed.old shelves.now }
     ensures least { result ≡ first_least (map (spec.kept_waste adds sides.now) shelves.now) }
     ensures within { IfSome result (λ least. least.number < length shelves.now) }
+    ensures missed { IsMissed missed.new shelves.now }
 {
     if blocks.are_counted {
-        return least_by_blocks(adds, sides, shelves, blocks, heights);
+        return least_unless_missed(adds, sides, shelves, blocks, heights, missed);
     }
     least_in(adds, sides, shelves, blocks.step(), 0, shelves.len(), None)
+}
+
+/// The same, where none is looked for that is known to be missed, and it is learned where there is none.
+#[inline(always)]
+fn least_unless_missed(
+    adds: bool,
+    sides: &Sides,
+    shelves: &[KeptShelf],
+    blocks: &Blocks,
+    heights: &Heights,
+    missed: &mut Missed,
+) -> Option<FoundShelf>
+    requires across { 0 < sides.now.across }
+    requires counted { blocks.now.are_counted ≡ true }
+    requires known { AreKnown blocks.now shelves.now }
+    requires below { AreBelow heights.now shelves.now }
+    requires missed { IsMissed missed.old shelves.now }
+    ensures least { result ≡ first_least (map (spec.kept_waste adds sides.now) shelves.now) }
+    ensures within { IfSome result (λ least. least.number < length shelves.now) }
+    ensures missed { IsMissed missed.new shelves.now }
+{
+    if missed.covers(sides, shelves) {
+        return None;
+    }
+    let best = least_by_blocks(adds, sides, shelves, blocks, heights);
+    if best.is_none() {
+        missed.learn(adds, sides);
+    }
+    best
 }
 
 /// The same, where blocks in which none has room are passed over, and behind one that was searched those that are too low.
@@ -565,15 +599,18 @@ pub fn pick(
     spans: &Spans,
     rooms: &Rooms,
     heights: &Heights,
+    missed: &mut Missed,
 ) -> Option<FoundBucket>
     requires across { 0 < sides.now.across }
     requires known { AreKnown blocks.now shelves.now }
     requires spans { AreSpans spans.now buckets.now }
     requires rooms { AreCounted rooms.now buckets.now }
     requires below { AreBelow heights.now shelves.now }
-    ensures { result ≡ spec.picked adds sides.now shelves.now buckets.now }
+    requires missed { IsMissed missed.old shelves.now }
+    ensures picked { result ≡ spec.picked adds sides.now shelves.now buckets.now }
+    ensures missed { IsMissed missed.new shelves.now }
 {
-    let least = least_waste(adds, sides, shelves, blocks, heights)?;
+    let least = least_waste(adds, sides, shelves, blocks, heights, missed)?;
     let wanted = Wanted::Roomy(sides.along);
     let first = shelves[least.number].shelf.first_bucket;
     let bucket = first_wanted(wanted, buckets, spans, first)?;

@@ -11,8 +11,12 @@ use Rattle.bucket_index.specs.declared.blocks.Block.{Block}
 use Rattle.bucket_index.specs.declared.blocks.Blocks.{Blocks}
 use Rattle.bucket_index.specs.declared.heights.Heights.{Heights}
 use Rattle.bucket_index.specs.Private.Blocks.{AreCountedWhere, AreInSteps, AreKnown, AreOthersKnown, IsKnown, height_at}
+use Rattle.bucket_index.specs.declared.missed.Missed.{Missed}
 use Rattle.bucket_index.specs.Private.Heights.{AreBelow, with_height}
+use Rattle.bucket_index.specs.Private.Missed.{IsMissed, IsMissedBeside}
 use Rattle.bucket_index.proofs.KnownBlocks.{AreSome, carry-counted, known-except, read-changed, some-taken, steps-changed}
+use Rattle.bucket_index.proofs.MissedShelves.{missed-beside, missed-changed}
+use Rattle.bucket_index.proofs.PassedShelves.{waste-flat}
 use Rattle.bucket_index.proofs.TallestShelves.{below-changed, below-kept}
 use Rattle.bucketed_store.specs.Private.Placing.{kept_height}
 use Rattle.bucketed_store.specs.Private.Returns.{Dropping, end_dropped, last_dropped}
@@ -184,4 +188,31 @@ below-merged group heights shelves below = by_test (group.others == 2)
 
     by_test : (t : Bool) → AreBelow known (cond t (changed_by (Some (group.first + 2)) (flattened across) next) next)
     by_test true = below-kept (group.first + 2) (flattened across) known next (λ x. omega arith) two
+    by_test false = two
+
+-- no merged shelf but the first has a place for what was missed
+pub missed-merged : (group : Group) (missed : Missed) (shelves : List KeptShelf) → IsMissed missed shelves → IsMissedBeside group.first missed (kept_merged group shelves)
+missed-merged group missed shelves is = by_test (group.others == 2)
+  where
+    height : ℕ
+    height = group_height group shelves
+
+    across : ℕ
+    across = across_of shelves group.first + height
+
+    Beside : List KeptShelf → Type 0
+    Beside = IsMissedBeside group.first missed
+
+    flat : (number : ℕ) (others : List KeptShelf) → Beside others → Beside (changed_by (Some number) (flattened across) others)
+    flat number others =
+        missed-changed (λ n. n ≡ group.first → ⊥) number (flattened across) missed others (λ sides kept some there none. waste-flat false sides (flattened across kept) some)
+
+    next : List KeptShelf
+    next = changed_by (Some (group.first + 1)) (flattened across) (changed_by (Some group.first) (to_height height) shelves)
+
+    two : Beside next
+    two = flat (group.first + 1) (changed_by (Some group.first) (to_height height) shelves) (missed-beside group.first (to_height height) missed shelves is)
+
+    by_test : (t : Bool) → Beside (cond t (changed_by (Some (group.first + 2)) (flattened across) next) next)
+    by_test true = flat (group.first + 2) next two
     by_test false = two

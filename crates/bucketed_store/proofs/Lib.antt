@@ -2,6 +2,7 @@ pub mod BusyShelves
 pub mod Drawn
 pub mod Emptying
 pub mod KnownShelves
+pub mod LeftShelves
 pub mod MadeOnes
 pub mod Refused
 pub mod RoomsKept

@@ -87,24 +87,19 @@ pub(crate) fn mergeable_shelves(
     requires known { AreKnown blocks.now shelves.now }
     ensures { result ≡ spec.kept_mergeable sides 0 shelves.now }
 {
-    let mut first = 0;
-    let mut from = 0;
+    let mut from = blocks.behind_busy(0, shelves.len());
+    let mut first = from.saturating_sub(2);
     for _block in 0..shelves.len() {
         if from >= shelves.len() {
             break;
         }
-        let behind = blocks.behind_busy(from);
-        if from < behind {
-            first = behind.saturating_sub(2).max(first);
-            from = behind;
-        } else {
-            from += SHELVES_OF_BLOCK;
-            let group = mergeable_between(&sides, shelves, first, from);
-            if group.is_some() {
-                return group;
-            }
-            first = from;
+        let end = from + SHELVES_OF_BLOCK;
+        let group = mergeable_between(&sides, shelves, first, end);
+        if group.is_some() {
+            return group;
         }
+        from = blocks.behind_busy(end, shelves.len());
+        first = from.saturating_sub(2).max(end);
     }
     None
 }

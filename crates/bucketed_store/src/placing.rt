@@ -2,12 +2,13 @@
 //!
 //! Definitions: `Private/Placing` and `StoreEdits`, and `Placing` of `bucketed_model` for what they mean.
 
-ghost use Rattle.std.specs.Prelude.{◌≡◌, ◌<◌, ◌^◌, IsTrue};
+ghost use Rattle.std.specs.Prelude.{◌≡◌, ◌<◌, ◌^◌, IsTrue, is_some};
 ghost use Rattle.std.specs.Option.{option_map};
 ghost use Rattle.bucketed_model.specs.Adding.{can_add};
 ghost use Rattle.bucketed_model.specs.Frames.{IsBucketedFrame};
 ghost use Rattle.bucket_index.specs.Private.Blocks.{AreKnown};
 ghost use Rattle.bucket_index.specs.Private.Heights.{AreBelow};
+ghost use Rattle.bucket_index.specs.Private.Missed.{IsMissed};
 ghost use Rattle.bucket_index.specs.Private.Rooms.{AreCounted};
 ghost use Rattle.bucket_index.specs.Private.Spans.{AreSpans};
 ghost use Rattle.bucketed_store.specs.Private.Placing as spec;
@@ -17,6 +18,7 @@ use crate::merging::{Group, mergeable_shelves};
 use crate::store::Store;
 use bucket_index::blocks::Blocks;
 use bucket_index::heights::Heights;
+use bucket_index::missed::Missed;
 use bucket_index::rooms::Rooms;
 use bucket_index::searching::{FoundBucket, pick};
 use bucket_index::spans::Spans;
@@ -58,18 +60,20 @@ impl Placement {
     }
 }
 
-/// The placement of these sides: the bucket that is picked, else a shelf to be added, else shelves to be merged.
+/// The placement of these sides: the bucket that is picked, else a shelf to be added, else shelves to be merged. Where no
+/// bucket can be, that is kept in mind for the next search.
 pub fn placement_of(
     frame: &Frame,
     left: &Remaining,
     sides: &Sides,
-    store: &Store,
+    store: &mut Store,
 ) -> Option<Placement>
     requires frame { IsBucketedFrame frame.now }
     requires across { (0 < sides.now.across) × (sides.now.across < 2 ^ 31) }
     requires column { left.now.column < 2 ^ 31 }
-    ensures { option_map spec.placement_seen result
-        ≡ spec.kept_placement frame.now left.now sides.now store.now.shelves store.now.buckets }
+    ensures placement { option_map spec.placement_seen result
+        ≡ spec.kept_placement frame.now left.now sides.now store.old.shelves store.old.buckets }
+    ensures same { store.new ≡ store.old }
 {
     placement_in(
         frame,
@@ -81,7 +85,33 @@ pub fn placement_of(
         &store.spans,
         &store.rooms,
         &store.heights,
+        &mut store.missed,
     )
+}
+
+/// Whether these sides have a placement.
+pub(crate) fn has_placement(frame: &Frame, left: &Remaining, sides: &Sides, store: &Store) -> bool
+    requires frame { IsBucketedFrame frame.now }
+    requires across { (0 < sides.now.across) × (sides.now.across < 2 ^ 31) }
+    requires column { left.now.column < 2 ^ 31 }
+    ensures { result
+        ≡ is_some
+        (spec.kept_placement frame.now left.now sides.now store.now.shelves store.now.buckets) }
+{
+    let mut missed = store.missed;
+    placement_in(
+        frame,
+        left,
+        sides,
+        &store.shelves,
+        &store.buckets,
+        &store.blocks,
+        &store.spans,
+        &store.rooms,
+        &store.heights,
+        &mut missed,
+    )
+    .is_some()
 }
 
 /// The placement of these sides among records, whose shelves are known to these blocks.
@@ -95,6 +125,7 @@ fn placement_in(
     spans: &Spans,
     rooms: &Rooms,
     heights: &Heights,
+    missed: &mut Missed,
 ) -> Option<Placement>
     requires frame { IsBucketedFrame frame.now }
     requires across { (0 < sides.now.across) × (sides.now.across < 2 ^ 31) }
@@ -103,11 +134,15 @@ fn placement_in(
     requires spans { AreSpans spans.now buckets.now }
     requires rooms { AreCounted rooms.now buckets.now }
     requires below { AreBelow heights.now shelves.now }
-    ensures { option_map spec.placement_seen result
+    requires missed { IsMissed missed.old shelves.now }
+    ensures placement { option_map spec.placement_seen result
         ≡ spec.kept_placement frame.now left.now sides.now shelves.now buckets.now }
+    ensures missed { IsMissed missed.new shelves.now }
 {
     let adds = can_add(frame, left, sides.across);
-    if let Some(found) = pick(adds, sides, shelves, buckets, blocks, spans, rooms, heights) {
+    if let Some(found) = pick(
+        adds, sides, shelves, buckets, blocks, spans, rooms, heights, missed,
+    ) {
         return Some(Placement::InBucket(found));
     }
     placement_elsewhere(adds, frame, left, sides, shelves, blocks)

@@ -8,7 +8,7 @@ ghost use Rattle.bucketed_model.specs.Frames.{IsBucketedFrame};
 ghost use Rattle.bucket_index.specs.Private.Spans.{AreSpans};
 ghost use Rattle.bucketed_store.specs.Private.Refusals as spec;
 
-use crate::placing::placement_of;
+use crate::placing::has_placement;
 use crate::store::Store;
 use bucket_index::searching::{Wanted, first_wanted};
 use bucket_index::spans::Spans;
@@ -97,7 +97,7 @@ pub fn sides_refusal(
     ensures { result
         ≡ spec.kept_refusal frame.now left.now sides.now store.now.shelves store.now.buckets }
 {
-    if placement_of(frame, left, sides, store).is_some() {
+    if has_placement(frame, left, sides, store) {
         return None;
     }
     Some(shelves_refusal(

@@ -2,12 +2,13 @@
 //!
 //! Definitions: `Private/Returns`, and `Returning` for what they mean. A return looks at one bucket and its shelf.
 
-ghost use Rattle.std.specs.Prelude.{◌≡◌, ◌<◌, ◌≤◌, ◌*◌, Some, length, nat_le};
+ghost use Rattle.std.specs.Prelude.{◌≡◌, ◌<◌, ◌≤◌, ◌*◌, IsTrue, Some, length, nat_le};
 ghost use Rattle.etagere_links.specs.Edits.{changed_by};
 ghost use Rattle.bucketed_model.specs.Returning as returning;
 ghost use Rattle.bucketed_records.specs.StandsFor.{free_of, live_of, shelf_of};
 ghost use Rattle.bucketed_store.specs.Private.Returns as spec;
 
+use crate::dropping::ends_idle;
 use crate::store::{GENERATION_UNIT, GIVEN_UNIT};
 use bucketed_records::records::{KeptShelf, LinkedBucket};
 use etagere_base::AllocId;
@@ -102,4 +103,16 @@ pub(crate) fn return_item(shelves: &mut [KeptShelf], buckets: &mut [LinkedBucket
     let kept = &mut shelves[usize::from(bucket.shelf)];
     count_returned(kept, bucket.refcount <= 1);
     take_back(bucket, kept.shelf.bucket_width);
+}
+
+/// Whether the bucket of a number keeps other live items, and its shelf too, where an item is returned to it, and no shelf is
+/// dropped then.
+#[inline(always)]
+pub(crate) fn leaves_others(shelves: &[KeptShelf], buckets: &[LinkedBucket], number: usize) -> bool
+    requires number { number < length buckets.now }
+    requires shelf { shelf_of buckets.now number < length shelves.now }
+    ensures { IsTrue result → spec.LeavesOthers number shelves.now buckets.now }
+{
+    let bucket = &buckets[number];
+    bucket.refcount > 1 && shelves[usize::from(bucket.shelf)].live_items > 1 && !ends_idle(shelves)
 }

@@ -2,7 +2,7 @@
 //!
 //! Definitions: `Store`, `StoreEdits`. `Store` also says when records spell a state.
 
-ghost use Rattle.std.specs.Prelude.{IsTrue, List, ◌≡◌, ◌+◌, ◌-◌, ◌*◌, ◌<◌, ◌≤◌, ◌^◌, [], None, Some, IfOk, IfSome, IsSome, OnOk, OnErr, false, length, slice_get, vec_len, vec_capacity, map};
+ghost use Rattle.std.specs.Prelude.{IsFalse, IsTrue, List, ◌≡◌, ◌+◌, ◌-◌, ◌*◌, ◌<◌, ◌≤◌, ◌^◌, [], None, Some, IfOk, IfSome, IsSome, OnOk, OnErr, false, length, slice_get, vec_len, vec_capacity, map};
 ghost use Rattle.etagere_links.specs.Edits.{changed_by};
 ghost use Rattle.etagere_links.specs.Links.{no_link};
 ghost use Rattle.bucketed_model.specs.Adding as adding;
@@ -28,9 +28,10 @@ use crate::growing::{left_after, widen_shelves};
 use crate::making::{NewBuckets, make_buckets, reserve_records};
 use crate::merging::{Group, merge};
 use crate::placing::Placement;
-use crate::returning::{is_known, return_item, returned_area, shelf_number};
+use crate::returning::{is_known, leaves_others, return_item, returned_area, shelf_number};
 use bucket_index::blocks::{Blocks, known_of};
 use bucket_index::heights::Heights;
+use bucket_index::missed::Missed;
 use bucket_index::rest::Rest;
 use bucket_index::rooms::Rooms;
 use bucket_index::searching::{FoundBucket, has_room, widest_room};
@@ -63,6 +64,7 @@ pub struct Store {
     pub(crate) rest: Rest,
     pub(crate) rooms: Rooms,
     pub(crate) heights: Heights,
+    pub(crate) missed: Missed,
     /// Whether a shelf may have so many buckets that a search along them goes far.
     pub(crate) may_be_long: bool,
 }
@@ -71,6 +73,7 @@ impl Model for Store {
     ghost use Rattle.bucketed_records.specs.Private.Store.{Stored};
     ghost use Rattle.bucket_index.specs.Private.Blocks.{AreKnown};
     ghost use Rattle.bucket_index.specs.Private.Heights.{AreBelow};
+    ghost use Rattle.bucket_index.specs.Private.Missed.{IsMissed};
     ghost use Rattle.bucket_index.specs.Private.Rest.{IsRest};
     ghost use Rattle.bucket_index.specs.Private.Rooms.{AreCounted};
     ghost use Rattle.bucket_index.specs.Private.Spans.{AreSpans};
@@ -87,7 +90,8 @@ impl Model for Store {
         × AreSpans store.spans store.buckets.items
         × IsRest store.rest store.buckets.items
         × AreCounted store.rooms store.buckets.items
-        × AreBelow store.heights store.shelves.items };
+        × AreBelow store.heights store.shelves.items
+        × IsMissed store.missed store.shelves.items };
 }
 
 /// What a return gives back.
@@ -126,6 +130,7 @@ impl Store {
             rest: Rest::none(),
             rooms: Rooms::uncounted(),
             heights: Heights::new(),
+            missed: Missed::none(),
             may_be_long: false,
         }
     }
@@ -146,6 +151,7 @@ impl Store {
             rest: Rest::none(),
             rooms: Rooms::uncounted(),
             heights,
+            missed: Missed::none(),
             may_be_long: true,
         }
     }
@@ -162,6 +168,7 @@ impl Store {
         self.rest.forget();
         self.rooms.forget();
         self.heights.forget();
+        self.missed.forget();
         self.may_be_long = false;
     }
 
@@ -209,6 +216,7 @@ impl Store {
             &news.asked,
         );
         self.rest.forget();
+        self.missed.forget();
         Ok(())
     }
 
@@ -257,6 +265,7 @@ impl Store {
         let is_flat = self.shelves[group.first].shelf.height == 0;
         let height = merge(&mut self.shelves, group);
         self.heights.add(group.first, height);
+        self.missed.follow(&self.shelves, group.first);
         if is_flat {
             self.blocks.know_anew(&self.shelves, group.first);
         }
@@ -355,9 +364,84 @@ impl Store {
         is_known(&self.buckets, id)
     }
 
-    /// Returns an item to the bucket of a number, and drops the shelves at the end that hold nothing live then. What is
-    /// known of the item's shelf is looked at only where that stays.
+    /// Returns an item to the bucket of a number, and drops the shelves at the end that hold nothing live then.
     pub fn return_item(&mut self, number: usize) -> Returned
+        requires number { number < length self.old.buckets }
+        requires shelf { shelf_of self.old.buckets number < length self.old.shelves }
+        requires free { free_of self.old.buckets number
+            ≤ returns.width_of self.old.shelves (shelf_of self.old.buckets number) }
+        requires few_shelves { length self.old.shelves ≤ most_buckets }
+        requires few_buckets { length self.old.buckets ≤ most_buckets }
+        requires widest { spec.KnowsWidest (shelf_of self.old.buckets number) self.old.shelves
+            self.old.buckets }
+        ensures records { returns.dropping_from self.new result.dropped
+            ≡ returns.end_dropped (length (returns.item_returned number self.old).shelves)
+            (returns.dropping_from (returns.item_returned number self.old) 0) }
+        ensures stays { result.drops ≡ false → length self.new.shelves ≡ length self.old.shelves }
+        ensures area { result.area ≡ returns.returned_area number self.old.shelves self.old.buckets }
+    {
+        if !self.has_others(number) {
+            return self.return_any(number);
+        }
+        if self.lessen(number) {
+            return Returned {
+                area: 0,
+                drops: false,
+                dropped: 0,
+            };
+        }
+        self.return_apart(number)
+    }
+
+    /// Whether the bucket of a number has more than one live item.
+    #[inline(always)]
+    fn has_others(&self, number: usize) -> bool
+        requires { number < length self.now.buckets }
+    {
+        self.buckets[number].refcount > 1
+    }
+
+    /// Returns any item, where that is seldom called for.
+    #[inline(never)]
+    fn return_apart(&mut self, number: usize) -> Returned
+        requires number { number < length self.old.buckets }
+        requires shelf { shelf_of self.old.buckets number < length self.old.shelves }
+        requires free { free_of self.old.buckets number
+            ≤ returns.width_of self.old.shelves (shelf_of self.old.buckets number) }
+        requires few_shelves { length self.old.shelves ≤ most_buckets }
+        requires few_buckets { length self.old.buckets ≤ most_buckets }
+        requires widest { spec.KnowsWidest (shelf_of self.old.buckets number) self.old.shelves
+            self.old.buckets }
+        ensures records { returns.dropping_from self.new result.dropped
+            ≡ returns.end_dropped (length (returns.item_returned number self.old).shelves)
+            (returns.dropping_from (returns.item_returned number self.old) 0) }
+        ensures stays { result.drops ≡ false → length self.new.shelves ≡ length self.old.shelves }
+        ensures area { result.area ≡ returns.returned_area number self.old.shelves self.old.buckets }
+    {
+        self.return_any(number)
+    }
+
+    /// Returns an item to the bucket of a number where that and its shelf keep others, and no shelf is dropped, and answers
+    /// whether that was so: all that is known stays right then.
+    #[inline(always)]
+    fn lessen(&mut self, number: usize) -> bool
+        requires number { number < length self.old.buckets }
+        requires shelf { shelf_of self.old.buckets number < length self.old.shelves }
+        ensures leaves { IsTrue result
+            → returns.LeavesOthers number self.old.shelves self.old.buckets }
+        ensures returned { IsTrue result → self.new ≡ returns.item_returned number self.old }
+        ensures same { IsFalse result → self.new ≡ self.old }
+    {
+        if !leaves_others(&self.shelves, &self.buckets, number) {
+            return false;
+        }
+        return_item(&mut self.shelves, &mut self.buckets, number);
+        true
+    }
+
+    /// Returns any item. What is known of its shelf is looked at only where that stays.
+    #[inline(always)]
+    fn return_any(&mut self, number: usize) -> Returned
         requires number { number < length self.old.buckets }
         requires shelf { shelf_of self.old.buckets number < length self.old.shelves }
         requires free { free_of self.old.buckets number
@@ -383,6 +467,7 @@ impl Store {
             self.blocks.follow(&self.shelves, shelf, before);
             let first = first_bucket(&self.shelves, shelf);
             self.rest.know(first, number, room, before.widest_room);
+            self.missed.follow(&self.shelves, shelf);
             return Returned {
                 area,
                 drops: false,
@@ -397,6 +482,7 @@ impl Store {
         );
         self.blocks.follow_dropped(&self.shelves, shelf);
         self.rest.forget();
+        self.missed.forget();
         forget_where_none(&self.shelves, &mut self.spans, &mut self.heights);
         Returned {
             area,
@@ -430,6 +516,7 @@ impl Store {
     {
         self.rest.forget();
         self.rooms.forget();
+        self.missed.forget();
         let rest = left_after(&self.shelves, added, left);
         reserve_records(&mut self.buckets, MOST_BUCKETS - rest)?;
         widen_shelves(
@@ -924,6 +1011,7 @@ impl Clone for Store {
             rest: self.rest,
             rooms: self.rooms,
             heights: self.heights,
+            missed: self.missed,
             may_be_long: self.may_be_long,
         })
     }

@@ -1,5 +1,5 @@
 -- What a return does to records: a bucket has one item less, and shelves at the end are dropped.
-use Rattle.std.specs.Prelude.{ℕ, zero, suc, ◌+◌, ◌-◌, ◌*◌, ◌/◌, ◌%◌, Bool, false, ◌&&◌, Option, None, Some, List, length, take, slice_get, nat_le, nat_lt, ◌==◌, if◌then◌else◌}
+use Rattle.std.specs.Prelude.{ℕ, zero, suc, ◌≡◌, ◌<◌, ◌+◌, ◌-◌, ◌*◌, ◌/◌, ◌%◌, Bool, false, ◌&&◌, Option, None, Some, List, length, take, slice_get, nat_le, nat_lt, ◌==◌, if◌then◌else◌}
 use Rattle.std.specs.Option.{option_map_or}
 use Rattle.etagere_links.specs.Edits.{changed_by, field_at}
 use Rattle.bucketed_model.specs.Picking.{or_else}
@@ -11,7 +11,7 @@ use Rattle.bucketed_records.specs.declared.records.KeptShelf.{KeptShelf}
 use Rattle.bucketed_records.specs.Private.Store.{Stored, last_kept}
 use Rattle.bucketed_records.specs.StandsFor.{free_of, live_of, shelf_of}
 pub use Rattle.bucketed_store.specs.declared.dropping.RowEnd.{RowEnd}
-use Rattle.bucketed_store.specs.Private.StoreEdits.{height_of}
+use Rattle.bucketed_store.specs.Private.StoreEdits.{height_of, live_items_of}
 
 -- a record holds something live and has given the item of an id
 abbrev pub gives_item : ℕ → LinkedBucket → Bool
@@ -132,6 +132,12 @@ last_dropped kept done =
 -- there is a last shelf, and it holds nothing live
 abbrev pub ends_idle : List KeptShelf → Bool
 ends_idle shelves = option_map_or (λ (kept : KeptShelf). kept.live_items == 0) (last_kept shelves) false
+
+-- a bucket and its shelf each have more than one live item, and the last shelf has some
+pub record LeavesOthers (number : ℕ) (shelves : List KeptShelf) (buckets : List LinkedBucket) : Type 0 where
+  pub bucket : nat_le (live_of buckets number) 1 ≡ false
+  pub shelf : 1 < live_items_of shelves (shelf_of buckets number)
+  pub last : ends_idle shelves ≡ false
 
 -- the last shelves were dropped, at most so many, as long as the last one holds nothing live
 abbrev pub end_dropped : ℕ → Dropping → Dropping

@@ -10,4 +10,4 @@ pub returns : goal.returns
 returns c =
     let rank = kept_waste c.args.adds c.args.sides.now in
     let is = before-end rank c.args.shelves.now c.least_in.result (length c.args.shelves.now) (omega arith) c.least_in.ensures in
-    record { least = is; within = all-within rank c.args.shelves.now c.least_in.result is }
+    record { least = is; within = all-within rank c.args.shelves.now c.least_in.result is; missed = c.requires.missed }

@@ -3,6 +3,7 @@ use Rattle.bucketed_model.specs.Adding.{NewShelves, news_of}
 use Rattle.bucketed_records.specs.Private.Store.{Stored}
 use Rattle.bucket_index.specs.Private.Blocks.{AreKnown}
 use Rattle.bucket_index.specs.Private.Heights.{AreBelow}
+use Rattle.bucket_index.specs.Private.Missed.{IsMissed}
 use Rattle.bucket_index.specs.Private.Rest.{IsRest}
 use Rattle.bucket_index.specs.Private.Rooms.{AreCounted}
 use Rattle.bucket_index.specs.Private.Spans.{AreSpans}
@@ -49,11 +50,11 @@ add_shelf-requires-2-clause-short c =
     ]
 
 pub invariant_of-self : goal.invariant_of-self
-invariant_of-self c = (subst (AreKnown c.self.inside.blocks) (sym c.reserve.ensures.items) c.self.invariant.0, c.self.invariant.1, c.self.invariant.2, c.self.invariant.3, subst (AreBelow c.self.inside.heights) (sym c.reserve.ensures.items) c.self.invariant.4)
+invariant_of-self c = (subst (AreKnown c.self.inside.blocks) (sym c.reserve.ensures.items) c.self.invariant.0, c.self.invariant.1, c.self.invariant.2, c.self.invariant.3, subst (AreBelow c.self.inside.heights) (sym c.reserve.ensures.items) c.self.invariant.4, subst (IsMissed c.self.inside.missed) (sym c.reserve.ensures.items) c.self.invariant.5)
 
 pub invariant_of-self-in_err-reserve_records : goal.invariant_of-self-in_err-reserve_records
 invariant_of-self-in_err-reserve_records c =
-    (subst (AreKnown c.self.inside.blocks) (sym c.reserve.ensures.items) c.self.invariant.0, subst (AreSpans c.self.inside.spans) (sym c.reserve_records.ensures.same) c.self.invariant.1, subst (IsRest c.self.inside.rest) (sym c.reserve_records.ensures.same) c.self.invariant.2, subst (AreCounted c.self.inside.rooms) (sym c.reserve_records.ensures.same) c.self.invariant.3, subst (AreBelow c.self.inside.heights) (sym c.reserve.ensures.items) c.self.invariant.4)
+    (subst (AreKnown c.self.inside.blocks) (sym c.reserve.ensures.items) c.self.invariant.0, subst (AreSpans c.self.inside.spans) (sym c.reserve_records.ensures.same) c.self.invariant.1, subst (IsRest c.self.inside.rest) (sym c.reserve_records.ensures.same) c.self.invariant.2, subst (AreCounted c.self.inside.rooms) (sym c.reserve_records.ensures.same) c.self.invariant.3, subst (AreBelow c.self.inside.heights) (sym c.reserve.ensures.items) c.self.invariant.4, subst (IsMissed c.self.inside.missed) (sym c.reserve.ensures.items) c.self.invariant.5)
 
 pub add_shelf-requires-clause-known : goal.add_shelf-requires-clause-known
 add_shelf-requires-clause-known c = subst (AreKnown c.self.inside.blocks) (sym c.reserve.ensures.items) c.self.invariant.0
@@ -76,7 +77,7 @@ add_shelf-requires-2-clause-spans c =
     ]
 
 pub invariant_of-self-2 : goal.invariant_of-self-2
-invariant_of-self-2 c = (c.add_shelf-2.ensures.known, c.add_shelf-2.ensures.spans, c.forget.ensures _, c.add_shelf-2.ensures.rooms, c.add_shelf-2.ensures.below)
+invariant_of-self-2 c = (c.add_shelf-2.ensures.known, c.add_shelf-2.ensures.spans, c.forget.ensures _, c.add_shelf-2.ensures.rooms, c.add_shelf-2.ensures.below, c.forget-2.ensures _)
 
 pub add_shelf-requires-clause-below : goal.add_shelf-requires-clause-below
 add_shelf-requires-clause-below c = subst (AreBelow c.self.inside.heights) (sym c.reserve.ensures.items) c.self.invariant.4

@@ -1,6 +1,7 @@
-use Rattle.std.proofs.Common.{◌≡◌, List, Some, length, refl, ap, subst, sym, ◌∙◌, arith}
+use Rattle.std.proofs.Common.{◌≡◌, ◌≤◌, Option, List, Some, length, refl, ap, subst, sym, ◌∙◌, arith}
 use Rattle.std.proofs.lemmas.List.{with_items_is}
 use Rattle.std.proofs.lemmas.Option.{slice_get-get_or}
+use Rattle.std.specs.Option.{option_map_or}
 use Rattle.std.specs.Prelude.{slice_get}
 use Rattle.std.specs.Vec.{with_items}
 use Rattle.bucketed_model.specs.State.{most_buckets}
@@ -10,13 +11,15 @@ use Rattle.bucketed_records.specs.Private.Store.{Stored}
 use Rattle.bucket_index.specs.declared.blocks.Block.{Block}
 use Rattle.bucket_index.specs.Private.Blocks.{AreKnown, AreOthersKnown, height_at}
 use Rattle.bucket_index.specs.Private.Heights.{AreBelow}
+use Rattle.bucket_index.specs.Private.Missed.{IsMissed}
 use Rattle.bucket_index.specs.Private.Rest.{IsRest}
 use Rattle.bucket_index.proofs.TallestShelves.{below-kept}
 use Rattle.bucket_index.specs.Private.Searching.{widest_from}
 use Rattle.bucket_index.specs.Private.Spans.{AreSpans}
+use Rattle.bucket_index.proofs.MissedShelves.{missed-changed, narrower-without}
 use Rattle.bucket_index.proofs.KnownBlocks.{followed-stays, known-at, known-others}
 use Rattle.bucketed_store.proofs.KnownShelves.{height-kept}
-use Rattle.bucketed_store.specs.Private.StoreEdits.{IsWidestKept, first_bucket_of, given_from, shelves_given}
+use Rattle.bucketed_store.specs.Private.StoreEdits.{IsWidestKept, first_bucket_of, given_from, shelves_given, widest_of}
 use Rattle.bucketed_store.proofs.store.Store.give_from.Goals as goal
 
 -- what holds of some shelves and buckets holds of the same
@@ -88,13 +91,19 @@ invariant_of-self c =
     let given : c.give_from.new.shelves ≡ shelves_given shelf inside.shelves.items inside.buckets.items =
     c.give_from.ensures.shelves
     ∙ ap (λ (xs : List KeptShelf). shelves_given shelf xs c.deref.result.now) c.deref_mut.ensures.value
-    ∙ ap (λ (bs : List LinkedBucket). shelves_given shelf inside.shelves.items bs) c.deref.ensures.value in (
+    ∙ ap (λ (bs : List LinkedBucket). shelves_given shelf inside.shelves.items bs) c.deref.ensures.value in
+    let most : widest_from most_buckets inside.buckets.items (first_bucket_of inside.shelves.items shelf) ≤ widest_of inside.shelves.items shelf =
+    subst (λ (stored : Stored). widest_from most_buckets stored.buckets (first_bucket_of stored.shelves shelf) ≤ widest_of stored.shelves shelf) (sym c.self.view_is) c.requires.widest.most in
+    let less : (kept : KeptShelf) → slice_get inside.shelves.items shelf ≡ Some kept → widest_from most_buckets inside.buckets.items (first_bucket_of inside.shelves.items shelf) ≤ kept.widest_room =
+    λ kept there. subst (λ (o : Option KeptShelf). widest_from most_buckets inside.buckets.items (first_bucket_of inside.shelves.items shelf) ≤ option_map_or (λ (one : KeptShelf). one.widest_room) o 0) there most in (
       subst (AreKnown c.follow.new.self) c.deref-2.ensures.value c.follow.ensures,
       subst (AreSpans c.give_from.new.spans) c.deref.ensures.value c.give_from.ensures.spans,
       subst (IsRest c.give_from.new.rest) c.deref.ensures.value c.give_from.ensures.rest,
       c.self.invariant.3,
       subst (AreBelow inside.heights) (sym (items ∙ given))
           (below-kept shelf (given_from (widest_from most_buckets inside.buckets.items (first_bucket_of inside.shelves.items shelf))) inside.heights inside.shelves.items (λ x. omega arith) c.self.invariant.4),
+      subst (IsMissed inside.missed) (sym (items ∙ given))
+          (missed-changed (λ number. Unit {0}) shelf (given_from (widest_from most_buckets inside.buckets.items (first_bucket_of inside.shelves.items shelf))) inside.missed inside.shelves.items (λ sides kept some there none. narrower-without sides kept (given_from (widest_from most_buckets inside.buckets.items (first_bucket_of inside.shelves.items shelf)) kept) refl (less kept there) none) c.self.invariant.5),
     )
 
 pub give_from-requires-clause-bucket : goal.give_from-requires-clause-bucket

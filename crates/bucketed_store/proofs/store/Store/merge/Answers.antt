@@ -9,9 +9,10 @@ use Rattle.bucketed_records.specs.Private.Store.{Stored}
 use Rattle.bucket_index.specs.declared.heights.Heights.{Heights}
 use Rattle.bucket_index.specs.Private.Blocks.{AreKnown, AreOthersKnown}
 use Rattle.bucket_index.specs.Private.Heights.{AreBelow, with_height}
+use Rattle.bucket_index.specs.Private.Missed.{IsMissed, IsMissedBeside}
 use Rattle.bucket_index.proofs.KnownBlocks.{some-same}
 use Rattle.bucketed_store.specs.Private.StoreEdits.{group_height, kept_merged}
-use Rattle.bucketed_store.proofs.KnownShelves.{below-merged, known-merged, others-merged}
+use Rattle.bucketed_store.proofs.KnownShelves.{below-merged, known-merged, missed-merged, others-merged}
 use Rattle.bucketed_store.proofs.store.Store.merge.Goals as goal
 use Rattle.bucketed_store.proofs.store.Store.merge.Goals.{After-add}
 
@@ -34,6 +35,15 @@ below c =
     subst (λ (h : Heights). AreBelow h (with_items c.self.inside.shelves c.merge-height.new.shelves).items) (sym known)
     (subst (AreBelow (with_height group.first (group_height group shelves) heights)) (sym (merged c)) (below-merged group heights shelves c.self.invariant.4))
 
+-- the sides that no shelf had a place for are missed by all but the first
+pub follow-requires : goal.follow-requires
+follow-requires c =
+    let missed = c.self.inside.missed in
+    let group = c.args.group.now in
+    let first : c.group.inside.first ≡ group.first = ap (λ (g : Group). g.first) c.group.view_is in
+    subst (IsMissedBeside c.group.inside.first missed) (sym (c.deref.ensures.value ∙ merged (goal.at.follow-requires c).After-add))
+    (subst (λ (n : ℕ). IsMissedBeside n missed (kept_merged group c.self.inside.shelves.items)) (sym first) (missed-merged group missed c.self.inside.shelves.items c.self.invariant.5))
+
 -- the first of them was read
 there : (c : After-add) → slice_get c.self.inside.shelves.items c.args.group.now.first ≡ Some c.index.result.now
 there c =
@@ -49,16 +59,17 @@ know_anew-requires-clause-others c =
     let blocks = c.self.inside.blocks in
     let group = c.args.group.now in
     let first : c.group.inside.first ≡ group.first = ap (λ (g : Group). g.first) c.group.view_is in
-    subst (AreOthersKnown c.group.inside.first blocks) (sym (c.deref.ensures.value ∙ merged before))
+    subst (AreOthersKnown c.group.inside.first blocks) (sym (c.deref-then-is_flat.ensures.value ∙ merged before))
     (subst (λ (n : ℕ). AreOthersKnown n blocks (kept_merged group c.self.inside.shelves.items)) (sym first) (others-merged group blocks c.self.inside.shelves.items c.self.invariant.0))
 
 pub invariant_of-self : goal.invariant_of-self
 invariant_of-self c = (
-  subst (AreKnown c.know_anew.new.self) c.deref.ensures.value c.know_anew.ensures,
+  subst (AreKnown c.know_anew.new.self) c.deref-then-is_flat.ensures.value c.know_anew.ensures,
   c.self.invariant.1,
   c.self.invariant.2,
   c.self.invariant.3,
   below (goal.at.invariant_of-self c).After-add,
+  subst (IsMissed c.follow.new.self) c.deref.ensures.value c.follow.ensures,
 )
 
 pub invariant_of-self-else-is_flat : goal.invariant_of-self-else-is_flat
@@ -73,4 +84,5 @@ invariant_of-self-else-is_flat c =
       c.self.invariant.2,
       c.self.invariant.3,
       below before,
+      subst (IsMissed c.follow.new.self) c.deref.ensures.value c.follow.ensures,
     )

@@ -49,4 +49,5 @@ invariant_of-self c =
           (followed bucket c.args.room change inside.buckets.items c.deref-2.result.now one inside.rooms c.follow_record.new.self (c.deref-2.ensures.value ∙ items ∙ taken) here
           (c.requires.room one c.requires.fits.here) c.self.invariant.3 c.follow_record.ensures),
       c.self.invariant.4,
+      c.self.invariant.5,
     )

@@ -5,6 +5,7 @@ use Rattle.bucketed_records.specs.declared.records.KeptShelf.{KeptShelf}
 use Rattle.bucketed_records.specs.Private.Store.{Stored}
 use Rattle.bucket_index.specs.Private.Blocks.{AreKnown}
 use Rattle.bucket_index.specs.Private.Heights.{AreBelow}
+use Rattle.bucket_index.specs.Private.Missed.{IsMissed}
 use Rattle.bucket_index.specs.Private.Rest.{IsRest}
 use Rattle.bucket_index.specs.Private.Rooms.{AreCounted}
 use Rattle.bucket_index.specs.Private.Spans.{AreSpans}
@@ -24,6 +25,7 @@ invariant_of-result c = (
   subst (IsRest c.self.inside.rest) (sym (copied c.self.inside.buckets.items c.in_ok-clone-2.field-0.items c.in_ok-clone-2.ensures.cases.0)) c.self.invariant.2,
   subst (AreCounted c.self.inside.rooms) (sym (copied c.self.inside.buckets.items c.in_ok-clone-2.field-0.items c.in_ok-clone-2.ensures.cases.0)) c.self.invariant.3,
   subst (AreBelow c.self.inside.heights) (sym (copied c.self.inside.shelves.items c.in_ok-clone.field-0.items c.in_ok-clone.ensures.cases.0)) c.self.invariant.4,
+  subst (IsMissed c.self.inside.missed) (sym (copied c.self.inside.shelves.items c.in_ok-clone.field-0.items c.in_ok-clone.ensures.cases.0)) c.self.invariant.5,
 )
 
 pub returns : goal.returns

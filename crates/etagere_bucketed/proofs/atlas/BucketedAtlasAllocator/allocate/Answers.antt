@@ -97,68 +97,68 @@ returns-in_default-placement_of-clause-refused c =
     let is = c.self.invariant in
     subst (λ (state : BucketedState). IsBucketRefused state c.args.size) c.self.view_is
     (refused (state_in inside) c.args.size c.in-Some.sides inside.store is.unused is.witnessed.valid is.witnessed.spells (sym c.asked.ensures ∙ c.in-Some.is)
-    (ap (λ (left : Remaining). kept_placement inside.frame left c.in-Some.sides inside.store.shelves inside.store.buckets) (sym (left-is inside is)) ∙ sym (in_old c.self.inside c.in-Some.sides c.placement_of.result c.settle.new.self c.settle.ensures c.placement_of.ensures) ∙ ap (option_map placement_seen) c.in_default-placement_of.is))
+    (ap (λ (left : Remaining). kept_placement inside.frame left c.in-Some.sides inside.store.shelves inside.store.buckets) (sym (left-is inside is)) ∙ sym (in_old c.self.inside c.in-Some.sides c.placement_of.result c.settle.new.self c.settle.ensures c.placement_of.ensures.placement) ∙ ap (option_map placement_seen) c.in_default-placement_of.is))
 
 pub returns-in_default-placement_of-clause-promises : goal.returns-in_default-placement_of-clause-promises
 returns-in_default-placement_of-clause-promises c =
-    subst (λ (stored : Stored). KeepsPromises (stored_state c.self.inside.frame stored)) (sym c.settle.ensures) (valid-promises (state_in c.self.inside) c.self.invariant.witnessed.valid)
+    subst (λ (stored : Stored). KeepsPromises (stored_state c.self.inside.frame stored)) (sym (c.placement_of.ensures.same ∙ c.settle.ensures)) (valid-promises (state_in c.self.inside) c.self.invariant.witnessed.valid)
 
 pub prepare-requires-clause-placement : goal.prepare-requires-clause-placement
 prepare-requires-clause-placement c =
-    subst (store.CanPrepare c.self.inside.frame (placement_seen c.in-Some-placement_of.placement) c.self.inside.buckets_in_use) (sym c.settle.ensures)
+    subst (store.CanPrepare c.self.inside.frame (placement_seen c.in-Some-placement_of.placement) c.self.inside.buckets_in_use) (sym (c.placement_of.ensures.same ∙ c.settle.ensures))
     (subst (λ (in_use : ℕ). store.CanPrepare c.self.inside.frame (placement_seen c.in-Some-placement_of.placement) in_use c.self.inside.store) (sym c.self.invariant.totals.in_use)
-    (made c.self.inside c.self.invariant c.args.size c.in-Some.sides c.placement_of.result c.in-Some-placement_of.placement (sym c.asked.ensures ∙ c.in-Some.is) (in_old c.self.inside c.in-Some.sides c.placement_of.result c.settle.new.self c.settle.ensures c.placement_of.ensures) c.in-Some-placement_of.is).can)
+    (made c.self.inside c.self.invariant c.args.size c.in-Some.sides c.placement_of.result c.in-Some-placement_of.placement (sym c.asked.ensures ∙ c.in-Some.is) (in_old c.self.inside c.in-Some.sides c.placement_of.result c.settle.new.self c.settle.ensures c.placement_of.ensures.placement) c.in-Some-placement_of.is).can)
 
 pub returns-in_err-found-clause-shelf : goal.returns-in_err-found-clause-shelf
 returns-in_err-found-clause-shelf c =
-    let m = made c.self.inside c.self.invariant c.args.size c.in-Some.sides c.placement_of.result c.in-Some-placement_of.placement (sym c.asked.ensures ∙ c.in-Some.is) (in_old c.self.inside c.in-Some.sides c.placement_of.result c.settle.new.self c.settle.ensures c.placement_of.ensures) c.in-Some-placement_of.is in
+    let m = made c.self.inside c.self.invariant c.args.size c.in-Some.sides c.placement_of.result c.in-Some-placement_of.placement (sym c.asked.ensures ∙ c.in-Some.is) (in_old c.self.inside c.in-Some.sides c.placement_of.result c.settle.new.self c.settle.ensures c.placement_of.ensures.placement) c.in-Some-placement_of.is in
     on_err c.from_residual.result
     (subst (λ (state : BucketedState). NeedsShelf state c.args.size) c.self.view_is
     (needs-shelf (state_in c.self.inside) c.args.size c.in-Some.sides c.self.inside.store (placement_seen c.in-Some-placement_of.placement) m c.in_err-found.ensures.adds))
 
 pub returns-in_err-found-clause-promises : goal.returns-in_err-found-clause-promises
 returns-in_err-found-clause-promises c =
-    subst (λ (stored : Stored). KeepsPromises (stored_state c.self.inside.frame stored)) (sym (c.in_err-found.ensures.err ∙ c.settle.ensures)) (valid-promises (state_in c.self.inside) c.self.invariant.witnessed.valid)
+    subst (λ (stored : Stored). KeepsPromises (stored_state c.self.inside.frame stored)) (sym (c.in_err-found.ensures.err ∙ c.placement_of.ensures.same ∙ c.settle.ensures)) (valid-promises (state_in c.self.inside) c.self.invariant.witnessed.valid)
 
 pub allocation-allocation-requires : goal.allocation-allocation-requires
 allocation-allocation-requires c =
-    let m = made c.self.inside c.self.invariant c.args.size c.in-Some.sides c.placement_of.result c.in-Some-placement_of.placement (sym c.asked.ensures ∙ c.in-Some.is) (in_old c.self.inside c.in-Some.sides c.placement_of.result c.settle.new.self c.settle.ensures c.placement_of.ensures) c.in-Some-placement_of.is in
-    let ready = (c.in_ok-found.ensures.ok ∙ ap (stored_ready c.self.inside.frame (placement_seen c.in-Some-placement_of.placement)) c.settle.ensures) in
+    let m = made c.self.inside c.self.invariant c.args.size c.in-Some.sides c.placement_of.result c.in-Some-placement_of.placement (sym c.asked.ensures ∙ c.in-Some.is) (in_old c.self.inside c.in-Some.sides c.placement_of.result c.settle.new.self c.settle.ensures c.placement_of.ensures.placement) c.in-Some-placement_of.is in
+    let ready = (c.in_ok-found.ensures.ok ∙ ap (stored_ready c.self.inside.frame (placement_seen c.in-Some-placement_of.placement)) (c.placement_of.ensures.same ∙ c.settle.ensures)) in
     let a = allocation c.self.inside c.self.invariant c.args.size c.in-Some.sides (placement_seen c.in-Some-placement_of.placement) c.prepare.new.self c.in_ok-found.found m ready c.in_ok-found.ensures.found in
     subst (CanGive c.self.inside.frame c.in-Some.sides.along c.in_ok-found.found) (sym ready) a.give
 
 pub take-area-requires-clause-shelf : goal.take-area-requires-clause-shelf
 take-area-requires-clause-shelf c =
-    let m = made c.self.inside c.self.invariant c.args.size c.in-Some.sides c.placement_of.result c.in-Some-placement_of.placement (sym c.asked.ensures ∙ c.in-Some.is) (in_old c.self.inside c.in-Some.sides c.placement_of.result c.settle.new.self c.settle.ensures c.placement_of.ensures) c.in-Some-placement_of.is in
-    let ready = (c.in_ok-found.ensures.ok ∙ ap (stored_ready c.self.inside.frame (placement_seen c.in-Some-placement_of.placement)) c.settle.ensures) in
+    let m = made c.self.inside c.self.invariant c.args.size c.in-Some.sides c.placement_of.result c.in-Some-placement_of.placement (sym c.asked.ensures ∙ c.in-Some.is) (in_old c.self.inside c.in-Some.sides c.placement_of.result c.settle.new.self c.settle.ensures c.placement_of.ensures.placement) c.in-Some-placement_of.is in
+    let ready = (c.in_ok-found.ensures.ok ∙ ap (stored_ready c.self.inside.frame (placement_seen c.in-Some-placement_of.placement)) (c.placement_of.ensures.same ∙ c.settle.ensures)) in
     let a = allocation c.self.inside c.self.invariant c.args.size c.in-Some.sides (placement_seen c.in-Some-placement_of.placement) c.prepare.new.self c.in_ok-found.found m ready c.in_ok-found.ensures.found in
     subst (λ (stored : Stored). c.in_ok-found.found.shelf < length stored.shelves) (sym ready) a.shelf
 
 pub take-area-requires-clause-fits : goal.take-area-requires-clause-fits
 take-area-requires-clause-fits c =
-    let m = made c.self.inside c.self.invariant c.args.size c.in-Some.sides c.placement_of.result c.in-Some-placement_of.placement (sym c.asked.ensures ∙ c.in-Some.is) (in_old c.self.inside c.in-Some.sides c.placement_of.result c.settle.new.self c.settle.ensures c.placement_of.ensures) c.in-Some-placement_of.is in
-    let ready = (c.in_ok-found.ensures.ok ∙ ap (stored_ready c.self.inside.frame (placement_seen c.in-Some-placement_of.placement)) c.settle.ensures) in
+    let m = made c.self.inside c.self.invariant c.args.size c.in-Some.sides c.placement_of.result c.in-Some-placement_of.placement (sym c.asked.ensures ∙ c.in-Some.is) (in_old c.self.inside c.in-Some.sides c.placement_of.result c.settle.new.self c.settle.ensures c.placement_of.ensures.placement) c.in-Some-placement_of.is in
+    let ready = (c.in_ok-found.ensures.ok ∙ ap (stored_ready c.self.inside.frame (placement_seen c.in-Some-placement_of.placement)) (c.placement_of.ensures.same ∙ c.settle.ensures)) in
     let a = allocation c.self.inside c.self.invariant c.args.size c.in-Some.sides (placement_seen c.in-Some-placement_of.placement) c.prepare.new.self c.in_ok-found.found m ready c.in_ok-found.ensures.found in
     subst (λ (stored : Stored). store.CanTake c.in_ok-found.found.bucket c.in-Some.sides.along stored.buckets) (sym ready) a.take
 
 pub take-area-requires-clause-few : goal.take-area-requires-clause-few
 take-area-requires-clause-few c =
-    let m = made c.self.inside c.self.invariant c.args.size c.in-Some.sides c.placement_of.result c.in-Some-placement_of.placement (sym c.asked.ensures ∙ c.in-Some.is) (in_old c.self.inside c.in-Some.sides c.placement_of.result c.settle.new.self c.settle.ensures c.placement_of.ensures) c.in-Some-placement_of.is in
-    let ready = (c.in_ok-found.ensures.ok ∙ ap (stored_ready c.self.inside.frame (placement_seen c.in-Some-placement_of.placement)) c.settle.ensures) in
+    let m = made c.self.inside c.self.invariant c.args.size c.in-Some.sides c.placement_of.result c.in-Some-placement_of.placement (sym c.asked.ensures ∙ c.in-Some.is) (in_old c.self.inside c.in-Some.sides c.placement_of.result c.settle.new.self c.settle.ensures c.placement_of.ensures.placement) c.in-Some-placement_of.is in
+    let ready = (c.in_ok-found.ensures.ok ∙ ap (stored_ready c.self.inside.frame (placement_seen c.in-Some-placement_of.placement)) (c.placement_of.ensures.same ∙ c.settle.ensures)) in
     let a = allocation c.self.inside c.self.invariant c.args.size c.in-Some.sides (placement_seen c.in-Some-placement_of.placement) c.prepare.new.self c.in_ok-found.found m ready c.in_ok-found.ensures.found in
     subst (λ (stored : Stored). live_items_of stored.shelves c.in_ok-found.found.shelf + 1 < 2 ^ 32) (sym ready) a.few
 
 pub take-area-requires-clause-widest : goal.take-area-requires-clause-widest
 take-area-requires-clause-widest c =
-    let m = made c.self.inside c.self.invariant c.args.size c.in-Some.sides c.placement_of.result c.in-Some-placement_of.placement (sym c.asked.ensures ∙ c.in-Some.is) (in_old c.self.inside c.in-Some.sides c.placement_of.result c.settle.new.self c.settle.ensures c.placement_of.ensures) c.in-Some-placement_of.is in
-    let ready = (c.in_ok-found.ensures.ok ∙ ap (stored_ready c.self.inside.frame (placement_seen c.in-Some-placement_of.placement)) c.settle.ensures) in
+    let m = made c.self.inside c.self.invariant c.args.size c.in-Some.sides c.placement_of.result c.in-Some-placement_of.placement (sym c.asked.ensures ∙ c.in-Some.is) (in_old c.self.inside c.in-Some.sides c.placement_of.result c.settle.new.self c.settle.ensures c.placement_of.ensures.placement) c.in-Some-placement_of.is in
+    let ready = (c.in_ok-found.ensures.ok ∙ ap (stored_ready c.self.inside.frame (placement_seen c.in-Some-placement_of.placement)) (c.placement_of.ensures.same ∙ c.settle.ensures)) in
     let a = allocation c.self.inside c.self.invariant c.args.size c.in-Some.sides (placement_seen c.in-Some-placement_of.placement) c.prepare.new.self c.in_ok-found.found m ready c.in_ok-found.ensures.found in
     subst (store.IsWidest c.in_ok-found.found.shelf c.in_ok-found.found.bucket c.in-Some.sides.along) (sym ready) a.widest
 
 pub follow_placement-requires-clause-short : goal.follow_placement-requires-clause-short
 follow_placement-requires-clause-short c =
-    let m = made c.self.inside c.self.invariant c.args.size c.in-Some.sides c.placement_of.result c.in-Some-placement_of.placement (sym c.asked.ensures ∙ c.in-Some.is) (in_old c.self.inside c.in-Some.sides c.placement_of.result c.settle.new.self c.settle.ensures c.placement_of.ensures) c.in-Some-placement_of.is in
-    let ready = (c.in_ok-found.ensures.ok ∙ ap (stored_ready c.self.inside.frame (placement_seen c.in-Some-placement_of.placement)) c.settle.ensures) in
+    let m = made c.self.inside c.self.invariant c.args.size c.in-Some.sides c.placement_of.result c.in-Some-placement_of.placement (sym c.asked.ensures ∙ c.in-Some.is) (in_old c.self.inside c.in-Some.sides c.placement_of.result c.settle.new.self c.settle.ensures c.placement_of.ensures.placement) c.in-Some-placement_of.is in
+    let ready = (c.in_ok-found.ensures.ok ∙ ap (stored_ready c.self.inside.frame (placement_seen c.in-Some-placement_of.placement)) (c.placement_of.ensures.same ∙ c.settle.ensures)) in
     let a = allocation c.self.inside c.self.invariant c.args.size c.in-Some.sides (placement_seen c.in-Some-placement_of.placement) c.prepare.new.self c.in_ok-found.found m ready c.in_ok-found.ensures.found in
     let after = c.take-area.ensures.records ∙ ap (stored_taken c.in_ok-found.found.shelf c.in_ok-found.found.bucket c.in-Some.sides.along) ready in
     subst (λ (stored : Stored). IsShort c.self.inside.frame stored.shelves) (sym after) a.short
@@ -166,11 +166,11 @@ follow_placement-requires-clause-short c =
 pub follow_placement-requires-clause-kept : goal.follow_placement-requires-clause-kept
 follow_placement-requires-clause-kept c = λ there.
     end-allocated c.self.inside (placement_seen c.in-Some-placement_of.placement) c.prepare.new.self c.take-area.new.self c.in_ok-found.found.shelf c.in_ok-found.found.bucket c.in-Some.sides.along
-    c.self.invariant (c.in_ok-found.ensures.ok ∙ ap (stored_ready c.self.inside.frame (placement_seen c.in-Some-placement_of.placement)) c.settle.ensures) c.take-area.ensures.records there
+    c.self.invariant (c.in_ok-found.ensures.ok ∙ ap (stored_ready c.self.inside.frame (placement_seen c.in-Some-placement_of.placement)) (c.placement_of.ensures.same ∙ c.settle.ensures)) c.take-area.ensures.records there
 
 pub follow_placement-requires-clause-few : goal.follow_placement-requires-clause-few
 follow_placement-requires-clause-few c =
-    let m = made c.self.inside c.self.invariant c.args.size c.in-Some.sides c.placement_of.result c.in-Some-placement_of.placement (sym c.asked.ensures ∙ c.in-Some.is) (in_old c.self.inside c.in-Some.sides c.placement_of.result c.settle.new.self c.settle.ensures c.placement_of.ensures) c.in-Some-placement_of.is in
+    let m = made c.self.inside c.self.invariant c.args.size c.in-Some.sides c.placement_of.result c.in-Some-placement_of.placement (sym c.asked.ensures ∙ c.in-Some.is) (in_old c.self.inside c.in-Some.sides c.placement_of.result c.settle.new.self c.settle.ensures c.placement_of.ensures.placement) c.in-Some-placement_of.is in
     omega (
       arith,
       c.self.invariant.totals.in_use,
@@ -179,16 +179,16 @@ follow_placement-requires-clause-few c =
 
 pub overflow_add-self : goal.overflow_add-self
 overflow_add-self c =
-    let m = made c.self.inside c.self.invariant c.args.size c.in-Some.sides c.placement_of.result c.in-Some-placement_of.placement (sym c.asked.ensures ∙ c.in-Some.is) (in_old c.self.inside c.in-Some.sides c.placement_of.result c.settle.new.self c.settle.ensures c.placement_of.ensures) c.in-Some-placement_of.is in
-    let ready = (c.in_ok-found.ensures.ok ∙ ap (stored_ready c.self.inside.frame (placement_seen c.in-Some-placement_of.placement)) c.settle.ensures) in
+    let m = made c.self.inside c.self.invariant c.args.size c.in-Some.sides c.placement_of.result c.in-Some-placement_of.placement (sym c.asked.ensures ∙ c.in-Some.is) (in_old c.self.inside c.in-Some.sides c.placement_of.result c.settle.new.self c.settle.ensures c.placement_of.ensures.placement) c.in-Some-placement_of.is in
+    let ready = (c.in_ok-found.ensures.ok ∙ ap (stored_ready c.self.inside.frame (placement_seen c.in-Some-placement_of.placement)) (c.placement_of.ensures.same ∙ c.settle.ensures)) in
     let a = allocation c.self.inside c.self.invariant c.args.size c.in-Some.sides (placement_seen c.in-Some-placement_of.placement) c.prepare.new.self c.in_ok-found.found m ready c.in_ok-found.ensures.found in
     let area = c.take-area.ensures.area ∙ ap (λ (stored : Stored). c.in-Some.sides.along * height_of stored.shelves c.in_ok-found.found.shelf) ready in
     omega (arith, area, a.space, c.self.invariant.totals.space, space-small a.new a.valid)
 
 pub invariant_of-self-2 : goal.invariant_of-self-2
 invariant_of-self-2 c =
-    let m = made c.self.inside c.self.invariant c.args.size c.in-Some.sides c.placement_of.result c.in-Some-placement_of.placement (sym c.asked.ensures ∙ c.in-Some.is) (in_old c.self.inside c.in-Some.sides c.placement_of.result c.settle.new.self c.settle.ensures c.placement_of.ensures) c.in-Some-placement_of.is in
-    let ready = (c.in_ok-found.ensures.ok ∙ ap (stored_ready c.self.inside.frame (placement_seen c.in-Some-placement_of.placement)) c.settle.ensures) in
+    let m = made c.self.inside c.self.invariant c.args.size c.in-Some.sides c.placement_of.result c.in-Some-placement_of.placement (sym c.asked.ensures ∙ c.in-Some.is) (in_old c.self.inside c.in-Some.sides c.placement_of.result c.settle.new.self c.settle.ensures c.placement_of.ensures.placement) c.in-Some-placement_of.is in
+    let ready = (c.in_ok-found.ensures.ok ∙ ap (stored_ready c.self.inside.frame (placement_seen c.in-Some-placement_of.placement)) (c.placement_of.ensures.same ∙ c.settle.ensures)) in
     let a = allocation c.self.inside c.self.invariant c.args.size c.in-Some.sides (placement_seen c.in-Some-placement_of.placement) c.prepare.new.self c.in_ok-found.found m ready c.in_ok-found.ensures.found in
     let frame = c.self.inside.frame in
     let after = c.take-area.ensures.records ∙ ap (stored_taken c.in_ok-found.found.shelf c.in_ok-found.found.bucket c.in-Some.sides.along) ready in
@@ -211,8 +211,8 @@ invariant_of-self-2 c =
 -- what is given, and the state after it
 allocates : (c : goal.After-self-1) → Allocates (state_in c.self.inside) c.args.size c.allocation-allocation.result (stored_state c.self.inside.frame c.take-area.new.self)
 allocates c =
-    let m = made c.self.inside c.self.invariant c.args.size c.in-Some.sides c.placement_of.result c.in-Some-placement_of.placement (sym c.asked.ensures ∙ c.in-Some.is) (in_old c.self.inside c.in-Some.sides c.placement_of.result c.settle.new.self c.settle.ensures c.placement_of.ensures) c.in-Some-placement_of.is in
-    let ready = (c.in_ok-found.ensures.ok ∙ ap (stored_ready c.self.inside.frame (placement_seen c.in-Some-placement_of.placement)) c.settle.ensures) in
+    let m = made c.self.inside c.self.invariant c.args.size c.in-Some.sides c.placement_of.result c.in-Some-placement_of.placement (sym c.asked.ensures ∙ c.in-Some.is) (in_old c.self.inside c.in-Some.sides c.placement_of.result c.settle.new.self c.settle.ensures c.placement_of.ensures.placement) c.in-Some-placement_of.is in
+    let ready = (c.in_ok-found.ensures.ok ∙ ap (stored_ready c.self.inside.frame (placement_seen c.in-Some-placement_of.placement)) (c.placement_of.ensures.same ∙ c.settle.ensures)) in
     let a = allocation c.self.inside c.self.invariant c.args.size c.in-Some.sides (placement_seen c.in-Some-placement_of.placement) c.prepare.new.self c.in_ok-found.found m ready c.in_ok-found.ensures.found in
     let after = c.take-area.ensures.records ∙ ap (stored_taken c.in_ok-found.found.shelf c.in_ok-found.found.bucket c.in-Some.sides.along) ready in
     subst (Allocates (state_in c.self.inside) c.args.size c.allocation-allocation.result) (sym (ap (stored_state c.self.inside.frame) after ∙ a.read))

@@ -1,0 +1,113 @@
+-- Where it is known that no shelf has a place for some sides: what a search finds then, and what stays known.
+use Rattle.std.proofs.Common.{◌≡◌, ℕ, ◌<◌, ◌≤◌, Bool, true, false, cond, Option, None, Some, List, map, length, refl, ap, sym, ◌∙◌, arith, ◌==◌}
+use Rattle.std.proofs.lemmas.Bool.Decides.{nat_tests}
+use Rattle.std.proofs.lemmas.Bool.{eqb-true}
+use Rattle.std.proofs.lemmas.Option.{slice_get-map}
+use Rattle.std.specs.Prelude.{IfSome, nat_le, nat_lt, not, option_map, slice_get, ◌&&◌, ◌-◌}
+use Rattle.etagere_base.specs.declared.sides.Sides.{Sides}
+use Rattle.etagere_base.specs.Least.{first_least}
+use Rattle.etagere_base.proofs.Least.{first_least-none}
+use Rattle.etagere_links.specs.Edits.{changed_by}
+use Rattle.etagere_links.proofs.RecordChanges.{get-changed_by, get-changed_by-other}
+use Rattle.bucketed_records.specs.declared.records.KeptShelf.{KeptShelf}
+use Rattle.bucketed_records.specs.declared.records.LinkedBucketShelf.{LinkedBucketShelf}
+use Rattle.bucket_index.specs.declared.missed.Missed.{Missed}
+use Rattle.bucket_index.specs.Private.Missed.{AreWithout, IsMissed, IsMissedBeside, IsMissedBy, IsMissedWhere, IsWithout}
+use Rattle.bucket_index.specs.Private.Searching.{kept_waste}
+use Rattle.bucket_index.proofs.FoundShelves.{before-end}
+use Rattle.bucket_index.proofs.PassedShelves.{least-past}
+
+-- a shelf that has no place has none either where those are left out that waste too much
+pub adding-none : (adds : Bool) (sides : Sides) (kept : KeptShelf) → IsWithout sides kept → kept_waste adds sides kept ≡ None
+adding-none adds sides kept none = by_tests (nat_le sides.across kept.shelf.height) (nat_le sides.along kept.shelf.bucket_width) (nat_le sides.along kept.widest_room) (adds && nat_lt sides.across (kept.shelf.height - sides.across)) none
+  where
+    wasted : ℕ
+    wasted = kept.shelf.height - sides.across
+
+    by_tests : (tall wide roomy wastes : Bool) → cond ((tall && (wide && true)) && roomy) (Some wasted) None ≡ None → cond ((tall && (wide && not wastes)) && roomy) (Some wasted) None ≡ None
+    by_tests false wide roomy wastes h = refl
+    by_tests true false roomy wastes h = refl
+    by_tests true true false true h = refl
+    by_tests true true false false h = refl
+    by_tests true true true true h = refl
+    by_tests true true true false h = absurd (cc)
+
+-- none is found where no shelf has a place
+pub none-found : (adds : Bool) (sides : Sides) (shelves : List KeptShelf) → AreWithout sides shelves → None ≡ first_least (map (kept_waste adds sides) shelves)
+none-found adds sides shelves without =
+    before-end (kept_waste adds sides) shelves None (length shelves) (omega arith)
+    (least-past adds sides shelves None 0 (length shelves) refl (omega arith) (λ number kept low high there. adding-none adds sides kept (without number kept tt there)))
+
+-- no shelf has a place where none is found, and none is left out that wastes too much
+pub all-without : (sides : Sides) (shelves : List KeptShelf) → first_least (map (kept_waste false sides) shelves) ≡ None → AreWithout sides shelves
+all-without sides shelves none number kept such there = by_waste (kept_waste false sides kept) refl
+  where
+    by_waste : (o : Option ℕ) → kept_waste false sides kept ≡ o → kept_waste false sides kept ≡ None
+    by_waste None e = e
+    by_waste (Some rank) e =
+        absurd (first_least-none (map (kept_waste false sides) shelves) none number rank (slice_get-map (kept_waste false sides) shelves number ∙ ap (option_map (kept_waste false sides)) there ∙ ap (λ (o : Option ℕ). Some o) e))
+
+-- one number is not another
+apart : (k n : ℕ) → k ≡ n → (k == n) ≡ false → ⊥
+apart k n same h = grind arith
+
+-- a shelf that has no place has none with less room
+pub narrower-without : (sides : Sides) (one other : KeptShelf) → other.shelf ≡ one.shelf → other.widest_room ≤ one.widest_room → IsWithout sides one → IsWithout sides other
+narrower-without sides one other shelf less without =
+    ap (λ (s : LinkedBucketShelf). let kept : KeptShelf = record { shelf = s; live_items = other.live_items; widest_room = other.widest_room } in kept_waste false sides kept) shelf
+    ∙ by_tests (nat_le sides.across one.shelf.height && (nat_le sides.along one.shelf.bucket_width && true)) (nat_le sides.along one.widest_room) (nat_le sides.along other.widest_room) wider without
+  where
+    wasted : ℕ
+    wasted = one.shelf.height - sides.across
+
+    wider : nat_le sides.along other.widest_room ≡ true → nat_le sides.along one.widest_room ≡ true
+    wider h = grind (arith, nat_tests, less, h)
+
+    by_tests : (front before after : Bool) → (after ≡ true → before ≡ true) → cond (front && before) (Some wasted) None ≡ None → cond (front && after) (Some wasted) None ≡ None
+    by_tests false before after more h = refl
+    by_tests true before false more h = refl
+    by_tests true true true more h = absurd (cc)
+    by_tests true false true more h = let wide = more refl in absurd (cc)
+
+-- sides stay missed by shelves of such numbers where one changed that has no place for them where it had none
+pub missed-changed : (IsSuch : ℕ → Type 0) (shelf : ℕ) (change : KeptShelf → KeptShelf) (missed : Missed) (shelves : List KeptShelf)
+    → ((sides : Sides) (kept : KeptShelf) → 0 < sides.across → slice_get shelves shelf ≡ Some kept → IsWithout sides kept → IsWithout sides (change kept)) → IsMissedWhere IsSuch missed shelves
+    → IsMissedWhere IsSuch missed (changed_by (Some shelf) change shelves)
+missed-changed IsSuch shelf change missed shelves keeps is = by_sides missed.sides is
+  where
+    changed : (sides : Sides) (number : ℕ) (kept : KeptShelf) → 0 < sides.across → ((one : KeptShelf) → slice_get shelves number ≡ Some one → IsWithout sides one)
+        → slice_get (changed_by (Some shelf) change shelves) number ≡ Some kept → IsWithout sides kept
+    changed sides number kept some before there = by_number (number == shelf) refl
+      where
+        own : number ≡ shelf → (o : Option KeptShelf) → slice_get shelves number ≡ o → option_map change o ≡ Some kept → IsWithout sides kept
+        own same None e h = absurd (cc)
+        own same (Some one) e h =
+            let is : change one ≡ kept = cc in
+            ap (kept_waste false sides) (sym is) ∙ keeps sides one some (ap (slice_get shelves) (sym same) ∙ e) (before one e)
+
+        by_number : (t : Bool) → (number == shelf) ≡ t → IsWithout sides kept
+        by_number true e =
+            own (eqb-true number shelf e) (slice_get shelves number) refl
+            (sym (get-changed_by change shelves (Some shelf) number (ap (λ (n : ℕ). Some n) (sym (eqb-true number shelf e)))) ∙ there)
+        by_number false e =
+            before kept (sym (get-changed_by-other change shelves (Some shelf) number (λ (h : Some shelf ≡ Some number). let same : number ≡ shelf = cc in absurd (apart number shelf same e))) ∙ there)
+
+    by_sides : (o : Option Sides) → IfSome o (λ sides. IsMissedBy IsSuch missed.except sides shelves) → IfSome o (λ sides. IsMissedBy IsSuch missed.except sides (changed_by (Some shelf) change shelves))
+    by_sides None h = h
+    by_sides (Some sides) h = record {
+      some = h.some;
+      without = λ number kept such other there. changed sides number kept h.some (λ one at. h.without number one such other at) there;
+    }
+
+-- nothing is said of a shelf that changed
+pub missed-beside : (shelf : ℕ) (change : KeptShelf → KeptShelf) (missed : Missed) (shelves : List KeptShelf) → IsMissed missed shelves → IsMissedBeside shelf missed (changed_by (Some shelf) change shelves)
+missed-beside shelf change missed shelves is = by_sides missed.sides is
+  where
+    by_sides : (o : Option Sides) → IfSome o (λ sides. IsMissedBy (λ number. Unit {0}) missed.except sides shelves)
+        → IfSome o (λ sides. IsMissedBy (λ number. number ≡ shelf → ⊥) missed.except sides (changed_by (Some shelf) change shelves))
+    by_sides None h = h
+    by_sides (Some sides) h = record {
+      some = h.some;
+      without = λ number kept such other there.
+          h.without number kept tt other (sym (get-changed_by-other change shelves (Some shelf) number (λ (e : Some shelf ≡ Some number). let same : number ≡ shelf = cc in absurd (such same))) ∙ there);
+    }

@@ -1,0 +1,44 @@
+use Rattle.std.proofs.Common.{◌≡◌, Option, None, Some, List, refl, ap, subst, sym, ◌∙◌}
+use Rattle.std.specs.Prelude.{is_some, option_map}
+use Rattle.bucketed_records.specs.declared.records.LinkedBucket.{LinkedBucket}
+use Rattle.bucketed_records.specs.declared.records.KeptShelf.{KeptShelf}
+use Rattle.bucketed_records.specs.Private.Store.{Stored}
+use Rattle.bucket_index.specs.Private.Blocks.{AreKnown}
+use Rattle.bucket_index.specs.Private.Heights.{AreBelow}
+use Rattle.bucket_index.specs.Private.Missed.{IsMissed}
+use Rattle.bucket_index.specs.Private.Rooms.{AreCounted}
+use Rattle.bucket_index.specs.Private.Spans.{AreSpans}
+use Rattle.bucketed_store.specs.declared.placing.Placement as code
+use Rattle.bucketed_store.specs.Private.Placing.{kept_placement, placement_seen}
+use Rattle.bucketed_store.proofs.placing.has_placement.Goals as goal
+
+-- there is a placement where one is seen
+some-seen : (o : Option code.Placement) → is_some o ≡ is_some (option_map placement_seen o)
+some-seen None = refl
+some-seen (Some placement) = refl
+
+pub placement_in-requires-clause-known : goal.placement_in-requires-clause-known
+placement_in-requires-clause-known c = subst (λ (shelves : List KeptShelf). AreKnown c.store.inside.blocks shelves) (sym c.deref.ensures.value) c.store.invariant.0
+
+pub placement_in-requires-clause-spans : goal.placement_in-requires-clause-spans
+placement_in-requires-clause-spans c = subst (AreSpans c.store.inside.spans) (sym c.deref-2.ensures.value) c.store.invariant.1
+
+pub placement_in-requires-clause-rooms : goal.placement_in-requires-clause-rooms
+placement_in-requires-clause-rooms c = subst (AreCounted c.store.inside.rooms) (sym c.deref-2.ensures.value) c.store.invariant.3
+
+pub placement_in-requires-clause-missed : goal.placement_in-requires-clause-missed
+placement_in-requires-clause-missed c = subst (IsMissed c.store.inside.missed) (sym c.deref.ensures.value) c.store.invariant.5
+
+pub placement_in-requires-clause-below : goal.placement_in-requires-clause-below
+placement_in-requires-clause-below c = subst (AreBelow c.store.inside.heights) (sym c.deref.ensures.value) c.store.invariant.4
+
+pub returns : goal.returns
+returns c =
+    c.is_some.ensures
+    ∙ some-seen c.placement_in.result
+    ∙ ap is_some (
+    c.placement_in.ensures.placement
+    ∙ ap (λ (shelves : List KeptShelf). kept_placement c.args.frame.now c.args.left.now c.args.sides.now shelves c.deref-2.result.now) c.deref.ensures.value
+    ∙ ap (λ (buckets : List LinkedBucket). kept_placement c.args.frame.now c.args.left.now c.args.sides.now c.store.inside.shelves.items buckets) c.deref-2.ensures.value
+    ∙ ap (λ (stored : Stored). kept_placement c.args.frame.now c.args.left.now c.args.sides.now stored.shelves stored.buckets) c.store.view_is
+    )
