@@ -136,7 +136,7 @@ ROWS = {
     # Counted likewise, as the next ones.
     "3000 shelves that are too low: the same item comes and goes": Row(too_low, 10673, most=MOST),
     "4000 empty shelves: a narrower item comes and goes": Row(empty_shelves, 94132, before=88714, most=MOST),
-    "4094 empty shelves: each item has two of them merged": Row(merges, 154910, before=118894),
+    "4094 empty shelves: each item has two of them merged": Row(merges, 154910, before=118894, most=MOST),
     "an atlas is cleared and gets an item": Row(cleared, 167, before=1501),
     "the same with 16 items that add a shelf each": Row(filled_anew, 438, before=772),
 }
