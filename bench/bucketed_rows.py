@@ -34,6 +34,35 @@ def full_shelf(position):
     return filling, goes_and_comes([position] * ROUNDS, len(filling) - 1, "a 16 1")
 
 
+def eight_go(filling, asked):
+    """Eight items go, any of those there are, and as many come, again and again."""
+    chooser = random.Random(11)
+    count = len(filling) - 1
+    live, lines = list(range(count)), []
+    for _ in range(ROUNDS // 8):
+        for _ in range(8):
+            lines.append(f"r {live.pop(chooser.randrange(len(live)))}")
+        for _ in range(8):
+            live.append(count + len(lines))
+            lines.append(asked(chooser))
+    return filling, lines
+
+
+def whole_buckets_go(_program):
+    """Of a full shelf of 4095 buckets eight go, and then eight come."""
+    return eight_go(long_shelf() + ["a 15 1"] + ["a 16 1"] * (BUCKETS - 1), lambda _: "a 16 1")
+
+
+def of_two_widths(chooser):
+    return chooser.choice(["a 9 1", "a 16 1"])
+
+
+def two_widths_go(_program):
+    """The same with 3000 items of two widths, of which the narrower leaves room for none in its bucket."""
+    chooser = random.Random(12)
+    return eight_go(long_shelf() + [of_two_widths(chooser) for _ in range(3000)], of_two_widths)
+
+
 def little_left(buckets):
     """A row of buckets 64 wide, in each of which 4 are left, and of which any goes and comes."""
     chooser = random.Random(3)
@@ -121,6 +150,8 @@ ROWS = {
     "the same, by two widths in turn": Row(two_widths, 26833, "filling", most=MOST),
     "a full shelf of 4095 buckets: the second goes and comes": Row(lambda _: full_shelf(2), 169),
     "the same, the last": Row(lambda _: full_shelf(BUCKETS), 26774, most=MOST),
+    "the same, any eight go and eight come": Row(whole_buckets_go, most=MOST),
+    "the same with items of two widths": Row(two_widths_go, most=MOST),
     "the same, added with its only item and dropped with it": Row(whole_shelf),
     # What the crate takes here was counted with plain geometry types in place of its own.
     "a shelf of 512, the same": Row(shelf_alone, 9679, before=10321),

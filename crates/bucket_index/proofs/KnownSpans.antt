@@ -519,6 +519,14 @@ passed-span width numbered block span bs at number left names small passed known
           (λ k low in_. omega (arith, in_.1, passed.narrow)) is.lead);
     }
 
+-- a search for more width passes the same
+pub passed-wider : (width wider : ℕ) (bs : List LinkedBucket) (at : Option ℕ) (left : ℕ) (ahead : Ahead) → width ≤ wider → IsPassed width bs at left ahead → IsPassed wider bs at left ahead
+passed-wider width wider bs at left ahead more is = record {
+  steps = is.steps;
+  passed = is.passed;
+  lead = lead-still is.steps (λ n. room_at bs n < width) (λ n. room_at bs n < wider) bs bs at ahead.at (omega arith) (λ k low in_. refl) (λ k low in_. omega (arith, in_, more)) is.lead;
+}
+
 -- what a step finds at a link
 pub first-at : (wanted : Wanted) (buckets : List LinkedBucket) (left fewer number : ℕ) (at : Option ℕ) (found : Option LinkedBucket) → at ≡ Some number → left ≡ suc fewer → slice_get buckets number ≡ found
     → first_from left wanted buckets at ≡ option_and_then (λ (bucket : LinkedBucket). cond (is_wanted wanted bucket) (Some number) (first_from fewer wanted buckets bucket.next)) found

@@ -145,16 +145,12 @@ fn first_by_spans(
     ensures within { IfSome result (λ number. number < length buckets.now) }
 {
     let needed = needed_room(wanted);
+    let end = end_of_linked(buckets);
     let mut at = first;
     let mut left = MOST_BUCKETS;
-    for _step in 0..MOST_BUCKETS {
-        if left == 0 {
-            return None;
-        }
-        let Some(number) = at.number() else {
-            return None;
-        };
-        if number >= buckets.len() {
+    while 0 < left {
+        let number = usize::from(at.bits());
+        if number >= end {
             return None;
         }
         let bucket = &buckets[number];
@@ -209,17 +205,42 @@ fn widest_by_links(buckets: &[LinkedBucket], first: Link, most: u16) -> u16
     widest
 }
 
-/// The same, by spans where none of their buckets has more room.
+/// The same by spans: most often a bucket has the most, or as much as the spans may have.
 #[inline(never)]
 fn widest_by_spans(buckets: &[LinkedBucket], spans: &Spans, first: Link, most: u16) -> u16
     requires spans { AreSpans spans.now buckets.now }
     requires most { spec.widest_from most_buckets buckets.now first ≤ most }
     ensures { result ≡ spec.widest_from most_buckets buckets.now first }
 {
-    let mut widest = 0;
+    let least = most.saturating_sub(1);
+    let widest = widest_above(least, buckets, spans, first, most);
+    if least < widest {
+        return widest;
+    }
+    let bound = spans.widest_bound(first).unwrap_or(least).min(least);
+    let least = bound.saturating_sub(1);
+    let widest = widest_above(least, buckets, spans, first, bound);
+    if least < widest {
+        return widest;
+    }
+    widest_above(0, buckets, spans, first, bound)
+}
+
+/// The same, or this width where it is greater. Spans are passed over where none of their buckets has more room than was
+/// found so far.
+fn widest_above(least: u16, buckets: &[LinkedBucket], spans: &Spans, first: Link, most: u16) -> u16
+    requires spans { AreSpans spans.now buckets.now }
+    requires least { least ≤ most }
+    requires most { spec.widest_from most_buckets buckets.now first ≤ most }
+    ensures { result ≡ max least (spec.widest_from most_buckets buckets.now first) }
+{
+    let mut widest = least;
     let mut at = first;
     let mut left = MOST_BUCKETS;
     for _step in 0..MOST_BUCKETS {
+        if most <= widest {
+            break;
+        }
         let ahead = spans.ahead(at, left, u32::from(widest) + 1);
         if ahead.left == 0 {
             break;
@@ -228,9 +249,6 @@ fn widest_by_spans(buckets: &[LinkedBucket], spans: &Spans, first: Link, most: u
             break;
         };
         if number >= buckets.len() {
-            break;
-        }
-        if most <= widest {
             break;
         }
         let bucket = &buckets[number];

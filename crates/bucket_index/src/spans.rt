@@ -5,10 +5,12 @@
 //! Definitions: `Private/Spans`. Of a block nothing need be known; then a search looks at each record. Rows of a few
 //! buckets are never gone over for it.
 
-ghost use Rattle.std.specs.Prelude.{◌≡◌, ◌+◌, ◌<◌, ◌≤◌, IsTrue, Some, List, length, max, true};
+ghost use Rattle.std.specs.Prelude.{◌≡◌, ◌+◌, ◌<◌, ◌≤◌, IfSome, IsTrue, Some, List, length, max, true};
 ghost use Rattle.etagere_links.specs.Edits.{changed_by};
 ghost use Rattle.etagere_links.specs.Links.{no_link};
+ghost use Rattle.bucketed_model.specs.State.{most_buckets};
 ghost use Rattle.bucketed_records.specs.declared.records.LinkedBucket.{LinkedBucket};
+ghost use Rattle.bucket_index.specs.Private.Searching.{widest_from};
 ghost use Rattle.bucket_index.specs.Private.Spans as spec;
 
 use bucketed_records::records::{LinkedBucket, MOST_BUCKETS, record_room};
@@ -233,7 +235,7 @@ fn gathered(parts: &[Span], scale: usize, first: usize) -> Span
 }
 
 /// How many records `stays_wide` looks at.
-const FEW_RECORDS: u32 = 4;
+const FEW_RECORDS: u32 = 2;
 
 /// Whether one of the next few records of the same block has this room.
 fn stays_wide(buckets: &[LinkedBucket], number: usize, room: u16) -> bool
@@ -356,8 +358,7 @@ fn is_passed(span: &Span, number: usize, width: u32, left: u32) -> bool
 {
     begins_with(span, number)
         && u32::from(span.widest_room) < width
-        && 0 < span.steps
-        && u32::from(span.steps) <= left
+        && u32::from(span.steps).wrapping_sub(1) < left
 }
 
 /// Where a search for this width that has come to a link goes on: behind spans of one size in which no record has so
@@ -476,6 +477,47 @@ impl Spans {
         let large = behind_narrow(&self.large, LARGE, at, left, width);
         let middle = behind_narrow(&self.middle, MIDDLE, large.at, large.left, width);
         behind_narrow(&self.small, SMALL, middle.at, middle.left, width)
+    }
+
+    /// The largest span that begins with the record of a number, if one does.
+    #[inline(always)]
+    fn span_at(&self, number: usize) -> Span
+        ensures { (buckets : List LinkedBucket) → spec.AreKnownSpans self.now buckets
+            → spec.IsSomeSpan result buckets }
+    {
+        let large = span_of(&self.large, block_of(LARGE, number));
+        if begins_with(&large, number) {
+            return large;
+        }
+        let middle = span_of(&self.middle, block_of(MIDDLE, number));
+        if begins_with(&middle, number) {
+            return middle;
+        }
+        span_of(&self.small, block_of(SMALL, number))
+    }
+
+    /// No record to which the links lead from this one on has more room than this, where spans lead along all of them.
+    pub fn widest_bound(&self, first: Link) -> Option<u16>
+        ensures { IfSome result (λ bound. (buckets : List LinkedBucket)
+            → spec.AreSpans self.now buckets → widest_from most_buckets buckets first ≤ bound) }
+    {
+        if !self.are_learned {
+            return None;
+        }
+        let mut bound = 0;
+        let mut at = first;
+        let mut unseen = MOST_BUCKETS;
+        while let Some(number) = at.number() {
+            let span = self.span_at(number);
+            let widest = span.widest_room.max(bound);
+            if !is_passed(&span, number, u32::from(widest) + 1, unseen) {
+                return None;
+            }
+            bound = widest;
+            at = Link::from_bits(span.behind);
+            unseen -= u32::from(span.steps);
+        }
+        Some(bound)
     }
 
     /// Forgets the spans of the blocks of the record of a number, which may have become another record.

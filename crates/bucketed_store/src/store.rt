@@ -190,7 +190,7 @@ impl Store {
     {
         self.shelves.reserve(news.shelf_count())?;
         reserve_records(&mut self.buckets, in_use + news.total_count())?;
-        self.may_be_long |= news.total_count() > FAR;
+        self.may_be_long |= news.total_count() > LONG;
         if let Some(filler) = &news.filler {
             add_shelf(
                 frame,
@@ -826,8 +826,11 @@ fn goes_far(
         && is_far(u32::from(shelf.x), begin, shelf.bucket_width)
 }
 
-/// Beyond so many buckets a search is worth spans.
-const FAR: u32 = 256;
+/// A shelf with more buckets is long.
+const LONG: u32 = 256;
+
+/// Beyond so many buckets of a long shelf a search is worth spans.
+const FAR: u32 = 192;
 
 /// Whether more buckets this wide than a search is worth lie between two places.
 fn is_far(from: u32, to: u32, width: u16) -> bool {

@@ -154,6 +154,12 @@ abbrev pub AreOtherSpans : ℕ → Spans → List LinkedBucket → Type 0
 AreOtherSpans one spans buckets =
     spans.are_learned ≡ true → AreSpansWhere (AreOtherSpansOf one) spans buckets
 
+-- a span is one of a block of some size, where something is known of it
+pub record IsSomeSpan (span : Span) (buckets : List LinkedBucket) : Type 0 where
+  pub numbered : ℕ → ℕ
+  pub block : ℕ
+  pub known : IsKnownSpan numbered block span buckets
+
 -- a span begins with the record of this number, has less room than this width, and no more records
 -- than are left
 pub record IsPassedSpan (number width left : ℕ) (span : Span) : Type 0 where

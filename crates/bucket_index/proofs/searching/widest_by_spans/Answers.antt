@@ -1,53 +1,22 @@
-use Rattle.std.proofs.Common.{◌≡◌, ℕ, ◌+◌, ◌-◌, Option, None, Some, List, length, max, refl, ap, sym, subst, ◌∙◌, arith}
-use Rattle.std.proofs.lemmas.Option.{slice_get_past, slice_get_read}
-use Rattle.std.specs.Prelude.{slice_get}
+use Rattle.std.proofs.Common.{◌≤◌, ℕ, Option, None, Some, List, arith}
+use Rattle.std.specs.Prelude.{IfSome, unwrap_or}
+use Rattle.bucketed_model.specs.State.{most_buckets}
 use Rattle.bucketed_records.specs.declared.records.LinkedBucket.{LinkedBucket}
+use Rattle.bucket_index.specs.declared.spans.Spans.{Spans}
 use Rattle.bucket_index.specs.Private.Searching.{widest_from}
-use Rattle.bucket_index.specs.declared.spans.Ahead.{Ahead}
-use Rattle.bucket_index.specs.Private.Spans.{IsPassed}
-use Rattle.bucket_index.proofs.KnownSpans.{widest-ahead}
-use Rattle.bucket_index.proofs.WidestRooms.{widest-at, widest-none}
+use Rattle.bucket_index.specs.Private.Spans.{AreSpans}
 use Rattle.bucket_index.proofs.searching.widest_by_spans.Goals as goal
 
--- the widest so far and that from where the search goes on make the widest of all
-passed : (most width left : ℕ) (bs : List LinkedBucket) (at first : Option ℕ) (ahead : Ahead) → width ≡ most → IsPassed (width + 1) bs at left ahead → max most (widest_from left bs at) ≡ widest_from 4095 bs first
-    → max most (widest_from ahead.left bs ahead.at) ≡ widest_from 4095 bs first
-passed most width left bs at first ahead same is rest = sym (widest-ahead most left bs at ahead (subst (λ (w : ℕ). IsPassed (w + 1) bs at left ahead) same is)) ∙ rest
+-- the widest is bounded by what spans tell, or else by another bound
+bounded : (known at : Option ℕ) (bound : ℕ) (spans : Spans) (bs : List LinkedBucket) → AreSpans spans bs
+    → IfSome known (λ most. (buckets : List LinkedBucket) → AreSpans spans buckets → widest_from most_buckets buckets at ≤ most) → widest_from most_buckets bs at ≤ bound → widest_from most_buckets bs at ≤ unwrap_or known bound
+bounded None at bound spans bs are tells other = other
+bounded (Some most) at bound spans bs are tells other = tells bs are
 
-pub returns-then-ahead-eq0 : goal.returns-then-ahead-eq0
-returns-then-ahead-eq0 c =
-    let none : c.ahead-ahead.result.left ≡ 0 = omega (arith, c.if-ahead-eq0.true) in
-    omega (arith, (passed c.loop-step.widest c.from.result c.loop-step.left c.args.buckets.now c.loop-step.at c.args.first c.ahead-ahead.result c.from.ensures (c.ahead-ahead.ensures c.args.buckets.now c.requires.spans) c.loop-step.invariant.rest), ap (λ (n : ℕ). widest_from n c.args.buckets.now c.ahead-ahead.result.at) none)
-
-pub returns-in_default : goal.returns-in_default
-returns-in_default c =
-    omega (arith, (passed c.loop-step.widest c.from.result c.loop-step.left c.args.buckets.now c.loop-step.at c.args.first c.ahead-ahead.result c.from.ensures (c.ahead-ahead.ensures c.args.buckets.now c.requires.spans) c.loop-step.invariant.rest), widest-none c.args.buckets.now c.ahead-ahead.result.left c.ahead-ahead.result.at (sym c.number.ensures.value ∙ c.in_default.is))
-
-pub returns-then-number-buckets : goal.returns-then-number-buckets
-returns-then-number-buckets c =
-    let left = c.ahead-ahead.result.left in
-    omega (
-      arith,
-      (passed c.loop-step.widest c.from.result c.loop-step.left c.args.buckets.now c.loop-step.at c.args.first c.ahead-ahead.result c.from.ensures (c.ahead-ahead.ensures c.args.buckets.now c.requires.spans) c.loop-step.invariant.rest),
-      widest-at c.args.buckets.now left (left - 1) c.in-Some.number c.ahead-ahead.result.at None
-          (sym c.number.ensures.value ∙ c.in-Some.is) (omega (arith, c.if-ahead-eq0.false)) (slice_get_past c.args.buckets.now c.in-Some.number (omega arith)),
-    )
-
-pub loop-step-preserved : goal.loop-step-preserved
-loop-step-preserved c =
+pub widest_above-widest-requires-2-clause-most : goal.widest_above-widest-requires-2-clause-most
+widest_above-widest-requires-2-clause-most c =
+    let least = c.saturating_sub-least.result in
     let buckets = c.args.buckets.now in
-    let number = c.in-Some.number in
-    let bucket = c.index-buckets-number.result in
-    let left = c.ahead-ahead.result.left in
-    let here : slice_get buckets number ≡ Some bucket = slice_get_read buckets (length buckets) number bucket refl (omega arith) c.index-buckets-number.is in
-    let own = widest-at buckets left (left - 1) number c.ahead-ahead.result.at (Some bucket) (sym c.number.ensures.value ∙ c.in-Some.is) (omega (arith, c.if-ahead-eq0.false)) here in
-    let is = c.ahead-ahead.ensures buckets c.requires.spans in
-    record {
-      rest = omega (arith, (passed c.loop-step.widest c.from.result c.loop-step.left c.args.buckets.now c.loop-step.at c.args.first c.ahead-ahead.result c.from.ensures (c.ahead-ahead.ensures c.args.buckets.now c.requires.spans) c.loop-step.invariant.rest), own, c.max-widest.ensures, c.record_room.ensures);
-      few = omega (arith, c.loop-step.invariant.few, is.passed, c.if-ahead-eq0.false);
-    }
-
-pub returns-after-loop-step : goal.returns-after-loop-step
-returns-after-loop-step c =
-    let none : c.loop-step.left ≡ 0 = omega (arith, c.loop-step.invariant.few) in
-    omega (arith, c.loop-step.invariant.rest, ap (λ (n : ℕ). widest_from n c.args.buckets.now c.loop-step.at) none)
+    let below : widest_from most_buckets buckets c.args.first ≤ least = omega (arith, c.widest_above-widest.ensures, c.if-least-widest.false) in
+    let told = bounded c.widest_bound.result c.args.first least c.args.spans.now buckets c.requires.spans c.widest_bound.ensures below in
+    omega (arith, below, told, c.unwrap_or.ensures, c.min-bound.ensures)
