@@ -34,15 +34,15 @@ def full_shelf(position):
     return filling, goes_and_comes([position] * ROUNDS, len(filling) - 1, "a 16 1")
 
 
-def eight_go(filling, asked):
-    """Eight items go, any of those there are, and as many come, again and again."""
+def some_go(filling, some, asked):
+    """So many items go, any of those there are, and as many come, again and again."""
     chooser = random.Random(11)
     count = len(filling) - 1
     live, lines = list(range(count)), []
-    for _ in range(ROUNDS // 8):
-        for _ in range(8):
+    for _ in range(ROUNDS // some):
+        for _ in range(some):
             lines.append(f"r {live.pop(chooser.randrange(len(live)))}")
-        for _ in range(8):
+        for _ in range(some):
             live.append(count + len(lines))
             lines.append(asked(chooser))
     return filling, lines
@@ -50,7 +50,7 @@ def eight_go(filling, asked):
 
 def whole_buckets_go(_program):
     """Of a full shelf of 4095 buckets eight go, and then eight come."""
-    return eight_go(long_shelf() + ["a 15 1"] + ["a 16 1"] * (BUCKETS - 1), lambda _: "a 16 1")
+    return some_go(long_shelf() + ["a 15 1"] + ["a 16 1"] * (BUCKETS - 1), 8, lambda _: "a 16 1")
 
 
 def of_two_widths(chooser):
@@ -60,7 +60,13 @@ def of_two_widths(chooser):
 def two_widths_go(_program):
     """The same with 3000 items of two widths, of which the narrower leaves room for none in its bucket."""
     chooser = random.Random(12)
-    return eight_go(long_shelf() + [of_two_widths(chooser) for _ in range(3000)], of_two_widths)
+    return some_go(long_shelf() + [of_two_widths(chooser) for _ in range(3000)], 8, of_two_widths)
+
+
+def two_go(buckets):
+    """Of a full shelf of so many buckets two go, and then two come."""
+    filling = [f"bucketed {64 * buckets} 4 1 1 1 h", "a 4 4", "a 60 4"] + ["a 64 4"] * (buckets - 1)
+    return some_go(filling, 2, lambda _: "a 64 4")
 
 
 def little_left(buckets):
@@ -155,9 +161,11 @@ ROWS = {
     "the same, added with its only item and dropped with it": Row(whole_shelf),
     # What the crate takes here was counted with plain geometry types in place of its own.
     "a shelf of 512, the same": Row(shelf_alone, 9679, before=10321),
-    # Counted likewise, as the next one.
+    # Counted likewise, as the next ones.
     "a shelf of 16 buckets with a little left: any goes and comes": Row(lambda _: little_left(16), 218, before=390),
     "a shelf of 64, the same": Row(lambda _: little_left(64), 381, before=927),
+    "a full shelf of 64 buckets: any two go and two come": Row(lambda _: two_go(64), 369),
+    "the same with 256": Row(lambda _: two_go(256), 999),
     "4095 full shelves: the first goes and comes": Row(first_goes, 158, before=26829),
     "the same, any": Row(any_goes, 49080, before=26829, most=MOST),
     "the same, a refused size": Row(refused, 311351, before=82013, most=MOST),
