@@ -164,8 +164,8 @@ ROWS = {
     # Counted likewise, as the next ones.
     "a shelf of 16 buckets with a little left: any goes and comes": Row(lambda _: little_left(16), 218, before=390),
     "a shelf of 64, the same": Row(lambda _: little_left(64), 381, before=927),
-    "a full shelf of 64 buckets: any two go and two come": Row(lambda _: two_go(64), 369),
-    "the same with 256": Row(lambda _: two_go(256), 999),
+    "a full shelf of 64 buckets: any two go and two come": Row(lambda _: two_go(64), 369, before=729),
+    "the same with 256": Row(lambda _: two_go(256), 999, before=2351),
     "4095 full shelves: the first goes and comes": Row(first_goes, 158, before=26829),
     "the same, any": Row(any_goes, 49080, before=26829, most=MOST),
     "the same, a refused size": Row(refused, 311351, before=82013, most=MOST),

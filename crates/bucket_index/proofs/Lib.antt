@@ -1,4 +1,5 @@
 pub mod CountedRooms
+pub mod FewBuckets
 pub mod FoundShelves
 pub mod KnownBlocks
 pub mod KnownSpans
@@ -9,6 +10,7 @@ pub mod OtherShelves
 pub mod PassedShelves
 pub mod RestOfRows
 pub mod Searched
+pub mod StandingBuckets
 pub mod SteppedShelves
 pub mod TallestShelves
 pub mod WidestRooms

@@ -1,16 +1,19 @@
 -- What the rest of a row of buckets can give: how the widest room follows that of each bucket.
-use Rattle.std.proofs.Common.{◌≡◌, ℕ, zero, suc, ◌≤◌, ◌<◌, Bool, true, false, cond, Option, None, Some, List, max, refl, ap, sym, ◌∙◌, arith, ◌==◌}
+use Rattle.std.proofs.Common.{◌≡◌, ℕ, zero, suc, ◌≤◌, ◌<◌, Bool, true, false, cond, Option, None, Some, List, [], ◌∷◌, max, refl, ap, sym, ◌∙◌, arith, ◌==◌}
 use Rattle.std.proofs.lemmas.Bool.{eqb-true}
 use Rattle.std.specs.Option.{option_map_or}
-use Rattle.std.specs.Prelude.{nat_lt, option_map, slice_get}
+use Rattle.std.specs.Prelude.{nat_lt, option_map, slice_get, ⊤}
 use Rattle.etagere_links.specs.Edits.{changed_by}
 use Rattle.etagere_links.proofs.RecordChanges.{get-changed_by, get-changed_by-other}
 use Rattle.bucketed_model.specs.State.{most_buckets}
 use Rattle.bucketed_records.specs.declared.records.LinkedBucket.{LinkedBucket}
 use Rattle.bucketed_records.specs.Private.Store.{record_room}
 use Rattle.bucket_index.specs.declared.rest.Rest.{Rest}
-use Rattle.bucket_index.specs.Private.Rest.{IsRest, full_record}
+use Rattle.bucket_index.specs.Private.Rest.{IsAtMost, IsBounded, IsRest, IsRowIfAny, emptied, few_of, full_record, links_of, room_behind, widest_of_rest}
 use Rattle.bucket_index.specs.Private.Searching.{widest_from}
+use Rattle.bucket_index.specs.Private.Spans.{room_at}
+use Rattle.bucket_index.proofs.KnownSpans.{room-at}
+use Rattle.bucket_index.proofs.StandingBuckets.{row-changed}
 
 -- a record has no more room than another, and leads where that does
 pub record IsLess (one other : LinkedBucket) : Type 0 where
@@ -116,6 +119,32 @@ widest-lowered f links lowers (suc steps) n bs b (Some k) here = by_number (λ n
         rw (old, new) (record { less = omega (arith, (later b.next).less, lowers b, lead); rest = omega (arith, (later b.next).rest, lowers b, lead) })
     by_number later false e = rw (elsewhere n k f bs e) (other (slice_get bs k) later)
 
+-- what is read of a changed record
+own-at : (n k : ℕ) (f : LinkedBucket → LinkedBucket) (bs : List LinkedBucket) → (k == n) ≡ true → slice_get (changed_by (Some n) f bs) k ≡ option_map f (slice_get bs k)
+own-at n k f bs e =
+    let here : k ≡ n = eqb-true k n e in
+    ap (slice_get (changed_by (Some n) f bs)) here ∙ own n f bs ∙ ap (λ (i : ℕ). option_map f (slice_get bs i)) (sym here)
+
+-- a full record has no more room than another one that had as much
+full-below : (x y : Option LinkedBucket) → IsLessAt x y → IsLessAt (option_map full_record x) y
+full-below None y less = less
+full-below (Some x) None less = absurd less
+full-below (Some x) (Some y) less = record { room = omega (arith, full-room x); next = less.next }
+
+-- emptied records have no more room than they had
+emptied-less : (links : List (Option ℕ)) (bs : List LinkedBucket) (k : ℕ) → IsLessAt (slice_get (emptied links bs) k) (slice_get bs k)
+emptied-less [] bs k = same-at (slice_get bs k)
+emptied-less (None ∷ links) bs k = emptied-less links bs k
+emptied-less (Some n ∷ links) bs k = by_number (emptied-less links bs k) (k == n) refl
+  where
+    by_number : IsLessAt (slice_get (emptied links bs) k) (slice_get bs k) → (t : Bool) → (k == n) ≡ t → IsLessAt (slice_get (changed_by (Some n) full_record (emptied links bs)) k) (slice_get bs k)
+    by_number less true e = rw (own-at n k full_record (emptied links bs) e) (full-below (slice_get (emptied links bs) k) (slice_get bs k) less)
+    by_number less false e = rw (elsewhere n k full_record (emptied links bs) e) less
+
+-- a row can give no more where some of its buckets are emptied
+emptied-widest : (links : List (Option ℕ)) (first : Option ℕ) (bs : List LinkedBucket) → widest_from most_buckets (emptied links bs) first ≤ widest_from most_buckets bs first
+emptied-widest links first bs = widest-less most_buckets (emptied links bs) bs first (emptied-less links bs)
+
 -- a row can give no more than its rest or the bucket beside that
 pub rest-beside : (n : ℕ) (first : Option ℕ) (bs : List LinkedBucket) (b : LinkedBucket) → slice_get bs n ≡ Some b
     → widest_from most_buckets bs first ≤ max (widest_from most_buckets (changed_by (Some n) full_record bs) first) (record_room b)
@@ -126,15 +155,29 @@ pub record IsWidestBy (rest : Rest) (room widest : ℕ) : Type 0 where
   pub own : rest.most ≤ room → room ≡ widest
   pub others : rest.room < rest.most → room < rest.most → rest.most ≡ widest
 
--- what is known beside a bucket by the widest of all
-pub rest-learned : (rest : Rest) (bs : List LinkedBucket) (b : LinkedBucket) → slice_get bs rest.bucket ≡ Some b → widest_from most_buckets bs rest.first ≡ rest.most
-    → rest.room ≡ record_room b → IsRest rest bs
-rest-learned rest bs b here widest room =
+-- what the rest beside a bucket can give, by the widest of all
+pub record IsBeside (rest : Rest) (bs : List LinkedBucket) : Type 0 where
+  pub most : IsAtMost rest bs
+  pub exact : rest.room < rest.most → widest_of_rest rest bs ≡ rest.most
+
+-- it is that, where the bucket has the room that was left out
+pub beside-learned : (rest : Rest) (bs : List LinkedBucket) (b : LinkedBucket) → slice_get bs rest.bucket ≡ Some b → widest_from most_buckets bs rest.first ≡ rest.most → rest.room ≡ record_room b → IsBeside rest bs
+beside-learned rest bs b here widest room =
     let less = rest-less rest.bucket rest.first bs in
     let beside = rest-beside rest.bucket rest.first bs b here in
     record {
       most = omega (arith, less, widest);
       exact = λ more. omega (arith, less, widest, beside, room, more);
+    }
+
+-- what is known of a row by the widest of all
+pub rest-learned : (rest : Rest) (bs : List LinkedBucket) → widest_from most_buckets bs rest.first ≡ rest.most → rest.most ≤ rest.bound → IsBeside rest bs → IsRowIfAny rest bs → IsRest rest bs
+rest-learned rest bs widest bound beside row =
+    record {
+      most = beside.most;
+      exact = beside.exact;
+      bound = omega (arith, emptied-widest (few_of rest) rest.first bs, widest, bound);
+      row = row;
     }
 
 -- records that lead to the same
@@ -203,6 +246,110 @@ rest-lowered m n f first bs links lowers =
         by_number true e = rw (eqb-true k m e, own m f bs) (one (slice_get bs m))
         by_number false e = rw (elsewhere m k f bs e) (same-at (slice_get bs k))
 
+-- records that have no more room have no more where the same ones are emptied
+emptied-at : (links : List (Option ℕ)) (bs cs : List LinkedBucket) (k : ℕ) → IsLessAt (slice_get bs k) (slice_get cs k) → IsLessAt (slice_get (emptied links bs) k) (slice_get (emptied links cs) k)
+emptied-at [] bs cs k less = less
+emptied-at (None ∷ links) bs cs k less = emptied-at links bs cs k less
+emptied-at (Some n ∷ links) bs cs k less = by_number (emptied-at links bs cs k less) (k == n) refl
+  where
+    xs : List LinkedBucket
+    xs = emptied links bs
+
+    ys : List LinkedBucket
+    ys = emptied links cs
+
+    by_number : IsLessAt (slice_get xs k) (slice_get ys k) → (t : Bool) → (k == n) ≡ t → IsLessAt (slice_get (changed_by (Some n) full_record xs) k) (slice_get (changed_by (Some n) full_record ys) k)
+    by_number later true e = rw (own-at n k full_record xs e, own-at n k full_record ys e) (left-out (slice_get xs k) (slice_get ys k) (linked (slice_get xs k) (slice_get ys k) later))
+    by_number later false e = rw (elsewhere n k full_record xs e, elsewhere n k full_record ys e) later
+
+-- full records lead on alike
+alike-full : (x y : Option LinkedBucket) → Alike x y → Alike (option_map full_record x) (option_map full_record y)
+alike-full None y same = rw same refl
+alike-full (Some x) None never = absurd never
+alike-full (Some x) (Some y) same = same
+
+-- records lead on alike where the same ones are emptied
+alike-emptied : (links : List (Option ℕ)) (bs cs : List LinkedBucket) (k : ℕ) → Alike (slice_get bs k) (slice_get cs k) → Alike (slice_get (emptied links bs) k) (slice_get (emptied links cs) k)
+alike-emptied [] bs cs k same = same
+alike-emptied (None ∷ links) bs cs k same = alike-emptied links bs cs k same
+alike-emptied (Some n ∷ links) bs cs k same = by_number (alike-emptied links bs cs k same) (k == n) refl
+  where
+    xs : List LinkedBucket
+    xs = emptied links bs
+
+    ys : List LinkedBucket
+    ys = emptied links cs
+
+    by_number : Alike (slice_get xs k) (slice_get ys k) → (t : Bool) → (k == n) ≡ t → Alike (slice_get (changed_by (Some n) full_record xs) k) (slice_get (changed_by (Some n) full_record ys) k)
+    by_number later true e = rw (own-at n k full_record xs e, own-at n k full_record ys e) (alike-full (slice_get xs k) (slice_get ys k) later)
+    by_number later false e = rw (elsewhere n k full_record xs e, elsewhere n k full_record ys e) later
+
+-- a row can give no more than it can beside a bucket or that
+beside-any : (n : ℕ) (first : Option ℕ) (bs : List LinkedBucket) → widest_from most_buckets bs first ≤ max (widest_from most_buckets (changed_by (Some n) full_record bs) first) (room_at bs n)
+beside-any n first bs = by_found (slice_get bs n) refl
+  where
+    by_found : (o : Option LinkedBucket) → slice_get bs n ≡ o → widest_from most_buckets bs first ≤ max (widest_from most_buckets (changed_by (Some n) full_record bs) first) (room_at bs n)
+    by_found None e = omega (arith, widest-less most_buckets bs (changed_by (Some n) full_record bs) first (λ k. by_number k (k == n) refl))
+      where
+        by_number : (k : ℕ) (t : Bool) → (k == n) ≡ t → IsLessAt (slice_get bs k) (slice_get (changed_by (Some n) full_record bs) k)
+        by_number k true h =
+            let none : slice_get bs k ≡ None = ap (slice_get bs) (eqb-true k n h) ∙ e in
+            rw (own-at n k full_record bs h, none) refl
+        by_number k false h = rw (elsewhere n k full_record bs h) (same-at (slice_get bs k))
+    by_found (Some b) e = omega (arith, rest-beside n first bs b e, room-at bs n b e)
+
+-- a record that isn't there has no room
+pub no-room : (bs : List LinkedBucket) (n : ℕ) → slice_get bs n ≡ None → room_at bs n ≡ 0
+no-room bs n e = ap (λ (o : Option LinkedBucket). option_map_or record_room o 0) e
+
+-- each bucket that a link names has at most this room
+abbrev pub HaveAtMost : ℕ → List LinkedBucket → List (Option ℕ) → Type 0
+HaveAtMost room bs [] = ⊤
+HaveAtMost room bs (link ∷ links) = (room_behind bs link ≤ room) × HaveAtMost room bs links
+
+-- the room of what may be there
+room-of-less : (x y : Option LinkedBucket) → IsLessAt x y → option_map_or record_room x 0 ≤ option_map_or record_room y 0
+room-of-less None y less = omega arith
+room-of-less (Some x) None less = absurd less
+room-of-less (Some x) (Some y) less = less.room
+
+-- a row can give no more than where buckets are emptied that have at most this room, or that
+pub emptied-beside : (links : List (Option ℕ)) (first : Option ℕ) (room : ℕ) (bs : List LinkedBucket) → HaveAtMost room bs links
+    → widest_from most_buckets bs first ≤ max (widest_from most_buckets (emptied links bs) first) room
+emptied-beside [] first room bs have = omega arith
+emptied-beside (None ∷ links) first room bs have = emptied-beside links first room bs have.1
+emptied-beside (Some n ∷ links) first room bs have =
+    let xs = emptied links bs in
+    omega (arith, emptied-beside links first room bs have.1, beside-any n first xs, room-of-less (slice_get xs n) (slice_get bs n) (emptied-less links bs n), have.0)
+
+-- what bounds a row bounds it where no bucket has more room
+bounded-less : (rest : Rest) (bs cs : List LinkedBucket) → ((k : ℕ) → IsLessAt (slice_get cs k) (slice_get bs k)) → IsBounded rest bs → IsBounded rest cs
+bounded-less rest bs cs less known =
+    let links = Some rest.bucket ∷ links_of rest.former in
+    omega (arith, widest-less most_buckets (emptied links cs) (emptied links bs) rest.first (λ k. emptied-at links cs bs k (less k)), known)
+
+-- a bucket that has no more room has no more than it had
+lowered-at : (m : ℕ) (f : LinkedBucket → LinkedBucket) (bs : List LinkedBucket) → ((x : LinkedBucket) → (f x).next ≡ x.next) → ((x : LinkedBucket) → record_room (f x) ≤ record_room x) → (k : ℕ)
+    → IsLessAt (slice_get (changed_by (Some m) f bs) k) (slice_get bs k)
+lowered-at m f bs links lowers k = by_number (k == m) refl
+  where
+    one : (o : Option LinkedBucket) → IsLessAt (option_map f o) o
+    one None = refl
+    one (Some x) = record { room = lowers x; next = links x }
+
+    by_number : (t : Bool) → (k == m) ≡ t → IsLessAt (slice_get (changed_by (Some m) f bs) k) (slice_get bs k)
+    by_number true e = rw (own-at m k f bs e) (one (slice_get bs k))
+    by_number false e = rw (elsewhere m k f bs e) (same-at (slice_get bs k))
+
+-- what bounds a row bounds it where a bucket has no more room, and keeps its link
+pub bounded-lowered : (m : ℕ) (f : LinkedBucket → LinkedBucket) (rest : Rest) (bs : List LinkedBucket) → ((x : LinkedBucket) → (f x).next ≡ x.next) → ((x : LinkedBucket) → record_room (f x) ≤ record_room x) → IsBounded rest bs
+    → IsBounded rest (changed_by (Some m) f bs)
+bounded-lowered m f rest bs links lowers known = bounded-less rest bs (changed_by (Some m) f bs) (lowered-at m f bs links lowers) known
+
+-- what bounds a row bounds it where another bucket is beside the rest
+pub bounded-behind : (n : ℕ) (rest : Rest) (bs : List LinkedBucket) → IsBounded rest bs → widest_from most_buckets (emptied (Some n ∷ few_of rest) bs) rest.first ≤ rest.bound
+bounded-behind n rest bs known = omega (arith, rest-less n rest.first (emptied (few_of rest) bs), known)
+
 -- what a row can give by what is known of its rest: the bucket beside that where it can give at least as much
 pub widest-known : (n : ℕ) (rest : Rest) (bs : List LinkedBucket) (b : LinkedBucket) (first : Option ℕ) → slice_get bs n ≡ Some b → n ≡ rest.bucket → first ≡ rest.first → record_room b ≤ widest_from most_buckets bs first
     → IsRest rest bs → IsWidestBy rest (record_room b) (widest_from most_buckets bs first)
@@ -216,24 +363,38 @@ widest-known n rest bs b first here same leads one known =
     }
 
 -- what is known stays known where the bucket beside the rest changed, which keeps its link
-pub known-beside : (f : LinkedBucket → LinkedBucket) (rest : Rest) (bs : List LinkedBucket) → ((x : LinkedBucket) → (f x).next ≡ x.next) → IsRest rest bs → IsRest rest (changed_by (Some rest.bucket) f bs)
-known-beside f rest bs links known =
+pub known-beside : (f : LinkedBucket → LinkedBucket) (rest : Rest) (bs : List LinkedBucket) → ((x : LinkedBucket) → (f x).next ≡ x.next) → ((x : LinkedBucket) → (f x).x ≡ x.x) → IsRest rest bs
+    → IsRest rest (changed_by (Some rest.bucket) f bs)
+known-beside f rest bs links places known =
     let same = rest-same rest.bucket f rest.first bs links in
     record {
       most = omega (arith, same, known.most);
       exact = λ is. omega (arith, same, known.exact is);
+      bound = omega (arith, beside-less rest.bucket rest.first (emptied former after) (emptied former bs) alike (λ k e. emptied-at former after bs k (rw (elsewhere rest.bucket k f bs e) (same-at (slice_get bs k)))), known.bound);
+      row = row-changed rest.bucket f rest bs links places known.row;
     }
+  where
+    former : List (Option ℕ)
+    former = links_of rest.former
+
+    after : List LinkedBucket
+    after = changed_by (Some rest.bucket) f bs
+
+    alike : Alike (slice_get (emptied former after) rest.bucket) (slice_get (emptied former bs) rest.bucket)
+    alike = alike-emptied former after bs rest.bucket (rw (own rest.bucket f bs) (alike-changed f links (slice_get bs rest.bucket)))
 
 -- what is known stays known where a bucket changed that keeps its room and its link
-pub rest-kept : (m : ℕ) (f : LinkedBucket → LinkedBucket) (rest : Rest) (bs : List LinkedBucket) → ((x : LinkedBucket) → (f x).next ≡ x.next) → ((x : LinkedBucket) → record_room (f x) ≡ record_room x) → IsRest rest bs
+pub rest-kept : (m : ℕ) (f : LinkedBucket → LinkedBucket) (rest : Rest) (bs : List LinkedBucket) → ((x : LinkedBucket) → (f x).next ≡ x.next) → ((x : LinkedBucket) → (f x).x ≡ x.x) → ((x : LinkedBucket) → record_room (f x) ≡ record_room x) → IsRest rest bs
     → IsRest rest (changed_by (Some m) f bs)
-rest-kept m f rest bs links rooms known =
+rest-kept m f rest bs links places rooms known =
     let n = rest.bucket in
     let less = rest-lowered m n f rest.first bs links (λ x. omega (arith, rooms x)) in
     let more = beside-less n rest.first bs (changed_by (Some m) f bs) (linked (slice_get bs n) (slice_get (changed_by (Some m) f bs) n) (kept n)) (λ k e. kept k) in
     record {
       most = omega (arith, less, known.most);
       exact = λ is. omega (arith, less, more, known.exact is);
+      bound = bounded-lowered m f rest bs links (λ x. omega (arith, rooms x)) known.bound;
+      row = row-changed m f rest bs links places known.row;
     }
   where
     one : (o : Option LinkedBucket) → IsLessAt o (option_map f o)

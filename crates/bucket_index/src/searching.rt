@@ -11,6 +11,7 @@ ghost use Rattle.bucketed_model.specs.State.{most_buckets};
 ghost use Rattle.bucket_index.specs.Private.Blocks.{AreKnown, IsStep};
 ghost use Rattle.bucket_index.specs.Private.Heights.{AreBelow};
 ghost use Rattle.bucket_index.specs.Private.Missed.{IsMissed};
+ghost use Rattle.bucket_index.specs.Private.Rest.{IsRest};
 ghost use Rattle.bucket_index.specs.Private.Rooms.{AreCounted};
 ghost use Rattle.bucket_index.specs.Private.Searching as spec;
 ghost use Rattle.bucket_index.specs.Private.Spans.{AreSpans};
@@ -18,6 +19,7 @@ ghost use Rattle.bucket_index.specs.Private.Spans.{AreSpans};
 use crate::blocks::Blocks;
 use crate::heights::Heights;
 use crate::missed::Missed;
+use crate::rest::Rest;
 use crate::rooms::Rooms;
 use crate::spans::Spans;
 use bucketed_records::records::{KeptShelf, LinkedBucket, MOST_BUCKETS, MOST_GIVEN, record_room};
@@ -101,6 +103,28 @@ pub fn first_wanted(
         return first_by_spans(wanted, buckets, spans, first);
     }
     first_by_links(wanted, buckets, first)
+}
+
+/// The number of the first bucket with room for this width, by the links from this one on. None is looked for where it is
+/// known which can have it.
+#[inline(always)]
+fn first_roomy(
+    width: u32,
+    buckets: &[LinkedBucket],
+    spans: &Spans,
+    rest: &Rest,
+    first: Link,
+) -> Option<usize>
+    requires spans { AreSpans spans.now buckets.now }
+    requires rest { IsRest rest.now buckets.now }
+    ensures number { result
+        ≡ spec.first_from most_buckets (spec.Roomy width) buckets.now first }
+    ensures within { IfSome result (λ number. number < length buckets.now) }
+{
+    match rest.first_roomy(buckets, first, width) {
+        Some(number) => Some(number),
+        None => first_wanted(Wanted::Roomy(width), buckets, spans, first),
+    }
 }
 
 /// The number behind those of the records that links can name. The bits of a link to one of these are below it, and those
@@ -266,9 +290,26 @@ const FEW_BUCKETS: u32 = 4;
 pub fn has_room(room: u16, buckets: &[LinkedBucket], first: Link) -> bool
     ensures { IsTrue result → room ≤ spec.widest_from most_buckets buckets.now first }
 {
+    has_room_within(FEW_BUCKETS, room, buckets, first)
+}
+
+/// Whether any of the buckets can, by the links from this one on.
+#[inline(never)]
+pub fn has_room_further(room: u16, buckets: &[LinkedBucket], first: Link) -> bool
+    ensures { IsTrue result → room ≤ spec.widest_from most_buckets buckets.now first }
+{
+    has_room_within(MOST_BUCKETS, room, buckets, first)
+}
+
+/// Whether one of so many buckets can, by the links from this one on.
+#[inline(always)]
+fn has_room_within(most: u32, room: u16, buckets: &[LinkedBucket], first: Link) -> bool
+    requires { most ≤ most_buckets }
+    ensures { IsTrue result → room ≤ spec.widest_from most_buckets buckets.now first }
+{
     let end = end_of_linked(buckets);
     let mut at = first;
-    for _step in 0..FEW_BUCKETS {
+    for _step in 0..most {
         let number = usize::from(at.bits());
         if number >= end {
             return false;
@@ -615,6 +656,7 @@ pub fn pick(
     buckets: &[LinkedBucket],
     blocks: &Blocks,
     spans: &Spans,
+    rest: &Rest,
     rooms: &Rooms,
     heights: &Heights,
     missed: &mut Missed,
@@ -622,6 +664,7 @@ pub fn pick(
     requires across { 0 < sides.now.across }
     requires known { AreKnown blocks.now shelves.now }
     requires spans { AreSpans spans.now buckets.now }
+    requires rest { IsRest rest.now buckets.now }
     requires rooms { AreCounted rooms.now buckets.now }
     requires below { AreBelow heights.now shelves.now }
     requires missed { IsMissed missed.old shelves.now }
@@ -629,9 +672,8 @@ pub fn pick(
     ensures missed { IsMissed missed.new shelves.now }
 {
     let least = least_waste(adds, sides, shelves, blocks, heights, missed)?;
-    let wanted = Wanted::Roomy(sides.along);
     let first = shelves[least.number].shelf.first_bucket;
-    let bucket = first_wanted(wanted, buckets, spans, first)?;
+    let bucket = first_roomy(sides.along, buckets, spans, rest, first)?;
     Some(exact_or_found(
         sides, shelves, buckets, blocks, spans, rooms, heights, least, bucket,
     ))

@@ -9,6 +9,7 @@ ghost use Rattle.bucketed_model.specs.Frames.{IsBucketedFrame};
 ghost use Rattle.bucket_index.specs.Private.Blocks.{AreKnown};
 ghost use Rattle.bucket_index.specs.Private.Heights.{AreBelow};
 ghost use Rattle.bucket_index.specs.Private.Missed.{IsMissed};
+ghost use Rattle.bucket_index.specs.Private.Rest.{IsRest};
 ghost use Rattle.bucket_index.specs.Private.Rooms.{AreCounted};
 ghost use Rattle.bucket_index.specs.Private.Spans.{AreSpans};
 ghost use Rattle.bucketed_store.specs.Private.Placing as spec;
@@ -19,6 +20,7 @@ use crate::store::Store;
 use bucket_index::blocks::Blocks;
 use bucket_index::heights::Heights;
 use bucket_index::missed::Missed;
+use bucket_index::rest::Rest;
 use bucket_index::rooms::Rooms;
 use bucket_index::searching::{FoundBucket, pick};
 use bucket_index::spans::Spans;
@@ -83,6 +85,7 @@ pub fn placement_of(
         &store.buckets,
         &store.blocks,
         &store.spans,
+        &store.rest,
         &store.rooms,
         &store.heights,
         &mut store.missed,
@@ -107,6 +110,7 @@ pub(crate) fn has_placement(frame: &Frame, left: &Remaining, sides: &Sides, stor
         &store.buckets,
         &store.blocks,
         &store.spans,
+        &store.rest,
         &store.rooms,
         &store.heights,
         &mut missed,
@@ -123,6 +127,7 @@ fn placement_in(
     buckets: &[LinkedBucket],
     blocks: &Blocks,
     spans: &Spans,
+    rest: &Rest,
     rooms: &Rooms,
     heights: &Heights,
     missed: &mut Missed,
@@ -132,6 +137,7 @@ fn placement_in(
     requires column { left.now.column < 2 ^ 31 }
     requires known { AreKnown blocks.now shelves.now }
     requires spans { AreSpans spans.now buckets.now }
+    requires rest { IsRest rest.now buckets.now }
     requires rooms { AreCounted rooms.now buckets.now }
     requires below { AreBelow heights.now shelves.now }
     requires missed { IsMissed missed.old shelves.now }
@@ -141,7 +147,7 @@ fn placement_in(
 {
     let adds = can_add(frame, left, sides.across);
     if let Some(found) = pick(
-        adds, sides, shelves, buckets, blocks, spans, rooms, heights, missed,
+        adds, sides, shelves, buckets, blocks, spans, rest, rooms, heights, missed,
     ) {
         return Some(Placement::InBucket(found));
     }

@@ -34,7 +34,7 @@ use bucket_index::heights::Heights;
 use bucket_index::missed::Missed;
 use bucket_index::rest::Rest;
 use bucket_index::rooms::Rooms;
-use bucket_index::searching::{FoundBucket, has_room, widest_room};
+use bucket_index::searching::{FoundBucket, has_room, has_room_further, widest_room};
 use bucket_index::spans::Spans;
 use bucketed_model::adding::{NewShelf, NewShelves, width_of_share};
 use bucketed_records::records::{
@@ -302,6 +302,8 @@ impl Store {
         requires fits { spec.CanTake found.now.bucket width self.old.buckets }
         requires few { spec.live_items_of self.old.shelves found.now.shelf + 1 < 2 ^ 32 }
         requires widest { spec.IsWidest found.now.shelf found.now.bucket width self.old }
+        requires row { spec.IsInRow found.now.shelf found.now.bucket self.old.shelves
+            self.old.buckets }
         ensures records { self.new
             ≡ spec.stored_taken found.now.shelf found.now.bucket width self.old }
         ensures area { result ≡ width * spec.height_of self.old.shelves found.now.shelf }
@@ -339,6 +341,8 @@ impl Store {
         requires few { spec.live_items_of self.old.shelves found.now.shelf + 1 < 2 ^ 32 }
         requires widest { spec.IsWidestKept found.now.shelf found.now.bucket room
             self.old.shelves self.old.buckets }
+        requires row { spec.IsInRow found.now.shelf found.now.bucket self.old.shelves
+            self.old.buckets }
         ensures { self.new
             ≡ record self.old {
               shelves = spec.shelves_given found.now.shelf self.old.shelves self.old.buckets;
@@ -373,6 +377,8 @@ impl Store {
         requires few_shelves { length self.old.shelves ≤ most_buckets }
         requires few_buckets { length self.old.buckets ≤ most_buckets }
         requires widest { spec.KnowsWidest (shelf_of self.old.buckets number) self.old.shelves
+            self.old.buckets }
+        requires row { spec.IsInRow (shelf_of self.old.buckets number) number self.old.shelves
             self.old.buckets }
         ensures records { returns.dropping_from self.new result.dropped
             ≡ returns.end_dropped (length (returns.item_returned number self.old).shelves)
@@ -412,6 +418,8 @@ impl Store {
         requires few_buckets { length self.old.buckets ≤ most_buckets }
         requires widest { spec.KnowsWidest (shelf_of self.old.buckets number) self.old.shelves
             self.old.buckets }
+        requires row { spec.IsInRow (shelf_of self.old.buckets number) number self.old.shelves
+            self.old.buckets }
         ensures records { returns.dropping_from self.new result.dropped
             ≡ returns.end_dropped (length (returns.item_returned number self.old).shelves)
             (returns.dropping_from (returns.item_returned number self.old) 0) }
@@ -449,6 +457,8 @@ impl Store {
         requires few_shelves { length self.old.shelves ≤ most_buckets }
         requires few_buckets { length self.old.buckets ≤ most_buckets }
         requires widest { spec.KnowsWidest (shelf_of self.old.buckets number) self.old.shelves
+            self.old.buckets }
+        requires row { spec.IsInRow (shelf_of self.old.buckets number) number self.old.shelves
             self.old.buckets }
         ensures records { returns.dropping_from self.new result.dropped
             ≡ returns.end_dropped (length (returns.item_returned number self.old).shelves)
@@ -868,11 +878,12 @@ fn is_first(shelves: &[KeptShelf], found: &FoundBucket) -> bool
 }
 
 /// Whether a shelf still has a bucket as wide as its widest was, after the one that was found gave an item, and had this
-/// room before: it had less, or one of the next few has as much.
+/// room before: it had less, or one behind it is soon found that has as much.
 #[inline(always)]
 fn keeps_widest(
     shelves: &[KeptShelf],
     buckets: &[LinkedBucket],
+    spans: &Spans,
     found: &FoundBucket,
     room: u16,
 ) -> bool
@@ -882,7 +893,14 @@ fn keeps_widest(
     ensures { spec.KeepsWidest found.now.shelf result shelves.now buckets.now }
 {
     let widest = widest_of(shelves, found.shelf);
-    room < widest || has_room(widest, buckets, next_of(buckets, found.bucket))
+    let next = next_of(buckets, found.bucket);
+    if room < widest {
+        return true;
+    }
+    if has_room(widest, buckets, next) {
+        return true;
+    }
+    !spans.are_learned && has_room_further(widest, buckets, next)
 }
 
 /// What the buckets of the shelf of one that gave an item can give, where that is known by what the others of it can.
@@ -894,13 +912,22 @@ fn widest_beside(
     found: &FoundBucket,
 ) -> Option<u16>
     requires number { found.now.shelf < length shelves.now }
+    requires most { searching.widest_from most_buckets buckets.now
+        (spec.first_bucket_of shelves.now found.now.shelf)
+        ≤ spec.widest_of shelves.now found.now.shelf }
     requires one { spec.GivesAsMuch found.now.shelf found.now.bucket shelves.now buckets.now }
     requires rest { IsRest rest.now buckets.now }
     ensures { IfSome result (λ widest. widest
         ≡ searching.widest_from most_buckets buckets.now
         (spec.first_bucket_of shelves.now found.now.shelf)) }
 {
-    rest.widest_beside(buckets, first_bucket(shelves, found.shelf), found.bucket)
+    let first = first_bucket(shelves, found.shelf);
+    rest.widest_beside(
+        buckets,
+        first,
+        found.bucket,
+        widest_of(shelves, found.shelf),
+    )
 }
 
 /// Whether the bucket that was found is the only one of its shelf.
@@ -934,6 +961,7 @@ fn widest_after(
         (spec.first_bucket_of shelves.now found.now.shelf)
         ≤ spec.widest_of shelves.now found.now.shelf }
     requires keeps { spec.KeepsWidest found.now.shelf keeps shelves.now buckets.now }
+    requires row { spec.IsInRow found.now.shelf found.now.bucket shelves.now buckets.now }
     requires spans { AreSpans spans.now buckets.now }
     requires rest { IsRest rest.old buckets.now }
     ensures value { result
@@ -968,6 +996,7 @@ fn give_from(
     requires few { spec.live_items_of shelves.old found.now.shelf + 1 < 2 ^ 32 }
     requires widest { spec.IsWidestKept found.now.shelf found.now.bucket room shelves.old
         buckets.now }
+    requires row { spec.IsInRow found.now.shelf found.now.bucket shelves.old buckets.now }
     requires spans { AreSpans spans.old buckets.now }
     requires rest { IsRest rest.old buckets.now }
     ensures shelves { shelves.new ≡ spec.shelves_given found.now.shelf shelves.old buckets.now }
@@ -984,7 +1013,7 @@ fn give_from(
             return;
         }
     }
-    let keeps = keeps_widest(shelves, buckets, found, room);
+    let keeps = keeps_widest(shelves, buckets, spans, found, room);
     learn_row(shelves, buckets, spans, found, keeps, may_be_long);
     let widest = widest_after(shelves, buckets, spans, rest, found, keeps);
     count_given(shelves, found.shelf, widest);

@@ -10,7 +10,7 @@ use Rattle.bucketed_records.specs.declared.records.KeptShelf.{KeptShelf}
 use Rattle.bucketed_records.specs.StandsFor.{free_of}
 use Rattle.bucketed_records.specs.Private.Store.{record_room}
 pub use Rattle.bucket_index.specs.declared.searching.Wanted.{Wanted}
-use Rattle.bucket_index.specs.declared.searching.Wanted.TheVariants.{Roomy, Exact, Wide}
+pub use Rattle.bucket_index.specs.declared.searching.Wanted.TheVariants.{Roomy, Exact, Wide}
 pub use Rattle.bucket_index.specs.declared.searching.FoundBucket.{FoundBucket}
 
 -- a bucket record is what is wanted

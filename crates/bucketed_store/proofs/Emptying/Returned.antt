@@ -3,15 +3,19 @@ use Rattle.std.proofs.Common.{◌≡◌, ℕ, zero, suc, ◌+◌, ◌-◌, ◌*�
 use Rattle.std.proofs.Math.Nat.{zero-mul}
 use Rattle.std.proofs.lemmas.Bool.{and_parts}
 use Rattle.std.proofs.lemmas.List.{length-map}
+use Rattle.std.proofs.lemmas.Nat.{mul-lt}
 use Rattle.std.proofs.lemmas.Option.{slice_get_within}
 use Rattle.std.specs.Option.{option_map_or}
 use Rattle.std.specs.Prelude.{slice_get, nat_le, nat_lt}
+use Rattle.etagere_base.proofs.GrownFrames.{alignment-positive}
 use Rattle.etagere_base.proofs.ReplacedLists.{slice_get-append}
+use Rattle.etagere_base.specs.Frames.{alignment_along}
 use Rattle.etagere_base.specs.Lists.{times}
 use Rattle.etagere_links.proofs.RecordChanges.{length-changed_by}
 use Rattle.bucketed_model.specs.Returning.{bucket_returned, emptied_bucket, is_known, lessened_bucket, returned_bucket, tag_of}
 use Rattle.bucketed_model.specs.Space.{allocated_space}
 use Rattle.bucketed_model.specs.State.{Bucket, BucketShelf, BucketedState, bucket_numbers, buckets_in_use, changed_bucket, changed_in, most_buckets}
+use Rattle.bucketed_model.specs.Valid.{IsBucket}
 use Rattle.bucketed_model.proofs.Spacing.Spaces.{space-returned}
 use Rattle.bucketed_model.proofs.Shelving.Shelves.{few-shelves}
 use Rattle.bucketed_model.proofs.Validity.Changed.{buckets_in_use-changed}
@@ -24,12 +28,12 @@ use Rattle.bucketed_records.specs.Private.Witnessed.{Witnessed}
 use Rattle.bucketed_records.specs.StandsFor.{free_of, live_of, shelf_of}
 use Rattle.bucketed_records.proofs.Spelling.KeptShelves.{kept-append, length-kept}
 use Rattle.bucketed_store.specs.Private.Returns.{Dropping, dropping_of, end_dropped, gives_item, is_known_in, item_returned, returned_area, returned_kept, returned_record, width_of}
-use Rattle.bucketed_store.specs.Private.StoreEdits.{KnowsWidest, height_of}
+use Rattle.bucketed_store.specs.Private.StoreEdits.{IsInRow, KnowsWidest, height_of}
 use Rattle.bucketed_store.proofs.Emptying.EndDrops.{drops-all, DropsAll}
 use Rattle.bucketed_store.proofs.Emptying.ItemReturns.{item-spells}
 use Rattle.bucketed_store.proofs.Emptying.KnownRecords.{known-records, unused-knows}
 use Rattle.bucketed_store.proofs.Spelling.SpotRecords.{spot-at}
-use Rattle.bucketed_store.proofs.Spelling.WidestSpots.{shelf-knows}
+use Rattle.bucketed_store.proofs.Spelling.WidestSpots.{shelf-knows, spot-stands}
 use Rattle.bucketed_store.proofs.Emptying.SpelledSpots.{has-bucket, HasBucket, is-spot, record-at, spot_at}
 
 -- a known id's bucket, which holds something live
@@ -80,6 +84,7 @@ pub record IsReturned (stored : Stored) (state : BucketedState) (id : ℕ) : Typ
   pub shelf : shelf_of stored.buckets (tag_of id).number < length stored.shelves
   pub free : free_of stored.buckets (tag_of id).number ≤ width_of stored.shelves (shelf_of stored.buckets (tag_of id).number)
   pub widest : KnowsWidest (shelf_of stored.buckets (tag_of id).number) stored.shelves stored.buckets
+  pub row : IsInRow (shelf_of stored.buckets (tag_of id).number) (tag_of id).number stored.shelves stored.buckets
   pub few_shelves : length (item_returned (tag_of id).number stored).shelves ≤ most_buckets
   pub few_buckets : length (item_returned (tag_of id).number stored).buckets ≤ most_buckets
   pub unused : List ℕ
@@ -101,6 +106,10 @@ used-is b = by_test (nat_le b.live 1)
     by_test : (t : Bool) → (cond t (emptied_bucket b) (lessened_bucket b)).used ≡ cond t 0 b.used
     by_test true = refl
     by_test false = refl
+
+-- a bucket that holds something live has a width
+wide-busy : (alignment width height : ℕ) (b : Bucket) → 1 ≤ alignment → IsBucket alignment width height b → 1 ≤ b.live → 1 ≤ width
+wide-busy alignment width height b some is live = omega (arith, mul-lt 0 0 b.given alignment (omega (arith, is.live, live)) (omega (arith, some)), (is.busy live).0, is.used)
 
 -- a known id is returned
 pub returned-is : (stored : Stored) (unused : List ℕ) (state : BucketedState) (id : ℕ) → Witnessed stored unused state → is_known state id ≡ true
@@ -135,7 +144,8 @@ returned-is stored unused state id witnessed known =
     let long : length returned.shelves ≡ length changed = ap length spelled.shelves ∙ length-kept state.frame [] changed in
     let all : DropsAll state.frame (dropping_of returned.shelves returned.buckets returned.unused 0) (stored_returned id stored) changed =
     drops-all state.frame (length returned.shelves) (dropping_of returned.shelves returned.buckets returned.unused 0) unused changed (omega (arith, long)) spelled in
-    let used : b.used ≤ x.bucket_width = (spot-valid state.frame xs (spot_at has) spot valid.shelves).1.used in
+    let is_bucket = (spot-valid state.frame xs (spot_at has) spot valid.shelves).1 in
+    let used : b.used ≤ x.bucket_width = is_bucket.used in
     let area : returned_area number stored.shelves records ≡ cond (nat_le b.live 1) (b.used * x.height) 0 =
     rw (live, width, free, height) (ap (λ (n : ℕ). cond (nat_le b.live 1) (n * x.height) 0) (omega (arith, used))) in
     let space = space-returned state id (spot_at has) valid spot (sym has.same) in
@@ -144,6 +154,9 @@ returned-is stored unused state id witnessed known =
       shelf = slice_get_within stored.shelves (shelf_of records number) kept here;
       free = omega (arith, free, width);
       widest = subst (λ (n : ℕ). KnowsWidest n stored.shelves records) (sym shelf) (shelf-knows state.frame stored unused xs i x valid.shelves spells (spot-at xs (spot_at has) spot));
+      row = subst (λ (n : ℕ). IsInRow n number stored.shelves records) (sym shelf)
+          (subst (λ (n : ℕ). IsInRow i n stored.shelves records) has.same (spot-stands state.frame stored unused xs (spot_at has) valid.shelves spells spot
+          (wide-busy (alignment_along state.frame) x.bucket_width x.height b (alignment-positive 65534 state.frame valid.frame) is_bucket giver.live)));
       few_shelves = omega (arith, long, length-map xs (changed_in number returned_bucket), few-shelves state.frame xs valid.frame.column_width valid.shelves.each, valid.shelves.few);
       few_buckets = spelled.has_unused.few;
       unused = all.unused;

@@ -33,13 +33,13 @@ use Rattle.bucketed_records.specs.Private.Witnessed.{Witnessed}
 use Rattle.bucketed_records.proofs.Spelling.Fresh.{witnessed-read}
 use Rattle.bucket_index.specs.declared.searching.FoundBucket.{FoundBucket}
 use Rattle.bucketed_store.specs.Private.Placing.{Placement, kept_placement}
-use Rattle.bucketed_store.specs.Private.StoreEdits.{CanGive, CanPrepare, HasFirst, IsAdding, IsShort, IsWidest, end_of, first_bucket_of, found_first, found_of, height_of, kept_allocation, live_items_of, needed_for, stored_ready, stored_taken}
+use Rattle.bucketed_store.specs.Private.StoreEdits.{CanGive, CanPrepare, HasFirst, IsAdding, IsInRow, IsShort, IsWidest, end_of, first_bucket_of, found_first, found_of, height_of, kept_allocation, live_items_of, needed_for, stored_ready, stored_taken}
 use Rattle.bucketed_store.specs.Private.StoreEdits as store
 use Rattle.bucketed_store.proofs.Spelling.FoundBucket.{found_seen}
 use Rattle.bucketed_store.proofs.Spelling.PlacedRecords.{AreReady, CanReady, found-is, destination-is, destination-ready, placement_by}
 use Rattle.bucketed_store.proofs.Spelling.Ends.{end-kept, short-kept}
 use Rattle.bucketed_store.proofs.Spelling.SpotRecords.{spot-few, spot-given, spot-gives, spot-height, spot-records, spot-takes, spot-within, used-not_unused}
-use Rattle.bucketed_store.proofs.Spelling.WidestSpots.{spot-widest}
+use Rattle.bucketed_store.proofs.Spelling.WidestSpots.{spot-stands, spot-widest}
 use Rattle.bucketed_store.proofs.Spelling.TakenRecords.{part-at, spells-taken}
 
 -- a placement of these sides
@@ -116,6 +116,7 @@ pub record IsAllocation (state : BucketedState) (size : Size) (sides : Sides) (s
   pub take : store.CanTake found.bucket sides.along (stored_ready state.frame placement stored).buckets
   pub few : live_items_of (stored_ready state.frame placement stored).shelves found.shelf + 1 < 2 ^ 32
   pub widest : IsWidest found.shelf found.bucket sides.along (stored_ready state.frame placement stored)
+  pub row : IsInRow found.shelf found.bucket (stored_ready state.frame placement stored).shelves (stored_ready state.frame placement stored).buckets
   pub new : BucketedState
   pub unused : List ℕ
   pub allocates : (allocation : Allocation)
@@ -161,6 +162,7 @@ allocation-at state size sides destination stored valid p =
       take = spot-takes frame after p.ready.unused shelves spot sides.along valid.frame ready.valid p.ready.spells ready.can;
       few = spot-few frame after p.ready.unused shelves spot ready.valid p.ready.spells ready.can.at;
       widest = spot-widest frame after p.ready.unused shelves spot sides.along ready.valid p.ready.spells ready.can.at;
+      row = spot-stands frame after p.ready.unused shelves spot ready.valid p.ready.spells ready.can.at (omega (arith, ready.can.room, p.asks.along));
       new = new;
       unused = p.ready.unused;
       allocates = λ allocation is. record {

@@ -18,6 +18,7 @@ use Rattle.bucketed_records.specs.BucketRecords.{next_of}
 pub use Rattle.bucketed_records.specs.declared.records.KeptShelf.{KeptShelf}
 use Rattle.bucketed_records.specs.Private.Store.{Stored}
 use Rattle.bucket_index.specs.declared.searching.FoundBucket.{FoundBucket}
+use Rattle.bucket_index.specs.Private.Rest.{IsIn}
 use Rattle.bucket_index.specs.Private.Searching.{widest_from}
 use Rattle.bucket_index.specs.Private.Spans.{room_at}
 use Rattle.bucketed_store.specs.Private.Placing.{Placement, InBucket, InAdded, InMerged, kept_height}
@@ -196,6 +197,10 @@ KnowsWidest shelf shelves buckets =
 abbrev pub GivesAsMuch : ℕ → ℕ → List KeptShelf → List LinkedBucket → Type 0
 GivesAsMuch shelf bucket shelves buckets =
     room_at buckets bucket ≤ widest_from most_buckets buckets (first_bucket_of shelves shelf)
+
+-- a bucket stands in the row of a shelf
+abbrev pub IsInRow : ℕ → ℕ → List KeptShelf → List LinkedBucket → Type 0
+IsInRow shelf bucket shelves buckets = IsIn buckets (first_bucket_of shelves shelf) bucket
 
 -- what is kept of a shelf is no less than its buckets can give, and just that if the one that gave
 -- last had less room than this before; that one and the buckets behind it are some of the shelf's

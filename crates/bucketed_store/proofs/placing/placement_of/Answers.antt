@@ -5,6 +5,7 @@ use Rattle.bucketed_records.specs.Private.Store.{Stored}
 use Rattle.bucket_index.specs.Private.Blocks.{AreKnown}
 use Rattle.bucket_index.specs.Private.Heights.{AreBelow}
 use Rattle.bucket_index.specs.Private.Missed.{IsMissed}
+use Rattle.bucket_index.specs.Private.Rest.{IsRest}
 use Rattle.bucket_index.specs.Private.Rooms.{AreCounted}
 use Rattle.bucket_index.specs.Private.Spans.{AreSpans}
 use Rattle.bucketed_store.specs.Private.Placing.{kept_placement}
@@ -15,6 +16,9 @@ placement_in-requires-clause-known c = subst (λ (shelves : List KeptShelf). Are
 
 pub placement_in-requires-clause-spans : goal.placement_in-requires-clause-spans
 placement_in-requires-clause-spans c = subst (AreSpans c.store.inside.spans) (sym c.deref-2.ensures.value) c.store.invariant.1
+
+pub placement_in-requires-clause-rest : goal.placement_in-requires-clause-rest
+placement_in-requires-clause-rest c = subst (IsRest c.store.inside.rest) (sym c.deref-2.ensures.value) c.store.invariant.2
 
 pub placement_in-requires-clause-rooms : goal.placement_in-requires-clause-rooms
 placement_in-requires-clause-rooms c = subst (AreCounted c.store.inside.rooms) (sym c.deref-2.ensures.value) c.store.invariant.3

@@ -19,7 +19,7 @@ use Rattle.bucket_index.specs.Private.Spans.{AreSpans}
 use Rattle.bucket_index.proofs.MissedShelves.{missed-changed, narrower-without}
 use Rattle.bucket_index.proofs.KnownBlocks.{followed-stays, known-at, known-others}
 use Rattle.bucketed_store.proofs.KnownShelves.{height-kept}
-use Rattle.bucketed_store.specs.Private.StoreEdits.{IsWidestKept, first_bucket_of, given_from, shelves_given, widest_of}
+use Rattle.bucketed_store.specs.Private.StoreEdits.{IsInRow, IsWidestKept, first_bucket_of, given_from, shelves_given, widest_of}
 use Rattle.bucketed_store.proofs.store.Store.give_from.Goals as goal
 
 -- what holds of some shelves and buckets holds of the same
@@ -31,6 +31,11 @@ give_from-requires-clause-widest c =
     let Widest = IsWidestKept c.args.found.now.shelf c.args.found.now.bucket c.args.room in
     of-same Widest _ _ _ _ c.deref_mut.ensures.value c.deref.ensures.value
     (subst (λ (stored : Stored). Widest stored.shelves stored.buckets) (sym c.self.view_is) c.requires.widest)
+
+pub give_from-requires-clause-row : goal.give_from-requires-clause-row
+give_from-requires-clause-row c =
+    let In = IsInRow c.args.found.now.shelf c.args.found.now.bucket in
+    of-same In _ _ _ _ c.deref_mut.ensures.value c.deref.ensures.value (subst (λ (stored : Stored). In stored.shelves stored.buckets) (sym c.self.view_is) c.requires.row)
 
 pub give_from-requires-clause-spans : goal.give_from-requires-clause-spans
 give_from-requires-clause-spans c = subst (AreSpans c.self.inside.spans) (sym c.deref.ensures.value) c.self.invariant.1

@@ -46,7 +46,7 @@ invariant_of-self c =
     ∙ lessened number width inside.buckets.items leaves.bucket in (
       subst (AreKnown inside.blocks) (sym shelves) (known-left shelf inside.blocks inside.shelves.items leaves.shelf c.self.invariant.0),
       subst (AreSpans inside.spans) (sym buckets) (spans-same number lessened_record inside.spans inside.buckets.items (λ b. refl) (λ b. refl) c.self.invariant.1),
-      subst (IsRest inside.rest) (sym buckets) (rest-kept number lessened_record inside.rest inside.buckets.items (λ b. refl) (λ b. refl) c.self.invariant.2),
+      subst (IsRest inside.rest) (sym buckets) (rest-kept number lessened_record inside.rest inside.buckets.items (λ b. refl) (λ b. refl) (λ b. refl) c.self.invariant.2),
       subst (AreCounted inside.rooms) (sym buckets)
           (counted-same inside.rooms inside.buckets.items (changed_by (Some number) lessened_record inside.buckets.items) c.self.invariant.3 (λ slot. tally-kept slot number lessened_record inside.buckets.items (λ b. refl))),
       subst (AreBelow inside.heights) (sym shelves) (below-kept shelf change inside.heights inside.shelves.items (λ x. omega arith) c.self.invariant.4),

@@ -14,7 +14,7 @@ use Rattle.bucket_index.specs.declared.blocks.Block.{Block}
 use Rattle.bucket_index.specs.Private.Blocks.{AreKnown, AreOthersKnown, height_at}
 use Rattle.bucket_index.specs.Private.Heights.{AreBelow}
 use Rattle.bucket_index.specs.Private.Missed.{IsMissed, IsMissedBeside}
-use Rattle.bucket_index.specs.Private.Rest.{IsRest}
+use Rattle.bucket_index.specs.Private.Rest.{IsIn, IsRest}
 use Rattle.bucket_index.specs.Private.Rooms.{AreCounted, tally}
 use Rattle.bucket_index.proofs.TallestShelves.{below-kept, below-some}
 use Rattle.bucketed_model.specs.State.{most_buckets}
@@ -25,7 +25,7 @@ use Rattle.bucket_index.proofs.RestOfRows.{known-beside}
 use Rattle.bucket_index.proofs.KnownBlocks.{AreSome, followed-stays, known-at, known-others}
 use Rattle.bucket_index.proofs.KnownSpans.{spans-changed-room}
 use Rattle.bucketed_store.specs.Private.Returns.{Dropping, dropping_from, dropping_of, emptied_record, ends_idle, item_returned, lessened_record, returned_kept, returned_record, width_of}
-use Rattle.bucketed_store.specs.Private.StoreEdits.{KnowsWidest, first_bucket_of}
+use Rattle.bucketed_store.specs.Private.StoreEdits.{IsInRow, KnowsWidest, first_bucket_of}
 use Rattle.bucketed_store.proofs.KnownShelves.{height-kept, others-some, some-dropped}
 use Rattle.bucketed_store.proofs.LeftShelves.{none-dropped, stored-returned}
 use Rattle.bucketed_store.proofs.RoomsKept.{counted-same, dropped-kept, followed, is-there}
@@ -37,6 +37,14 @@ links-same : (width : ℕ) (b : LinkedBucket) → (returned_record width b).next
 links-same width b = by_test (nat_le b.refcount 1)
   where
     by_test : (t : Bool) → (cond t (emptied_record width b) (lessened_record b)).next ≡ b.next
+    by_test true = refl
+    by_test false = refl
+
+-- and its place
+places-same : (width : ℕ) (b : LinkedBucket) → (returned_record width b).x ≡ b.x
+places-same width b = by_test (nat_le b.refcount 1)
+  where
+    by_test : (t : Bool) → (cond t (emptied_record width b) (lessened_record b)).x ≡ b.x
     by_test true = refl
     by_test false = refl
 
@@ -166,10 +174,14 @@ invariant_of-self c =
     c.first_bucket-first.ensures
     ∙ ap (λ (xs : List KeptShelf). first_bucket_of xs c.shelf_number-shelf.result) (c.deref-then-not-ends_idle-2.ensures.value ∙ shelves)
     ∙ first-kept c.shelf_number-shelf.result lowers inside.shelves.items c.index.result.now (shelf-there before) in
+    let row : IsInRow (shelf_of inside.buckets.items number) number inside.shelves.items inside.buckets.items =
+    subst (λ (stored : Stored). IsInRow (shelf_of stored.buckets number) number stored.shelves stored.buckets) (sym c.self.view_is) c.requires.row in
+    let begin : first_bucket_of inside.shelves.items (shelf_of inside.buckets.items number) ≡ c.first_bucket-first.result =
+    ap (first_bucket_of inside.shelves.items) (sym shelf) ∙ ap (λ (o : Option KeptShelf). option_map_or (λ (one : KeptShelf). one.shelf.first_bucket) o None) (shelf-there before) ∙ sym first in
     let known : IsRest c.know.new.self (changed_by (Some number) (returned_record width) inside.buckets.items) =
     subst (λ (n : ℕ). IsRest c.know.new.self (changed_by (Some n) (returned_record width) inside.buckets.items)) c.know.ensures.bucket
-    (known-beside (returned_record width) c.know.new.self inside.buckets.items (links-same width)
-    (c.know.ensures.known inside.buckets.items one.bucket one.at room (ap (widest_from most_buckets inside.buckets.items) first ∙ widest-is before) c.self.invariant.2)) in (
+    (known-beside (returned_record width) c.know.new.self inside.buckets.items (links-same width) (places-same width)
+    (c.know.ensures.known inside.buckets.items one.bucket one.at room (ap (widest_from most_buckets inside.buckets.items) first ∙ widest-is before) (subst (λ (at : Option ℕ). IsIn inside.buckets.items at number) begin row) c.self.invariant.2)) in (
       subst (AreKnown c.follow.new.self) c.deref-then-not-ends_idle.ensures.value c.follow.ensures,
       subst (AreSpans c.track.new.self) c.deref-5.ensures.value c.track.ensures,
       subst (IsRest c.know.new.self) (sym (items ∙ returned)) known,

@@ -5,7 +5,7 @@ use Rattle.etagere_links.proofs.RecordChanges.{length-changed_by}
 use Rattle.bucketed_records.specs.StandsFor.{live_of, shelf_of}
 use Rattle.bucketed_records.specs.Private.Store.{Stored}
 use Rattle.bucketed_store.specs.Private.Returns.{dropping_from, ends_idle, item_returned, returned_kept}
-use Rattle.bucketed_store.specs.Private.StoreEdits.{KnowsWidest}
+use Rattle.bucketed_store.specs.Private.StoreEdits.{IsInRow, KnowsWidest}
 use Rattle.bucketed_store.proofs.LeftShelves.{ends-left, none-dropped}
 use Rattle.bucketed_store.proofs.store.Store.return_item.Goals as goal
 
@@ -30,3 +30,7 @@ returns-then-lessen-clause-stays c = λ _.
 pub return_apart-requires-clause-widest : goal.return_apart-requires-clause-widest
 return_apart-requires-clause-widest c =
     subst (λ (stored : Stored). KnowsWidest (shelf_of stored.buckets c.args.number) stored.shelves stored.buckets) (sym (c.lessen.ensures.same c.if-lessen.false)) c.requires.widest
+
+pub return_apart-requires-clause-row : goal.return_apart-requires-clause-row
+return_apart-requires-clause-row c =
+    subst (λ (stored : Stored). IsInRow (shelf_of stored.buckets c.args.number) c.args.number stored.shelves stored.buckets) (sym (c.lessen.ensures.same c.if-lessen.false)) c.requires.row

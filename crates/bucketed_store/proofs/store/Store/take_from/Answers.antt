@@ -9,8 +9,9 @@ use Rattle.bucket_index.specs.Private.Spans.{AreSpans, AreSpansExcept}
 use Rattle.bucketed_records.specs.Private.Store.{Stored}
 use Rattle.std.specs.Prelude.{slice_get}
 use Rattle.bucketed_store.proofs.RoomsKept.{followed}
-use Rattle.bucket_index.proofs.RestOfRows.{known-beside, rest-lowered}
+use Rattle.bucket_index.proofs.RestOfRows.{bounded-lowered, known-beside, rest-lowered}
 use Rattle.bucket_index.proofs.KnownSpans.{spans-changed-room}
+use Rattle.bucket_index.proofs.StandingBuckets.{row-changed}
 use Rattle.bucketed_store.specs.Private.StoreEdits.{taken_record}
 use Rattle.bucketed_store.proofs.Spelling.WidestRooms.{room-lowered}
 use Rattle.bucketed_store.proofs.store.Store.take_from.Goals as goal
@@ -41,7 +42,9 @@ invariant_of-self c =
     c.take_from.ensures ∙ ap (λ (bs : List LinkedBucket). changed_by (Some bucket) change bs) c.deref_mut.ensures.value in
     let known : IsRest c.lower.new.self (changed_by (Some bucket) change inside.buckets.items) = c.lower.ensures (changed_by (Some bucket) change inside.buckets.items)
     (omega (arith, rest-lowered bucket inside.rest.bucket change inside.rest.first inside.buckets.items (λ b. refl) (room-lowered c.args.width), c.self.invariant.2.most))
-    (λ same. subst (λ (n : ℕ). IsRest inside.rest (changed_by (Some n) change inside.buckets.items)) (sym same) (known-beside change inside.rest inside.buckets.items (λ b. refl) c.self.invariant.2)) in (
+    (bounded-lowered bucket change inside.rest inside.buckets.items (λ b. refl) (room-lowered c.args.width) c.self.invariant.2.bound)
+    (row-changed bucket change inside.rest inside.buckets.items (λ b. refl) (λ b. refl) c.self.invariant.2.row)
+    (λ same. subst (λ (n : ℕ). IsRest inside.rest (changed_by (Some n) change inside.buckets.items)) (sym same) (known-beside change inside.rest inside.buckets.items (λ b. refl) (λ b. refl) c.self.invariant.2)) in (
       c.self.invariant.0,
       subst (AreSpans c.track.new.self) c.deref.ensures.value c.track.ensures,
       subst (IsRest c.lower.new.self) (sym (items ∙ taken)) known,

@@ -155,6 +155,13 @@ take-area-requires-clause-widest c =
     let a = allocation c.self.inside c.self.invariant c.args.size c.in-Some.sides (placement_seen c.in-Some-placement_of.placement) c.prepare.new.self c.in_ok-found.found m ready c.in_ok-found.ensures.found in
     subst (store.IsWidest c.in_ok-found.found.shelf c.in_ok-found.found.bucket c.in-Some.sides.along) (sym ready) a.widest
 
+pub take-area-requires-clause-row : goal.take-area-requires-clause-row
+take-area-requires-clause-row c =
+    let m = made c.self.inside c.self.invariant c.args.size c.in-Some.sides c.placement_of.result c.in-Some-placement_of.placement (sym c.asked.ensures ∙ c.in-Some.is) (in_old c.self.inside c.in-Some.sides c.placement_of.result c.settle.new.self c.settle.ensures c.placement_of.ensures.placement) c.in-Some-placement_of.is in
+    let ready = (c.in_ok-found.ensures.ok ∙ ap (stored_ready c.self.inside.frame (placement_seen c.in-Some-placement_of.placement)) (c.placement_of.ensures.same ∙ c.settle.ensures)) in
+    let a = allocation c.self.inside c.self.invariant c.args.size c.in-Some.sides (placement_seen c.in-Some-placement_of.placement) c.prepare.new.self c.in_ok-found.found m ready c.in_ok-found.ensures.found in
+    subst (λ (stored : Stored). store.IsInRow c.in_ok-found.found.shelf c.in_ok-found.found.bucket stored.shelves stored.buckets) (sym ready) a.row
+
 pub follow_placement-requires-clause-short : goal.follow_placement-requires-clause-short
 follow_placement-requires-clause-short c =
     let m = made c.self.inside c.self.invariant c.args.size c.in-Some.sides c.placement_of.result c.in-Some-placement_of.placement (sym c.asked.ensures ∙ c.in-Some.is) (in_old c.self.inside c.in-Some.sides c.placement_of.result c.settle.new.self c.settle.ensures c.placement_of.ensures.placement) c.in-Some-placement_of.is in

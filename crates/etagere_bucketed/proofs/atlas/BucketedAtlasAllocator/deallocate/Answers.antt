@@ -48,6 +48,10 @@ pub return_item-returned-requires-clause-widest : goal.return_item-returned-requ
 return_item-returned-requires-clause-widest c =
     rw c.bucket_number.ensures (atlas-returned c.self.inside c.args.id c.self.invariant (sym c.is_known.ensures ∙ c.if-not-is_known.false)).widest
 
+pub return_item-returned-requires-clause-row : goal.return_item-returned-requires-clause-row
+return_item-returned-requires-clause-row c =
+    rw c.bucket_number.ensures (atlas-returned c.self.inside c.args.id c.self.invariant (sym c.is_known.ensures ∙ c.if-not-is_known.false)).row
+
 pub end-end-requires-clause-short : goal.end-end-requires-clause-short
 end-end-requires-clause-short c =
     (after-return c.self.inside c.args.id (item_returned c.bucket_number.result c.self.inside.store) c.return_item-returned.new.self c.bucket_number.result c.return_item-returned.result.dropped c.return_item-returned.result.area

@@ -3,7 +3,7 @@ use Rattle.std.proofs.lemmas.Option.{slice_get_read}
 use Rattle.bucketed_model.specs.State.{most_buckets}
 use Rattle.bucket_index.proofs.LinkedRecords.{named}
 use Rattle.bucket_index.proofs.WidestRooms.{widest-at}
-use Rattle.bucket_index.proofs.searching.has_room.Goals as goal
+use Rattle.bucket_index.proofs.searching.has_room_within.Goals as goal
 
 pub returns-then-room-record_room : goal.returns-then-room-record_room
 returns-then-room-record_room c =
