@@ -63,10 +63,10 @@ def two_widths_go(_program):
     return some_go(long_shelf() + [of_two_widths(chooser) for _ in range(3000)], 8, of_two_widths)
 
 
-def two_go(buckets):
-    """Of a full shelf of so many buckets two go, and then two come."""
+def some_of_row(buckets, some):
+    """Of a full shelf of so many buckets some go, and then as many come."""
     filling = [f"bucketed {64 * buckets} 4 1 1 1 h", "a 4 4", "a 60 4"] + ["a 64 4"] * (buckets - 1)
-    return some_go(filling, 2, lambda _: "a 64 4")
+    return some_go(filling, some, lambda _: "a 64 4")
 
 
 def little_left(buckets):
@@ -164,8 +164,9 @@ ROWS = {
     # Counted likewise, as the next ones.
     "a shelf of 16 buckets with a little left: any goes and comes": Row(lambda _: little_left(16), 218, before=390),
     "a shelf of 64, the same": Row(lambda _: little_left(64), 381, before=927),
-    "a full shelf of 64 buckets: any two go and two come": Row(lambda _: two_go(64), 369, before=729),
-    "the same with 256": Row(lambda _: two_go(256), 999, before=2351),
+    "a full shelf of 64 buckets: any two go and two come": Row(lambda _: some_of_row(64, 2), 369, before=729),
+    "the same with 256": Row(lambda _: some_of_row(256, 2), 999, before=2351),
+    "the same with 128, any sixteen": Row(lambda _: some_of_row(128, 16), 588),
     "4095 full shelves: the first goes and comes": Row(first_goes, 158, before=26829),
     "the same, any": Row(any_goes, 49080, before=26829, most=MOST),
     "the same, a refused size": Row(refused, 311351, before=82013, most=MOST),
