@@ -4,7 +4,7 @@
 //! Definitions: `Private/Blocks`. What is known of a block may be too much, never too little. Nothing need be known of few
 //! shelves, nor of one without height, which gives nothing.
 
-ghost use Rattle.std.specs.Prelude.{IsTrue, ◌≡◌, ◌+◌, ◌-◌, ◌*◌, ◌<◌, ◌≤◌, ◌^◌, Some, [], false, true, length, slice_get};
+ghost use Rattle.std.specs.Prelude.{IsFalse, IsTrue, ◌≡◌, ◌+◌, ◌-◌, ◌*◌, ◌<◌, ◌≤◌, ◌^◌, Some, [], false, true, length, slice_get};
 ghost use Rattle.etagere_links.specs.Edits.{changed_by};
 ghost use Rattle.bucketed_records.specs.Private.Store.{is_kept_idle};
 ghost use Rattle.bucket_index.specs.Private.Blocks as spec;
@@ -141,6 +141,17 @@ pub fn known_of(kept: &KeptShelf) -> Block
     ensures { result ≡ spec.with_shelf kept.now spec.no_shelves }
 {
     with_shelf(NO_SHELVES, kept)
+}
+
+/// What is known of a shelf alone that holds something live.
+#[inline(always)]
+pub fn known_of_busy(kept: &KeptShelf) -> Block
+    ensures { result.widest_room ≡ kept.now.widest_room }
+{
+    Block {
+        widest_room: kept.widest_room,
+        has_idle: false,
+    }
 }
 
 /// What is known of two blocks together.
@@ -574,18 +585,54 @@ impl Blocks {
         requires others { spec.AreOthersKnown number self.old shelves.now }
         ensures { spec.AreKnown self.new shelves.now }
     {
-        if !self.are_counted {
+        if !self.follows_at_once(shelves, number, before) {
+            self.follow_change(shelves, number, before);
+        }
+    }
+
+    /// The same where the shelf has no less than before: then its blocks have to know more of it.
+    #[inline(always)]
+    pub fn follow_returned(&mut self, shelves: &[KeptShelf], number: usize, before: Block)
+        requires within { number < length shelves.now }
+        requires before { self.old.are_counted ≡ true
+            → spec.IsFollowedUpTo number (spec.height_at shelves.now number) before.widest_room self.old }
+        requires others { spec.AreOthersKnown number self.old shelves.now }
+        ensures { spec.AreKnown self.new shelves.now }
+    {
+        if self.follows_at_once(shelves, number, before) {
             return;
+        }
+        if self.is_late {
+            self.follow_late(shelves, number, before);
+        } else {
+            self.raise_beside(shelves, number, before.widest_room);
+        }
+    }
+
+    /// Knows the shelf of a number, of which this was known before, where that is known as it was or raised last, and says
+    /// whether it is.
+    #[inline(always)]
+    fn follows_at_once(&mut self, shelves: &[KeptShelf], number: usize, before: Block) -> bool
+        requires within { number < length shelves.now }
+        requires before { self.old.are_counted ≡ true
+            → spec.IsFollowedUpTo number (spec.height_at shelves.now number) before.widest_room self.old }
+        requires others { spec.AreOthersKnown number self.old shelves.now }
+        ensures known { IsTrue result → spec.AreKnown self.new shelves.now }
+        ensures same { IsFalse result → self.new ≡ self.old }
+        ensures counted { IsFalse result → self.old.are_counted ≡ true }
+    {
+        if !self.are_counted {
+            return true;
         }
         let kept = &shelves[number];
         if stays_equal(before, kept) {
-            return;
+            return true;
         }
-        if self.knows_again(number, kept) {
-            self.is_late = self.knows_more(kept);
-        } else {
-            self.follow_change(shelves, number, before);
+        if !self.knows_again(number, kept) {
+            return false;
         }
+        self.is_late = self.knows_more(kept);
+        true
     }
 
     /// Knows the shelf of a number, of which this was known before, and more or less may be now. It is seldom

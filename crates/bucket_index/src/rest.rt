@@ -291,8 +291,13 @@ impl Rest {
             → spec.IsIn buckets first bucket → spec.IsRest self.old buckets
             → spec.IsRest self.new buckets }
     {
-        if bucket != self.bucket {
+        if bucket == self.bucket {
+            return;
+        }
+        if self.bound < widest {
             self.know_another(first, bucket, room, widest);
+        } else {
+            self.learn(first, bucket, room, widest);
         }
     }
 

@@ -131,7 +131,7 @@ fn make_bucket(
         return reuse_bucket(buckets, spans, unused, first, new, number);
     }
     let number = buckets.len();
-    buckets.push(new_record(new, first, 0)).unwrap();
+    buckets.push_reserved(new_record(new, first, 0));
     Link::to(number)
 }
 

@@ -101,8 +101,9 @@ pub(crate) fn return_item(shelves: &mut [KeptShelf], buckets: &mut [LinkedBucket
 {
     let bucket = &mut buckets[number];
     let kept = &mut shelves[usize::from(bucket.shelf)];
-    count_returned(kept, bucket.refcount <= 1);
+    let empties = bucket.refcount <= 1;
     take_back(bucket, kept.shelf.bucket_width);
+    count_returned(kept, empties);
 }
 
 /// Whether the bucket of a number keeps other live items, and its shelf too, where an item is returned to it, and no shelf is

@@ -29,7 +29,7 @@ use crate::making::{NewBuckets, make_buckets, reserve_records};
 use crate::merging::{Group, merge};
 use crate::placing::Placement;
 use crate::returning::{is_known, leaves_others, return_item, returned_area, shelf_number};
-use bucket_index::blocks::{Blocks, known_of};
+use bucket_index::blocks::{Blocks, known_of, known_of_busy};
 use bucket_index::heights::Heights;
 use bucket_index::missed::Missed;
 use bucket_index::rest::Rest;
@@ -158,6 +158,34 @@ impl Store {
 
     /// Drops all records.
     pub fn clear(&mut self)
+        ensures { self.new ≡ record { shelves = []; buckets = []; unused = None } }
+    {
+        if self.shelves.is_empty() {
+            self.drop_unused();
+        } else {
+            self.drop_all();
+        }
+    }
+
+    /// The same where there are no shelves, so that nothing is known of any.
+    #[inline(always)]
+    fn drop_unused(&mut self)
+        requires { self.old.shelves ≡ [] }
+        ensures { self.new ≡ record { shelves = []; buckets = []; unused = None } }
+    {
+        self.unused = Link::none();
+        if self.buckets.is_empty() {
+            return;
+        }
+        self.buckets.clear();
+        self.spans.forget_all();
+        self.rest.forget();
+        self.rooms.forget();
+    }
+
+    /// The same where there are some.
+    #[inline(always)]
+    fn drop_all(&mut self)
         ensures { self.new ≡ record { shelves = []; buckets = []; unused = None } }
     {
         self.blocks.forget(self.shelves.len());
@@ -468,13 +496,13 @@ impl Store {
     {
         let area = returned_area(&self.shelves, &self.buckets, number);
         let shelf = shelf_number(&self.buckets, number);
-        let before = known_of(&self.shelves[shelf]);
+        let before = known_of_busy(&self.shelves[shelf]);
         let room = room_of(&self.buckets, number);
         return_item(&mut self.shelves, &mut self.buckets, number);
         self.spans.track(&self.buckets, number, room);
         self.rooms.follow_record(&self.buckets, number, room);
         if !ends_idle(&self.shelves) {
-            self.blocks.follow(&self.shelves, shelf, before);
+            self.blocks.follow_returned(&self.shelves, shelf, before);
             let first = first_bucket(&self.shelves, shelf);
             self.rest.know(first, number, room, before.widest_room);
             self.missed.follow(&self.shelves, shelf);

@@ -103,6 +103,7 @@ pub fn unknown_seconds(alloc: Global, records: &Records) -> Result<SecondWidths,
 }
 
 /// Makes the notes those of a list that follows these records. There is room for them.
+#[inline(always)]
 pub fn settle_notes(records: &Records, by_height: &ShelvesByHeight, pending: &mut PendingShelves)
     requires list { IsListOf records.now by_height.now.items }
     requires room { length records.now.shelves ≤ pending.old.room }
@@ -114,6 +115,7 @@ pub fn settle_notes(records: &Records, by_height: &ShelvesByHeight, pending: &mu
 
 /// Makes the notes those of a list that follows these records, which has just the shelves in use: each of them once, so all
 /// records where they are as many.
+#[inline(always)]
 fn follow(pending: &mut PendingShelves, shelves: &[LinkedShelf], by_height: &ShelvesByHeight)
     requires order { AreInOrder shelves.now by_height.now.items }
     requires room { length shelves.now ≤ pending.old.room }

@@ -20,7 +20,7 @@ fresh c =
 
 pub returns-clause-buckets : goal.returns-clause-buckets
 returns-clause-buckets c =
-    (rw c.unwrap.ensures at c.push.ensures.items)
+    c.push_reserved.ensures.items
     ∙ ap (λ (r : LinkedBucket). c.args.buckets.now.items ++ r ∷ []) c.new_record.ensures
     ∙ ap (λ (m : Made). m.buckets) (sym (fresh c))
 
@@ -32,4 +32,4 @@ returns-clause-first c = c.to.ensures ∙ ap (λ (n : ℕ). Some n) (omega (arit
 
 pub returns-clause-spans : goal.returns-clause-spans
 returns-clause-spans c =
-    subst (AreSpans c.args.spans.now) (sym (rw c.unwrap.ensures at c.push.ensures.items)) (spans-added c.args.spans.now c.args.buckets.now.items _ c.requires.spans)
+    subst (AreSpans c.args.spans.now) (sym c.push_reserved.ensures.items) (spans-added c.args.spans.now c.args.buckets.now.items _ c.requires.spans)

@@ -35,4 +35,4 @@ returns-clause-buckets c =
     c.args.number c.take_back.new.bucket c.index-buckets-number.result refl c.requires.number
     (c.take_back.ensures
     ∙ ap (λ (w : ℕ). returned_record w (get_or c.args.buckets.now c.args.number c.index-buckets-number.result))
-    (ap (λ (k : KeptShelf). k.shelf.bucket_width) c.count_returned.ensures ∙ ap (λ (k : KeptShelf). k.shelf.bucket_width) (sym c.index-shelves-from.is) ∙ width))
+    (ap (λ (k : KeptShelf). k.shelf.bucket_width) (sym c.index-shelves-from.is) ∙ width))

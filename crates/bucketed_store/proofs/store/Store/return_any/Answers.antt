@@ -10,7 +10,6 @@ use Rattle.bucketed_records.specs.declared.records.LinkedBucket.{LinkedBucket}
 use Rattle.bucketed_records.specs.declared.records.KeptShelf.{KeptShelf}
 use Rattle.bucketed_records.specs.StandsFor.{live_of, shelf_of}
 use Rattle.bucketed_records.specs.Private.Store.{record_room, Stored}
-use Rattle.bucket_index.specs.declared.blocks.Block.{Block}
 use Rattle.bucket_index.specs.Private.Blocks.{AreKnown, AreOthersKnown, height_at}
 use Rattle.bucket_index.specs.Private.Heights.{AreBelow}
 use Rattle.bucket_index.specs.Private.Missed.{IsMissed, IsMissedBeside}
@@ -72,7 +71,7 @@ shelf-there c =
     slice_get-get_or c.self.inside.shelves.items c.shelf_number-shelf.result c.index.result.now (omega (arith, shelf-is c, within)) ∙ ap (λ (kept : KeptShelf). Some kept) (sym c.index.ensures)
 
 -- and what is known of it is what its buckets can give
-widest-is : (c : After-room_of-room) → widest_from most_buckets c.self.inside.buckets.items c.index.result.now.shelf.first_bucket ≡ c.known_of-before.result.widest_room
+widest-is : (c : After-room_of-room) → widest_from most_buckets c.self.inside.buckets.items c.index.result.now.shelf.first_bucket ≡ c.known_of_busy-before.result.widest_room
 widest-is c =
     let shelves = c.self.inside.shelves.items in
     let buckets = c.self.inside.buckets.items in
@@ -80,20 +79,20 @@ widest-is c =
     subst (λ (n : ℕ). KnowsWidest n shelves buckets) (sym (shelf-is c))
     (subst (λ (stored : Stored). KnowsWidest (shelf_of stored.buckets c.args.number) stored.shelves stored.buckets) (sym c.self.view_is) c.requires.widest) in
     let read = subst (λ (o : Option KeptShelf). widest_from most_buckets buckets (option_map_or (λ (kept : KeptShelf). kept.shelf.first_bucket) o None) ≡ option_map_or (λ (kept : KeptShelf). kept.widest_room) o 0) (shelf-there c) knows in
-    omega (arith, read, ap (λ (b : Block). b.widest_room) c.known_of-before.ensures)
+    omega (arith, read, c.known_of_busy-before.ensures)
 
 -- a shelf keeps its first bucket where another keeps what it did
 first-kept : (shelf : ℕ) (change : KeptShelf → KeptShelf) (shelves : List KeptShelf) (kept : KeptShelf) → slice_get shelves shelf ≡ Some kept → first_bucket_of (changed_by (Some shelf) change shelves) shelf ≡ (change kept).shelf.first_bucket
 first-kept shelf change shelves kept there =
     ap (λ (o : Option KeptShelf). option_map_or (λ (one : KeptShelf). one.shelf.first_bucket) o None) (get-changed_by change shelves (Some shelf) shelf refl ∙ ap (option_map change) there)
 
-pub follow-requires-clause-before : goal.follow-requires-clause-before
-follow-requires-clause-before c =
+pub follow_returned-requires-clause-before : goal.follow_returned-requires-clause-before
+follow_returned-requires-clause-before c =
     let before = c.index.result.now in
-    let there = shelf-there (goal.at.follow-requires-clause-before c).After-room_of-room in
+    let there = shelf-there (goal.at.follow_returned-requires-clause-before c).After-room_of-room in
     let inside = c.self.inside in
     let number = c.args.number in
-    let shelf : c.shelf_number-shelf.result ≡ shelf_of inside.buckets.items number = shelf-is (goal.at.follow-requires-clause-before c).After-room_of-room in
+    let shelf : c.shelf_number-shelf.result ≡ shelf_of inside.buckets.items number = shelf-is (goal.at.follow_returned-requires-clause-before c).After-room_of-room in
     let change = returned_kept (nat_le (live_of inside.buckets.items number) 1) in
     let items : (with_items inside.shelves c.return_item.new.shelves).items ≡ c.return_item.new.shelves =
     with_items_is inside.shelves c.return_item.new.shelves (omega (arith, c.return_item.auto.shelves, c.deref_mut.ensures.len)) in
@@ -105,11 +104,11 @@ follow-requires-clause-before c =
     let tall : height_at c.deref-then-not-ends_idle.result.now c.shelf_number-shelf.result ≡ before.shelf.height =
     ap (λ (xs : List KeptShelf). height_at xs c.shelf_number-shelf.result) (c.deref-then-not-ends_idle.ensures.value ∙ items ∙ returned)
     ∙ height-kept c.shelf_number-shelf.result change inside.shelves.items before (λ x. refl) there in
-    λ counts kept as_tall narrow busy. followed-stays c.shelf_number-shelf.result before kept c.self.inside.blocks (as_tall ∙ tall) (omega (arith, narrow, ap (λ (b : Block). b.widest_room) c.known_of-before.ensures)) busy
+    λ counts kept as_tall narrow busy. followed-stays c.shelf_number-shelf.result before kept c.self.inside.blocks (as_tall ∙ tall) (omega (arith, narrow, c.known_of_busy-before.ensures)) busy
     (known-at c.shelf_number-shelf.result before c.self.inside.blocks c.self.inside.shelves.items there c.self.invariant.0 counts)
 
-pub follow-requires-clause-others : goal.follow-requires-clause-others
-follow-requires-clause-others c =
+pub follow_returned-requires-clause-others : goal.follow_returned-requires-clause-others
+follow_returned-requires-clause-others c =
     let inside = c.self.inside in
     let number = c.args.number in
     let shelf : c.shelf_number-shelf.result ≡ shelf_of inside.buckets.items number =
@@ -125,8 +124,8 @@ follow-requires-clause-others c =
     subst (AreOthersKnown c.shelf_number-shelf.result inside.blocks) (sym (c.deref-then-not-ends_idle.ensures.value ∙ items ∙ returned))
     (known-others c.shelf_number-shelf.result change inside.blocks inside.shelves.items (λ x. refl) c.self.invariant.0)
 
-pub follow-requires-then-not-ends_idle : goal.follow-requires-then-not-ends_idle
-follow-requires-then-not-ends_idle c =
+pub follow-requires : goal.follow-requires
+follow-requires c =
     let inside = c.self.inside in
     let number = c.args.number in
     let shelf : c.shelf_number-shelf.result ≡ shelf_of inside.buckets.items number =
@@ -182,14 +181,14 @@ invariant_of-self c =
     subst (λ (n : ℕ). IsRest c.know.new.self (changed_by (Some n) (returned_record width) inside.buckets.items)) c.know.ensures.bucket
     (known-beside (returned_record width) c.know.new.self inside.buckets.items (links-same width) (places-same width)
     (c.know.ensures.known inside.buckets.items one.bucket one.at room (ap (widest_from most_buckets inside.buckets.items) first ∙ widest-is before) (subst (λ (at : Option ℕ). IsIn inside.buckets.items at number) begin row) c.self.invariant.2)) in (
-      subst (AreKnown c.follow.new.self) c.deref-then-not-ends_idle.ensures.value c.follow.ensures,
+      subst (AreKnown c.follow_returned.new.self) c.deref-then-not-ends_idle.ensures.value c.follow_returned.ensures,
       subst (AreSpans c.track.new.self) c.deref-5.ensures.value c.track.ensures,
       subst (IsRest c.know.new.self) (sym (items ∙ returned)) known,
       subst (AreCounted c.follow_record.new.self) (sym (items ∙ returned))
           (followed number c.room_of-room.result (returned_record width) inside.buckets.items c.deref-6.result.now one.bucket inside.rooms c.follow_record.new.self (c.deref-6.ensures.value ∙ items ∙ returned) one.at
           (c.room_of-room.ensures one.bucket (ap (λ (bs : List LinkedBucket). slice_get bs number) c.deref-4.ensures.value ∙ one.at)) c.self.invariant.3 c.follow_record.ensures),
       below,
-      subst (IsMissed c.follow-then-not-ends_idle.new.self) c.deref-then-not-ends_idle-3.ensures.value c.follow-then-not-ends_idle.ensures,
+      subst (IsMissed c.follow.new.self) c.deref-then-not-ends_idle-3.ensures.value c.follow.ensures,
     )
 
 pub follow_dropped-requires : goal.follow_dropped-requires
