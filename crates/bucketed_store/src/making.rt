@@ -2,7 +2,7 @@
 //!
 //! Definitions: `StoreEdits`. Memory is taken before, by `reserve_records`: nothing else fails.
 
-ghost use Rattle.std.specs.Prelude.{◌≡◌, ◌+◌, ◌*◌, ◌%◌, ◌<◌, ◌≤◌, ◌^◌, OnOk, OnErr, length, vec_len, vec_capacity};
+ghost use Rattle.std.specs.Prelude.{◌≡◌, ◌+◌, ◌*◌, ◌%◌, ◌<◌, ◌≤◌, ◌^◌, None, OnOk, OnErr, length, vec_len, vec_capacity};
 ghost use Rattle.etagere_links.specs.Links.{no_link};
 ghost use Rattle.bucketed_model.specs.State.{generations};
 ghost use Rattle.bucket_index.specs.Private.Spans.{AreSpans};
@@ -168,6 +168,51 @@ fn reuse_buckets(
     0
 }
 
+/// Makes a bucket in front of the first one of its shelf, in a new record where none is unused, and answers the link to it.
+#[inline(always)]
+fn push_bucket(buckets: &mut Vec<LinkedBucket>, first: Link, new: &NewBuckets) -> Link
+    requires room { vec_len buckets.old < vec_capacity buckets.old }
+    requires few { vec_len buckets.old < no_link }
+    ensures made { record { buckets = buckets.new.items; unused = None; first = result }
+        ≡ spec.made_one new.now
+        (record { buckets = buckets.old.items; unused = None; first = first }) }
+    ensures length { vec_len buckets.new ≡ vec_len buckets.old + 1 }
+    ensures capacity { vec_capacity buckets.old ≤ vec_capacity buckets.new }
+    ensures spans { (spans : Spans) → AreSpans spans buckets.old.items
+        → AreSpans spans buckets.new.items }
+{
+    let number = buckets.len();
+    buckets.push_reserved(new_record(new, first, 0));
+    Link::to(number)
+}
+
+/// Makes so many buckets from left to right, each in front of the one before, where no record is unused, and answers the
+/// link to the last.
+#[inline(always)]
+fn push_buckets(buckets: &mut Vec<LinkedBucket>, first: Link, new: &NewBuckets, count: u32) -> Link
+    requires room { length
+        (spec.made_many count new.now
+        (record { buckets = buckets.old.items; unused = None; first = first })).buckets
+        ≤ vec_capacity buckets.old }
+    requires few { vec_len buckets.old + count ≤ no_link }
+    requires narrow { new.now.x + count * new.now.width < 2 ^ 16 }
+    ensures made { record { buckets = buckets.new.items; unused = None; first = result }
+        ≡ spec.made_many count new.now
+        (record { buckets = buckets.old.items; unused = None; first = first }) }
+    ensures length { vec_len buckets.new ≤ vec_len buckets.old + count }
+    ensures capacity { vec_capacity buckets.old ≤ vec_capacity buckets.new }
+    ensures spans { (spans : Spans) → AreSpans spans buckets.old.items
+        → AreSpans spans buckets.new.items }
+{
+    let mut first = first;
+    let mut here = *new;
+    for _made in 0..count {
+        first = push_bucket(buckets, first, &here);
+        here.x += here.width;
+    }
+    first
+}
+
 /// Makes so many buckets from left to right, each in front of the one before, and answers the link to the last. Never
 /// inlined: mostly the unused records serve for all.
 #[inline(never)]
@@ -199,6 +244,9 @@ fn make_rest(
     ensures capacity { vec_capacity buckets.old ≤ vec_capacity buckets.new }
     ensures spans { AreSpans spans.new buckets.new.items }
 {
+    if unused.number().is_none() {
+        return push_buckets(buckets, first, new, count);
+    }
     let mut first = first;
     let mut left = *unused;
     let mut here = *new;
