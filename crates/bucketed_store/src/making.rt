@@ -98,6 +98,24 @@ fn reuse_bucket(
     Link::to(number)
 }
 
+/// Makes a bucket in front of the first one of its shelf, in a new record where none is unused, and answers the link to it.
+#[inline(always)]
+fn push_bucket(buckets: &mut Vec<LinkedBucket>, first: Link, new: &NewBuckets) -> Link
+    requires room { vec_len buckets.old < vec_capacity buckets.old }
+    requires few { vec_len buckets.old < no_link }
+    ensures made { record { buckets = buckets.new.items; unused = None; first = result }
+        ≡ spec.made_one new.now
+        (record { buckets = buckets.old.items; unused = None; first = first }) }
+    ensures length { vec_len buckets.new ≡ vec_len buckets.old + 1 }
+    ensures capacity { vec_capacity buckets.old ≤ vec_capacity buckets.new }
+    ensures spans { (spans : Spans) → AreSpans spans buckets.old.items
+        → AreSpans spans buckets.new.items }
+{
+    let number = buckets.len();
+    buckets.push_reserved(new_record(new, first, 0));
+    Link::to(number)
+}
+
 /// Makes a bucket in front of the first one of its shelf, and answers the link to it.
 #[inline(always)]
 fn make_bucket(
@@ -130,9 +148,7 @@ fn make_bucket(
     if number < buckets.len() {
         return reuse_bucket(buckets, spans, unused, first, new, number);
     }
-    let number = buckets.len();
-    buckets.push_reserved(new_record(new, first, 0));
-    Link::to(number)
+    push_bucket(buckets, first, new)
 }
 
 /// Makes so many buckets from left to right as long as there are unused records, each in front of the one before, and
@@ -166,24 +182,6 @@ fn reuse_buckets(
         row.x += row.width;
     }
     0
-}
-
-/// Makes a bucket in front of the first one of its shelf, in a new record where none is unused, and answers the link to it.
-#[inline(always)]
-fn push_bucket(buckets: &mut Vec<LinkedBucket>, first: Link, new: &NewBuckets) -> Link
-    requires room { vec_len buckets.old < vec_capacity buckets.old }
-    requires few { vec_len buckets.old < no_link }
-    ensures made { record { buckets = buckets.new.items; unused = None; first = result }
-        ≡ spec.made_one new.now
-        (record { buckets = buckets.old.items; unused = None; first = first }) }
-    ensures length { vec_len buckets.new ≡ vec_len buckets.old + 1 }
-    ensures capacity { vec_capacity buckets.old ≤ vec_capacity buckets.new }
-    ensures spans { (spans : Spans) → AreSpans spans buckets.old.items
-        → AreSpans spans buckets.new.items }
-{
-    let number = buckets.len();
-    buckets.push_reserved(new_record(new, first, 0));
-    Link::to(number)
 }
 
 /// Makes so many buckets from left to right, each in front of the one before, where no record is unused, and answers the

@@ -61,7 +61,7 @@ use shelf_search::tallying::{largest_free, usage};
 use shelf_store::growing::counting::needed_for;
 use shelf_store::growing::{grow_shelves, size_fault};
 use shelf_store::returning::return_item;
-use shelf_store::settling::noting::{settle_notes, settled_notes, unknown_seconds};
+use shelf_store::settling::noting::{settle_all_notes, settled_notes, unknown_seconds};
 use shelf_store::settling::{settle_shelves, settle_unless_few};
 use shelf_store::starting::{fresh_by_height, fresh_records, reset_by_height, reset_records};
 use shelf_store::taking::take_found;
@@ -530,7 +530,7 @@ impl AtlasAllocator {
     {
         reset_records(&self.frame, &mut self.records);
         reset_by_height(&self.frame, &mut self.by_height);
-        settle_notes(&self.records, &self.by_height, &mut self.pending);
+        settle_all_notes(&self.records, &mut self.pending);
         self.seconds.restart(self.frame.columns as usize);
         self.items_in_use = self.frame.columns;
         self.allocated_space = 0;

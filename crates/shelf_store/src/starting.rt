@@ -62,6 +62,7 @@ pub fn reset_by_height(frame: &Frame, by_height: &mut ShelvesByHeight)
     requires columns { HasAllColumns frame.now }
     requires room { frame.now.columns ≤ by_height.old.capacity }
     ensures by_height { AreByHeight frame.now (spec.fresh_records frame.now) by_height.new.items }
+    ensures len { length by_height.new.items ≡ frame.now.columns }
     ensures capacity { by_height.old.capacity ≤ by_height.new.capacity }
 {
     by_height.renumber(frame.columns as usize, frame.column_width as u16);

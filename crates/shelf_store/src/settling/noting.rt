@@ -3,10 +3,11 @@
 //! Definitions: `Pending` for what is noted, `Settling` for notes of a list that follows the records. Nothing but
 //! `reserve_shelves`, `settled_notes` and `unknown_seconds` takes memory.
 
-ghost use Rattle.std.specs.Prelude.{◌≡◌, ℕ, ◌+◌, ◌<◌, ◌≤◌, IfOk, OnErr, OnOk, length};
+ghost use Rattle.std.specs.Prelude.{◌≡◌, ℕ, ◌+◌, ◌<◌, ◌≤◌, IfOk, OnErr, OnOk, List, length};
 ghost use Rattle.shelf_records.specs.RecordUses.{missing};
 ghost use Rattle.shelf_records.specs.Records.{shelf_chain};
 ghost use Rattle.shelf_heights.specs.Private.ByHeight.{AreInOrder};
+ghost use Rattle.shelf_heights.specs.declared.by_height.BoundedShelf.{BoundedShelf};
 ghost use Rattle.etagere_links.specs.Links.{no_link};
 ghost use Rattle.shelf_notes.specs.Private.SecondWidths.{second_at};
 ghost use Rattle.shelf_store.specs.Private.Settling.{AreSettled, Follows, IsListOf};
@@ -103,7 +104,6 @@ pub fn unknown_seconds(alloc: Global, records: &Records) -> Result<SecondWidths,
 }
 
 /// Makes the notes those of a list that follows these records. There is room for them.
-#[inline(always)]
 pub fn settle_notes(records: &Records, by_height: &ShelvesByHeight, pending: &mut PendingShelves)
     requires list { IsListOf records.now by_height.now.items }
     requires room { length records.now.shelves ≤ pending.old.room }
@@ -113,9 +113,20 @@ pub fn settle_notes(records: &Records, by_height: &ShelvesByHeight, pending: &mu
     follow(pending, records.shelves(), by_height);
 }
 
+/// The same where the list has as many shelves as there are records: each of them.
+#[inline(always)]
+pub fn settle_all_notes(records: &Records, pending: &mut PendingShelves)
+    requires room { length records.now.shelves ≤ pending.old.room }
+    requires few { length records.now.shelves ≤ no_link }
+    ensures settled { (by_height : List BoundedShelf) → IsListOf records.now by_height
+        → length by_height ≡ length records.now.shelves → AreSettled records.now pending.new.notes }
+    ensures room { pending.new.room ≡ pending.old.room }
+{
+    pending.restart(records.shelves(), IN_USE);
+}
+
 /// Makes the notes those of a list that follows these records, which has just the shelves in use: each of them once, so all
 /// records where they are as many.
-#[inline(always)]
 fn follow(pending: &mut PendingShelves, shelves: &[LinkedShelf], by_height: &ShelvesByHeight)
     requires order { AreInOrder shelves.now by_height.now.items }
     requires room { length shelves.now ≤ pending.old.room }

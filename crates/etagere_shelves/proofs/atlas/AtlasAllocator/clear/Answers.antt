@@ -5,6 +5,7 @@ use Rattle.shelf_model.specs.Fresh.{fresh}
 use Rattle.shelf_model.specs.Places.{allocations}
 use Rattle.shelf_heights.specs.Private.ByHeight.{AreByHeight}
 use Rattle.shelf_store.specs.Private.FreshRecords.{fresh_records, fresh_shelf}
+use Rattle.shelf_store.specs.Private.Settling.{IsListOf}
 use Rattle.etagere_shelves.specs.Private.Consistent.{IsConsistent}
 use Rattle.etagere_shelves.specs.declared.atlas.AtlasAllocator.TheInside.{Inside}
 use Rattle.shelf_heights.specs.declared.by_height.BoundedShelf.{BoundedShelf}
@@ -44,15 +45,19 @@ kept-fresh inside records is same =
 are-fresh : (inside : Inside) (records : Records) (by_height : List BoundedShelf) → records ≡ fresh_records inside.frame → AreByHeight inside.frame (fresh_records inside.frame) by_height → AreByHeight inside.frame records by_height
 are-fresh inside records by_height same are = subst (λ (r : Records). AreByHeight inside.frame r by_height) (sym same) are
 
-pub settle_notes-requires-clause-list : goal.settle_notes-requires-clause-list
-settle_notes-requires-clause-list c = record {
-  frame = c.self.inside.frame;
-  kept = kept-fresh c.self.inside c.reset_records.new.records c.self.invariant c.reset_records.ensures;
-  by_height = are-fresh c.self.inside c.reset_records.new.records c.reset_by_height.new.by_height.items c.reset_records.ensures c.reset_by_height.ensures.by_height;
+-- the list has a shelf for each record
+list-fresh : (inside : Inside) (records : Records) (by_height : List BoundedShelf) → IsConsistent inside → records ≡ fresh_records inside.frame → AreByHeight inside.frame (fresh_records inside.frame) by_height → IsListOf records by_height
+list-fresh inside records by_height is same are = record {
+  frame = inside.frame;
+  kept = kept-fresh inside records is same;
+  by_height = are-fresh inside records by_height same are;
 }
 
-pub settle_notes-requires-clause-room : goal.settle_notes-requires-clause-room
-settle_notes-requires-clause-room c =
+pub settle_all_notes-requires-clause-few : goal.settle_all_notes-requires-clause-few
+settle_all_notes-requires-clause-few c = (witnesses (kept-fresh c.self.inside c.reset_records.new.records c.self.invariant c.reset_records.ensures)).counts.shelves.1
+
+pub settle_all_notes-requires-clause-room : goal.settle_all_notes-requires-clause-room
+settle_all_notes-requires-clause-room c =
     let frame = c.self.inside.frame in
     omega (
       arith,
@@ -79,7 +84,9 @@ invariant_of-self c =
     let are : AreByHeight frame records by_height = are-fresh c.self.inside records by_height c.reset_records.ensures c.reset_by_height.ensures.by_height in
     record {
       kept = kept;
-      by_height = settled-holds frame records c.settle_notes.new.pending.notes by_height kept are c.settle_notes.ensures.settled;
+      by_height = settled-holds frame records c.settle_all_notes.new.pending.notes by_height kept are
+          (c.settle_all_notes.ensures.settled by_height (list-fresh c.self.inside records by_height c.self.invariant c.reset_records.ensures c.reset_by_height.ensures.by_height)
+          (omega (arith, c.reset_by_height.ensures.len, ap (λ (r : Records). length r.shelves) c.reset_records.ensures, numbered-length (fresh_shelf frame) 0 frame.columns)));
       room = omega (
         arith,
         ap (λ (r : Records). length r.shelves) c.reset_records.ensures,
@@ -94,7 +101,7 @@ invariant_of-self c =
         numbered-length (fresh_shelf frame) 0 frame.columns,
         kept-shelf_records frame c.self.inside.records c.self.invariant.kept,
         c.self.invariant.room_to_note,
-        c.settle_notes.ensures.room,
+        c.settle_all_notes.ensures.room,
       );
       seconds = unknown-seconds frame records c.restart.new.self kept c.restart.ensures.unknown;
       counted = sym (ap (λ (s : AtlasState). items_in_use s.shelves) (made c) ∙ items_in_use-empty_columns frame 0 frame.columns);
