@@ -216,7 +216,10 @@ pub fn settle_shelves(
     ensures capacity { by_height.old.capacity ≤ by_height.new.capacity }
     ensures room { pending.new.room ≡ pending.old.room }
 {
-    if pending.parked_below() > 0 || pending.narrow_below() > 0 {
+    if pending.parked_below() > 0
+        || pending.narrow_below() > 0
+        || are_many(pending.len(), by_height.len())
+    {
         list_all(frame, records, by_height, pending);
         return;
     }
@@ -244,7 +247,8 @@ fn list_all(
     settle_notes(records, by_height, pending);
 }
 
-/// Makes the list follow what was noted. Never inlined, so that a search after which nothing changed costs no call.
+/// Makes the list follow what was noted. Where all shelves are listed anew their positions are kept, so that a return finds its
+/// own. Never inlined, so that a search after which nothing changed costs no call.
 #[inline(never)]
 fn settle_noted(
     frame: &Frame,
@@ -265,6 +269,7 @@ fn settle_noted(
 {
     if are_many(pending.len(), by_height.len()) {
         list_all(frame, records, by_height, pending);
+        by_height.keep_positions();
     } else {
         take_out_moved(records, by_height, pending);
         settle_each(frame, records, by_height, pending);
