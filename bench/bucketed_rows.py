@@ -100,6 +100,17 @@ def any_goes(_program):
     return full_shelves(), goes_and_comes([chooser.randrange(BUCKETS) for _ in range(ROUNDS)], BUCKETS, "a 16 8")
 
 
+def emptied(shelves):
+    """Full shelves of a bucket each, of which all but the last are emptied, in any order."""
+
+    def make(_program):
+        order = list(range(shelves - 1))
+        random.Random(5).shuffle(order)
+        return [f"bucketed 16 {8 * shelves} 1 1 1 h"] + ["a 16 8"] * shelves, [f"r {position}" for position in order]
+
+    return make
+
+
 def refused(_program):
     return full_shelves(), ["a 16 8"] * ROUNDS
 
@@ -127,6 +138,16 @@ def too_tall(_program):
 def cleared(_program):
     """An atlas is cleared and gets an item."""
     return ["bucketed 1024 64 1 1 1 h"], ["c", "a 757 17"] * ROUNDS
+
+
+def cleared_of_four(_program):
+    """An atlas is cleared and gets an item, with a shelf of four buckets."""
+    return ["bucketed 512 512 1 1 1 h"], ["c", "a 8 8"] * ROUNDS
+
+
+def cleared_empty(_program):
+    """An atlas without shelves, which is cleared again and again."""
+    return ["bucketed 1024 64 1 1 1 h"], ["c"] * ROUNDS
 
 
 def filled_anew(_program):
@@ -169,7 +190,10 @@ ROWS = {
     "the same with 128, any sixteen": Row(lambda _: some_of_row(128, 16), 588),
     "4095 full shelves: the first goes and comes": Row(first_goes, 158, before=26829),
     "the same, any": Row(any_goes, 49080, before=26829, most=MOST),
-    "the same, a refused size": Row(refused, 311351, before=82013, most=MOST),
+    # Counted likewise, as the next one.
+    "16 full shelves that are emptied in any order": Row(emptied(16), 86, before=136),
+    "4095 such shelves": Row(emptied(BUCKETS), 86, before=245),
+    "4095 full shelves: a refused size": Row(refused, 311351, before=82013, most=MOST),
     "the same, a merge looked for": Row(merge_looked_for, 204872, before=67679, most=MOST),
     "4095 shelves with little room: a wider item is refused": Row(narrow_rooms, 311349, most=MOST),
     "4095 shelves that are too tall: the same item comes and goes": Row(too_tall, 16626, most=MOST),
@@ -178,7 +202,9 @@ ROWS = {
     "4000 empty shelves: a narrower item comes and goes": Row(empty_shelves, 94132, before=88714, most=MOST),
     "4094 empty shelves: each item has two of them merged": Row(merges, 154910, before=118894, most=MOST),
     "an atlas is cleared and gets an item": Row(cleared, 167, before=1501),
-    "the same with 16 items that add a shelf each": Row(filled_anew, 438, before=772),
+    "the same with a shelf of four buckets": Row(cleared_of_four, 210, before=333),
+    "an atlas without shelves is cleared": Row(cleared_empty, 30, before=53),
+    "an atlas is cleared and gets 16 items that add a shelf each": Row(filled_anew, 438, before=772),
 }
 
 IN_THE_END = {

@@ -93,6 +93,24 @@ def drained(shelves, in_order):
     return make
 
 
+def drained_of_heights(shelves):
+    """Shelves of one item each, of five heights, that are drained in any order."""
+
+    def make(_program):
+        chooser = random.Random(shelves)
+        filling = ["atlas 16 8192 1 1 1 h"] + [f"a 16 {chooser.randrange(1, 40)}" for _ in range(shelves)]
+        order = list(range(shelves))
+        chooser.shuffle(order)
+        return filling, [f"r {position}" for position in order]
+
+    return make
+
+
+def cleared_empty(_program):
+    """An atlas of one column without items, which is cleared again and again."""
+    return ["atlas 1024 1024 1 1 1 h"], ["c"] * ROUNDS
+
+
 def first_ones_empty(shelves, empty):
     """Shelves of one item each, of two heights, of which the first go two at a time, and one behind them that splits and
     merges, meanwhile and after that.
@@ -176,6 +194,10 @@ ROWS = {
     "8000 shelves drained in order": Row(drained(8000, True), 146, before=4954),
     "16000 shelves drained in any order": Row(drained(16000, False), 141, before=7947),
     "32000 shelves drained in any order": Row(drained(32000, False), before=14068, most=600),
+    # Counted likewise, as the next two.
+    "100 shelves drained in any order": Row(drained(100, False), 143, before=242),
+    "100 shelves of five heights, the same": Row(drained_of_heights(100), 142, before=260),
+    "an atlas without items is cleared": Row(cleared_empty, 123, before=201),
     "4096 shelves, half of them empty: a split and a merge": Row(half_empty(16, 256), 26893, before=1754),
     "32000 such shelves": Row(half_empty(16, 2000), before=9120, most=600),
     "the same item alone: its shelf splits and merges": Row(same_item(0), 285, before=772),
