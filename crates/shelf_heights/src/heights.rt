@@ -3,7 +3,7 @@
 //! Definitions: `ByHeight`. Each shelf has beside it a width that none of its free items passes, so a search
 //! passes over a shelf by one comparison.
 
-ghost use Rattle.std.specs.Prelude.{◌≡◌, ◌+◌, ◌*◌, ◌<◌, ◌≤◌, ◌^◌, drop, insert, length, nat_lt, remove, take, true};
+ghost use Rattle.std.specs.Prelude.{◌≡◌, ◌+◌, ◌*◌, ◌<◌, ◌≤◌, ◌^◌, IfSome, IsFalse, IsTrue, drop, insert, length, nat_lt, remove, take, true};
 ghost use Rattle.std.specs.List.{AllByRecursion};
 ghost use Rattle.etagere_base.specs.Lists.{times};
 ghost use Rattle.etagere_links.specs.Links.{no_link};
@@ -489,6 +489,37 @@ pub fn raise(
 {
     let index = position_of(shelves, by_height, shelf);
     raise_at(by_height, index, width)
+}
+
+/// The same where it is known at once where the shelf stands, and says whether it is.
+pub fn raise_if_known(
+    shelves: &[LinkedShelf],
+    by_height: &mut ShelvesByHeight,
+    shelf: usize,
+    width: u16,
+) -> bool
+    requires order { AreInOrder shelves.now by_height.old.items }
+    ensures raised { IsTrue result → by_height.new.items ≡ spec.raised shelf width by_height.old.items }
+    ensures same { IsFalse result → by_height.new ≡ by_height.old }
+    ensures capacity { by_height.old.capacity ≤ by_height.new.capacity }
+{
+    let Some(index) = known_position(by_height, shelf) else {
+        return false;
+    };
+    raise_at(by_height, index, width);
+    true
+}
+
+/// Where a shelf stands, if that is where it did last time, or beside that.
+#[inline(always)]
+fn known_position(by_height: &ShelvesByHeight, shelf: usize) -> Option<usize>
+    ensures { IfSome result (λ index. (index < length by_height.now.items)
+        × ((spec.bounded_at by_height.now.items index).shelf ≡ shelf)) }
+{
+    match by_height.kept_position(shelf) {
+        Some(index) => Some(index),
+        None => by_height.beside_kept(shelf),
+    }
 }
 
 /// Raises the bound of the shelf at this position to this width, where it is less, and gives what it was.

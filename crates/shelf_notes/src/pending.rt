@@ -129,7 +129,7 @@ impl PendingShelves {
             noted,
             parked_below: 0,
             narrow_below: 0,
-            searches: 0,
+            searches: MOST_SEARCHES,
             watch: UNWATCHED,
         })
     }
@@ -187,6 +187,11 @@ impl PendingShelves {
         ensures tied { AreTied self.now.notes }
     {
         self.noted.len()
+    }
+
+    /// Whether no search was counted since some were noted.
+    pub fn are_unsearched(&self) -> bool {
+        self.searches == 0
     }
 
     /// Counts a search, and says how many were counted before it since a shelf has changed, up to `MOST_SEARCHES`.
@@ -430,6 +435,7 @@ impl PendingShelves {
     {
         self.parked_below = 0;
         self.narrow_below = 0;
+        self.searches = MOST_SEARCHES;
         self.noted.clear();
         copy_all(&mut self.kept, shelves);
         know_all(&mut self.standing, shelves.len(), known);

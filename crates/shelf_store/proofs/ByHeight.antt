@@ -4,6 +4,7 @@ pub mod Followed
 pub mod FreedBounds
 pub mod FreedByHeight
 pub mod KeptSeconds
+pub mod LateNotes
 pub mod LaterNotes
 pub mod MergedByHeight
 pub mod MetShelves

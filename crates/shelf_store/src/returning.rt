@@ -21,7 +21,7 @@ ghost use Rattle.shelf_records.specs.Records.{shelf_chain};
 
 use etagere_links::Link;
 use shelf_heights::by_height::ShelvesByHeight;
-use shelf_heights::heights::raise;
+use shelf_heights::heights::{raise, raise_if_known};
 use shelf_notes::pending::PendingShelves;
 use shelf_notes::second_widths::SecondWidths;
 use shelf_records::{LinkedItem, LinkedShelf, Records};
@@ -37,7 +37,7 @@ struct Merged {
 }
 
 /// Frees the item of this number, which is allocated in this shelf, merges what is free with its neighbours, and
-/// answers how many item records became unused. The bound of its shelf rises, unless that is noted by then. Where the item
+/// answers how many item records became unused. The bound of its shelf rises, unless that is noted then. Where the item
 /// stands alone then, the second width of its shelf stays as it was: of one free item any is right.
 pub fn return_item(
     records: &mut Records,
@@ -54,8 +54,8 @@ pub fn return_item(
         pending.old.notes by_height.old.items }
     ensures records { records.new ≡ returned.item_returned number records.old }
     ensures by_height { by_height.new.items
-        ≡ noting.returned_by_height number records.old pending.old.notes by_height.old.items }
-    ensures notes { pending.new.notes ≡ noting.returned_notes number records.old pending.old.notes }
+        ≡ noting.list_returned number records.old pending.new.notes by_height.old.items }
+    ensures notes { noting.AreReturnedNotes number records.old pending.old.notes pending.new.notes }
     ensures seconds { seconds.new
         ≡ returned_seconds number records.old pending.old.notes by_height.old.items seconds.old }
     ensures room { pending.new.room ≡ pending.old.room }
@@ -79,24 +79,34 @@ pub fn return_item(
 }
 
 /// Raises the bound of a shelf to this width, where it is less. One that has changed is put in anew, with a bound of its
-/// own. Always inlined: a call took more than what it does there.
+/// own. Where others were noted since the last search, and it isn't known where this one stands, it is noted too: the next
+/// search has the list follow anyway. Always inlined: a call took more than what it does there.
 #[inline(always)]
 fn raise_unless_noted(
     by_height: &mut ShelvesByHeight,
-    pending: &PendingShelves,
+    pending: &mut PendingShelves,
     shelf: usize,
     width: u16,
 )
-    requires known { shelf < length pending.now.notes.standing }
-    requires order { AreInOrder pending.now.notes.kept by_height.old.items }
-    requires stands { is_noted pending.now.notes shelf ≡ false
+    requires known { shelf < length pending.old.notes.standing }
+    requires order { AreInOrder pending.old.notes.kept by_height.old.items }
+    requires stands { is_noted pending.old.notes shelf ≡ false
         → 1 ≤ times shelf (numbers_by_height by_height.old.items) }
     ensures by_height { by_height.new.items
-        ≡ noting.raised_unless (is_noted pending.now.notes shelf) shelf width by_height.old.items }
+        ≡ noting.raised_unless (is_noted pending.new.notes shelf) shelf width by_height.old.items }
+    ensures notes { noting.IsNotedLate shelf pending.old.notes pending.new.notes }
+    ensures room { pending.new.room ≡ pending.old.room }
     ensures capacity { by_height.old.capacity ≤ by_height.new.capacity }
 {
-    if !pending.is_noted(shelf) {
+    if pending.is_noted(shelf) {
+        return;
+    }
+    if !pending.are_unsearched() {
         raise(pending.kept(), by_height, shelf, width);
+        return;
+    }
+    if !raise_if_known(pending.kept(), by_height, shelf, width) {
+        pending.note(shelf, true);
     }
 }
 

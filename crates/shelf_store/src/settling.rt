@@ -109,6 +109,7 @@ fn settle_changed_unless_few(
         return false;
     }
     settle_for(frame, records, by_height, pending, width);
+    pending.count_search();
     true
 }
 

@@ -43,7 +43,7 @@ unnoted-written (x ∷ xs) zero (suc k) one so none = none
 unnoted-written (x ∷ xs) (suc shelf) zero one so none = none
 unnoted-written (x ∷ xs) (suc shelf) (suc k) one so none = unnoted-written xs shelf k one so none
 
-noted-later : (notes : Notes) (shelf : ℕ) (in_use : Bool) → AreLater notes (noted_as shelf in_use notes)
+pub noted-later : (notes : Notes) (shelf : ℕ) (in_use : Bool) → AreLater notes (noted_as shelf in_use notes)
 noted-later notes shelf in_use =
     let one : Standing = record (standing_at notes.standing shelf) { in_use = in_use; noted = true; parked = false } in
     record {

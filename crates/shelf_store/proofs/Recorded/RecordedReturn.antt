@@ -18,8 +18,9 @@ use Rattle.shelf_store.specs.Private.Settling.{AreByHeightExceptNoted}
 use Rattle.shelf_notes.specs.Private.Pending.{Notes, is_noted, is_parked, is_in_use}
 use Rattle.shelf_store.specs.Private.ItemReturned.{CanReturn, item_returned, unused_by}
 use Rattle.shelf_records.specs.Private.Kept.{AreKept, bare, state_of}
-use Rattle.shelf_store.specs.Private.ReturnedNotes.{CanReturnByHeight, freed_width, returned_by_height, returned_notes}
+use Rattle.shelf_store.specs.Private.ReturnedNotes.{AreReturnedNotes, CanReturnByHeight, freed_width, list_returned, returned_notes}
 use Rattle.shelf_store.specs.Private.SecondWidths.{AreSeconds, returned_seconds}
+use Rattle.shelf_store.proofs.ByHeight.LateNotes.{late-holds}
 use Rattle.shelf_store.proofs.ByHeight.LaterNotes.{returned-later}
 use Rattle.shelf_store.proofs.ByHeight.NumberedShelves.{IsBoundOf}
 use Rattle.shelf_records.specs.Private.Reading.{record_of, recorded_area}
@@ -84,10 +85,20 @@ after-return frame records new id number made_unused area kept named made counts
     (item_returned-after frame records id number kept named)))
 
 -- the shelves stand by height after a return, but for those that have changed
-pub by_height-after : (frame : Frame) (records : Records) (notes : Notes) (by_height : List BoundedShelf) (id number : ℕ) → AreKept frame records → is_parked notes (shelf_of records.items number) ≡ false → AreByHeightExceptNoted frame records notes by_height → record_of records.items id ≡ Some number
+by_height-after : (frame : Frame) (records : Records) (notes : Notes) (by_height : List BoundedShelf) (id number : ℕ) → AreKept frame records → is_parked notes (shelf_of records.items number) ≡ false → AreByHeightExceptNoted frame records notes by_height → record_of records.items id ≡ Some number
     → AreByHeightExceptNoted frame (item_returned number records) (returned_notes number records notes)
-    (returned_by_height number records notes by_height)
+    (list_returned number records (returned_notes number records notes) by_height)
 by_height-after frame records notes by_height id number kept unparked are named = (returns-item frame records number kept (record-marked records.items id number named).0).by_height notes by_height unparked are
+
+-- the same where its shelf may be noted too
+pub list-after : (frame : Frame) (records : Records) (notes new : Notes) (by_height : List BoundedShelf) (id number : ℕ) → AreKept frame records → is_parked notes (shelf_of records.items number) ≡ false → AreByHeightExceptNoted frame records notes by_height → record_of records.items id ≡ Some number
+    → AreReturnedNotes number records notes new → AreByHeightExceptNoted frame (item_returned number records) new (list_returned number records new by_height)
+list-after frame records notes new by_height id number kept unparked are named noted =
+    let shelf : ℕ = shelf_of records.items number in
+    let can = (returns-item frame records number kept (record-marked records.items id number named).0).can_by_height notes by_height unparked are in
+    late-holds (bare frame (item_returned number records)) (walked_lists (item_returned number records)).entries (returned_notes number records notes) new shelf (freed_width records.items number) by_height
+    (λ later. can.stands ((returned-later number records notes).before shelf later)) noted
+    (by_height-after frame records notes by_height id number kept unparked are named)
 
 -- the shelf of the item of the record that an id names is in use
 pub return-in_use : (frame : Frame) (records : Records) (notes : Notes) (by_height : List BoundedShelf) (id number : ℕ) → AreKept frame records → AreByHeightExceptNoted frame records notes by_height → record_of records.items id ≡ Some number

@@ -30,7 +30,7 @@ use Rattle.shelf_notes.specs.Private.Pending.{Notes, is_in_use, is_noted, is_par
 use Rattle.shelf_notes.specs.Private.SecondWidths.{second_at}
 use Rattle.shelf_records.specs.Private.Kept.{AreKept, atlas_of, bare, state_of}
 use Rattle.shelf_records.proofs.Spelled.Witnessed.{HasFlag, IsPlaced}
-use Rattle.shelf_store.specs.Private.ReturnedNotes.{CanReturnByHeight, freed_width, raised_unless, returned_by_height, returned_notes, shelves_merged_notes}
+use Rattle.shelf_store.specs.Private.ReturnedNotes.{CanReturnByHeight, freed_width, list_returned, raised_unless, returned_notes, shelves_merged_notes}
 use Rattle.shelf_model.specs.Returning.{freed_shelf, returned}
 use Rattle.shelf_model.specs.State.{Shelf, AtlasState, is_empty, items_in_use}
 use Rattle.shelf_records.specs.StandsFor.{HasCounts}
@@ -140,7 +140,7 @@ pub record ReturnsItem (frame : Frame) (records : Records) (number : ℕ) : Type
   pub by_height :
       (notes : Notes) (by_height : List BoundedShelf) → is_parked notes (shelf_of records.items number) ≡ false → AreByHeightExceptNoted frame records notes by_height
       → AreByHeightExceptNoted frame (item_returned number records) (returned_notes number records notes)
-      (returned_by_height number records notes by_height)
+      (list_returned number records (returned_notes number records notes) by_height)
   pub seconds : ReturnsSeconds frame records (walked_lists records).entries (item_returned number records) (walked_lists (item_returned number records)).entries (shelf_of records.items number) (freed_width records.items number)
       (stands_alone (shelf_of records.items number) number records)
 

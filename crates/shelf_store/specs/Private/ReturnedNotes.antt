@@ -1,6 +1,6 @@
 -- What the steps of a return note beside the list of shelves by height: of two shelves that merge the later goes out of use,
 -- and the other changes. The bound of the item's shelf rises to what became free, unless that is to be put in anew.
-use Rattle.std.specs.Prelude.{◌≡◌, ℕ, ◌+◌, ◌<◌, ◌≤◌, Bool, true, false, Option, None, Some, List, length, if◌then◌else◌}
+use Rattle.std.specs.Prelude.{◌≡◌, ℕ, ◌+◌, ◌<◌, ◌≤◌, ◌⊎◌, Bool, true, false, Option, None, Some, List, length, if◌then◌else◌}
 use Rattle.etagere_base.specs.Lists.{times}
 use Rattle.shelf_records.specs.declared.records.LinkedItem.{LinkedItem}
 use Rattle.etagere_links.specs.Edits.{link_at}
@@ -63,11 +63,21 @@ returned_notes number records notes =
     let shelf = shelf_of records.items number in
     shelves_merged_notes shelf (emptiness_said shelf (item_merged shelf number records).records) notes
 
--- the list after the item of a number was returned: the bound of its shelf is raised, unless that has changed by then
-abbrev pub returned_by_height : ℕ → Records → Notes → List BoundedShelf → List BoundedShelf
-returned_by_height number records notes by_height =
+-- a shelf that hasn't changed may be noted
+abbrev pub IsNotedLate : ℕ → Notes → Notes → Type 0
+IsNotedLate shelf notes new =
+    (new ≡ notes) ⊎ ((is_noted notes shelf ≡ false) × (new ≡ noted_as shelf true notes))
+
+-- what may be noted after the item of a number was returned: its shelf too
+abbrev pub AreReturnedNotes : ℕ → Records → Notes → Notes → Type 0
+AreReturnedNotes number records notes new =
+    IsNotedLate (shelf_of records.items number) (returned_notes number records notes) new
+
+-- the list after the item of a number was returned: the bound of its shelf is raised, unless that is noted then
+abbrev pub list_returned : ℕ → Records → Notes → List BoundedShelf → List BoundedShelf
+list_returned number records new by_height =
     let shelf = shelf_of records.items number in
-    raised_unless (is_noted (returned_notes number records notes) shelf) shelf (freed_width records.items number) by_height
+    raised_unless (is_noted new shelf) shelf (freed_width records.items number) by_height
 
 -- all that merging a shelf with the next one reads is there, and an entry for each shelf
 pub record CanMergeNotes (shelf : ℕ) (records : Records) (notes : Notes) : Type 0 where

@@ -1,4 +1,4 @@
-use Rattle.std.proofs.Common.{◌≡◌, ℕ, ◌<◌, Bool, true, false, None, List, get_or, length, refl, ap, sym, arith, ◌∙◌}
+use Rattle.std.proofs.Common.{◌≡◌, ℕ, ◌<◌, Bool, true, false, None, List, get_or, length, inl, refl, ap, subst, sym, arith, ◌∙◌}
 use Rattle.std.specs.Prelude.{if◌then◌else◌}
 use Rattle.shelf_records.specs.declared.records.LinkedItem.{LinkedItem}
 use Rattle.shelf_records.specs.declared.records.LinkedShelf.{LinkedShelf}
@@ -10,7 +10,7 @@ use Rattle.etagere_links.proofs.FieldChanges.{field_at-within}
 use Rattle.shelf_notes.specs.Private.Pending.{Notes, is_noted}
 use Rattle.shelf_heights.specs.declared.by_height.BoundedShelf.{BoundedShelf}
 use Rattle.shelf_store.specs.Private.ItemReturned.{emptiness_said, has_one_free, item_merged, merged_width}
-use Rattle.shelf_store.specs.Private.ReturnedNotes.{freed_width, raised_unless, returned_by_height, returned_notes, shelves_merged_notes}
+use Rattle.shelf_store.specs.Private.ReturnedNotes.{IsNotedLate, freed_width, list_returned, raised_unless, returned_notes, shelves_merged_notes}
 use Rattle.shelf_store.specs.Private.SecondWidths.{returned_seconds, seconds_after, stands_alone}
 use Rattle.shelf_store.proofs.ByHeight.LaterNotes.{returned-later}
 use Rattle.shelf_store.proofs.Spelled.NotEmptied.{StaysInUse, stays-in-use}
@@ -47,13 +47,12 @@ wide c =
     ∙ c.requires.by_height.width
 
 -- so the bound that rises is that of the item's shelf, and it rises to what becomes free
-rises : (shelf number width : ℕ) (records : Records) (notes before : Notes) (by_height new : List BoundedShelf) → new ≡ raised_unless (is_noted notes shelf) shelf width by_height → shelf ≡ shelf_of records.items number → width ≡ freed_width records.items number → notes ≡ returned_notes number records before
-    → new ≡ returned_by_height number records before by_height
-rises shelf number width records notes before by_height new raises own wide noted =
+rises : (shelf number width : ℕ) (records : Records) (notes : Notes) (by_height new : List BoundedShelf) → new ≡ raised_unless (is_noted notes shelf) shelf width by_height → shelf ≡ shelf_of records.items number → width ≡ freed_width records.items number
+    → new ≡ list_returned number records notes by_height
+rises shelf number width records notes by_height new raises own wide =
     raises
     ∙ ap (λ s. raised_unless (is_noted notes s) s width by_height) own
     ∙ ap (λ w. raised_unless (is_noted notes (shelf_of records.items number)) (shelf_of records.items number) w by_height) wide
-    ∙ ap (λ (n : Notes). raised_unless (is_noted n (shelf_of records.items number)) (shelf_of records.items number) (freed_width records.items number) by_height) noted
 
 -- and where others are free beside it the width that is kept of it is kept anew
 keeps : (shelf number width : ℕ) (records : Records) (notes before : Notes) (by_height : List BoundedShelf) (seconds new : List ℕ) → new ≡ seconds_after (is_noted notes shelf) shelf width by_height seconds → shelf ≡ shelf_of records.items number → width ≡ freed_width records.items number → notes ≡ returned_notes number records before → stands_alone (shelf_of records.items number) number records ≡ false
@@ -111,9 +110,8 @@ returns-then-is_alone-clause-records c =
 pub returns-then-is_alone-clause-by_height : goal.returns-then-is_alone-clause-by_height
 returns-then-is_alone-clause-by_height c =
     let at = goal.at.returns-then-is_alone-clause-by_height c in
-    rises c.args.shelf c.args.number (get_or c.items-items.result.now c.merge_item-merged.result.item c.index-items-merged.result).width c.args.records.now c.merge_shelves-made_unused.new.pending.notes c.args.pending.now.notes c.args.by_height.now.items c.raise_unless_noted.new.by_height.items
+    rises c.args.shelf c.args.number (get_or c.items-items.result.now c.merge_item-merged.result.item c.index-items-merged.result).width c.args.records.now c.raise_unless_noted.new.pending.notes c.args.by_height.now.items c.raise_unless_noted.new.by_height.items
     c.raise_unless_noted.ensures.by_height c.requires.shelf (wide at.After-index-items-merged)
-    (noted at.After-set_empty_present c.merge_shelves-made_unused.new.pending.notes (emptied at.After-is_alone ∙ c.if-is_alone.true) c.merge_shelves-made_unused.ensures.notes)
 
 pub returns-then-is_alone-clause-seconds : goal.returns-then-is_alone-clause-seconds
 returns-then-is_alone-clause-seconds c =
@@ -124,7 +122,12 @@ returns-then-is_alone-clause-seconds c =
 pub returns-then-is_alone-clause-notes : goal.returns-then-is_alone-clause-notes
 returns-then-is_alone-clause-notes c =
     let at = goal.at.returns-then-is_alone-clause-notes c in
-    noted at.After-set_empty_present c.merge_shelves-made_unused.new.pending.notes (emptied at.After-is_alone ∙ c.if-is_alone.true) c.merge_shelves-made_unused.ensures.notes
+    let merged : Notes = c.merge_shelves-made_unused.new.pending.notes in
+    let new : Notes = c.raise_unless_noted.new.pending.notes in
+    let is : merged ≡ returned_notes c.args.number c.args.records.now c.args.pending.now.notes =
+    noted at.After-set_empty_present merged (emptied at.After-is_alone ∙ c.if-is_alone.true) c.merge_shelves-made_unused.ensures.notes in
+    subst (λ (n : Notes). IsNotedLate (shelf_of c.args.records.now.items c.args.number) n new) is
+    (subst (λ (s : ℕ). IsNotedLate s merged new) c.requires.shelf c.raise_unless_noted.ensures.notes)
 
 pub returns-then-is_alone-clause-made_unused : goal.returns-then-is_alone-clause-made_unused
 returns-then-is_alone-clause-made_unused c =
@@ -150,9 +153,8 @@ returns-else-is_alone-clause-records c =
 pub returns-else-is_alone-clause-by_height : goal.returns-else-is_alone-clause-by_height
 returns-else-is_alone-clause-by_height c =
     let at = goal.at.returns-else-is_alone-clause-by_height c in
-    let still = stays at.After-is_alone c.if-is_alone.false in
-    rises c.args.shelf c.args.number (get_or c.items-items.result.now c.merge_item-merged.result.item c.index-items-merged.result).width c.args.records.now c.args.pending.now.notes c.args.pending.now.notes c.args.by_height.now.items c.raise_both.new.by_height.items
-    c.raise_both.ensures.by_height c.requires.shelf (wide at.After-index-items-merged) (sym (still.unnoted c.args.pending.now.notes))
+    rises c.args.shelf c.args.number (get_or c.items-items.result.now c.merge_item-merged.result.item c.index-items-merged.result).width c.args.records.now c.args.pending.now.notes c.args.by_height.now.items c.raise_both.new.by_height.items
+    c.raise_both.ensures.by_height c.requires.shelf (wide at.After-index-items-merged)
 
 pub returns-else-is_alone-clause-seconds : goal.returns-else-is_alone-clause-seconds
 returns-else-is_alone-clause-seconds c =
@@ -165,7 +167,7 @@ returns-else-is_alone-clause-seconds c =
 pub returns-else-is_alone-clause-notes : goal.returns-else-is_alone-clause-notes
 returns-else-is_alone-clause-notes c =
     let still = stays (goal.at.returns-else-is_alone-clause-notes c).After-is_alone c.if-is_alone.false in
-    sym (still.unnoted c.args.pending.now.notes)
+    inl (sym (still.unnoted c.args.pending.now.notes))
 
 pub returns-else-is_alone-clause-made_unused : goal.returns-else-is_alone-clause-made_unused
 returns-else-is_alone-clause-made_unused c =

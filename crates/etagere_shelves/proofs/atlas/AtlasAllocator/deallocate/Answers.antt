@@ -13,7 +13,7 @@ use Rattle.shelf_model.specs.State.{AtlasState}
 use Rattle.shelf_model.proofs.Allocations.SeenById.{takes-away, undoes}
 use Rattle.shelf_model.proofs.Promises.{promises}
 use Rattle.shelf_store.proofs.Recorded.RecordedArea.{kept-area}
-use Rattle.shelf_store.proofs.Recorded.RecordedReturn.{AfterReturn, after-return, can-return, by_height-after, seconds-after-return, return-in_use}
+use Rattle.shelf_store.proofs.Recorded.RecordedReturn.{AfterReturn, after-return, can-return, list-after, seconds-after-return, return-in_use}
 use Rattle.shelf_records.proofs.Recorded.RecordsOfIds.{kept-allocated, kept-shelf, marked-within, record-marked}
 use Rattle.shelf_model.proofs.Returned.Restored.{returned-restores}
 use Rattle.shelf_store.proofs.Spelled.ReturnedLengths.{returned-lengths}
@@ -94,8 +94,9 @@ invariant_of-self c =
     let listed = again inside c.args.id c.in-Some.number c.unpark.new.self.notes c.self.invariant (sym c.number_of.ensures ∙ c.in-Some.is) (c.unpark.ensures.notes ∙ ap (λ n. unparked n inside.pending.notes) c.recorded_shelf-shelf.ensures) in
     record {
       kept = done.kept;
-      by_height = rw (c.return_item.ensures.records, c.return_item.ensures.by_height, c.return_item.ensures.notes)
-          (by_height-after c.self.inside.frame c.self.inside.records c.unpark.new.self.notes c.self.inside.by_height.items c.args.id c.in-Some.number c.self.invariant.kept listed.1 listed.0 (sym c.number_of.ensures ∙ c.in-Some.is));
+      by_height = rw (c.return_item.ensures.records, c.return_item.ensures.by_height)
+          (list-after c.self.inside.frame c.self.inside.records c.unpark.new.self.notes c.return_item.new.pending.notes c.self.inside.by_height.items c.args.id c.in-Some.number c.self.invariant.kept listed.1 listed.0 (sym c.number_of.ensures ∙ c.in-Some.is)
+          c.return_item.ensures.notes);
       room = omega (
         arith,
         ap (λ (r : Records). length r.shelves) c.return_item.ensures.records,
