@@ -223,6 +223,7 @@ carry-counted Before After blocks xs ys carried counted = record {
   each = carry-known Before After blocks xs ys carried counted.each;
   others = carry-others Before After blocks.others xs ys carried counted.others;
   own = counted.own;
+  nested = counted.nested;
 }
 
 -- all that is known of shelves is known of others, whose heights are in steps too
@@ -322,6 +323,7 @@ known-added one blocks shelves known = record {
           each = known-expecting one.shelf.height blocks (shelves ++ one ∷ []) more.each;
           others = more.others;
           own = record { small = more.own.small; middle = more.own.middle; large = more.own.large };
+          nested = more.nested;
         }
 
 -- the same by the shelves after a push that went well
@@ -356,58 +358,6 @@ known-at k before blocks shelves at known counts = own (known.counted counts)
       };
       beside = λ some. counted.others some k before tt at;
     }
-
--- a shelf of a block of a number is known to what was counted of that
-abbrev pub IsCounted : ℕ → Block → List KeptShelf → Type 0
-IsCounted n block shelves = (number : ℕ) (kept : KeptShelf) → 8 * n ≤ number → number < 8 * n + 8 → slice_get shelves number ≡ Some kept → IsKnown kept block
-
--- shelves of three small blocks are known to what was counted of these
-pub known-counted : (first second third : Block) (blocks : Blocks) (shelves : List KeptShelf) → length shelves ≤ 24 → IsCounted 0 first shelves → IsCounted 1 second shelves → IsCounted 2 third shelves
-    → AreKnownOf (λ n. Unit {0}) 8 (changed_by (Some 2) (λ _. third) (changed_by (Some 1) (λ _. second) (changed_by (Some 0) (λ _. first) blocks.small))) shelves
-    × AreKnownOf (λ n. Unit {0}) 64 (changed_by (Some 0) (λ _. joined (joined first second) third) blocks.middle) shelves
-    × AreKnownOf (λ n. Unit {0}) 512 (changed_by (Some 0) (λ _. joined (joined first second) third) blocks.large) shelves
-known-counted first second third blocks shelves few low next high = (small, whole 64 blocks.middle (λ number below. omega (arith, below)), whole 512 blocks.large (λ number below. omega (arith, below)))
-  where
-    all : Block
-    all = joined (joined first second) third
-
-    small : AreKnownOf (λ n. Unit {0}) 8 (changed_by (Some 2) (λ _. third) (changed_by (Some 1) (λ _. second) (changed_by (Some 0) (λ _. first) blocks.small))) shelves
-    small number kept block any at in_block =
-        let within = slice_get_within shelves number kept at in
-        read-changed (λ _. third) (changed_by (Some 1) (λ _. second) (changed_by (Some 0) (λ _. first) blocks.small)) 2 (block_of 8 number) block in_block
-        (λ z stood same is. subst (IsKnown kept) (sym is) (high number kept (omega (arith, same)) (omega (arith, within, few)) at))
-        (λ past there.
-        read-changed (λ _. second) (changed_by (Some 0) (λ _. first) blocks.small) 1 (block_of 8 number) block there
-        (λ z stood same is. subst (IsKnown kept) (sym is) (next number kept (omega (arith, same)) (omega (arith, same)) at))
-        (λ apart stood.
-        read-changed (λ _. first) blocks.small 0 (block_of 8 number) block stood
-        (λ z stood same is. subst (IsKnown kept) (sym is) (low number kept (omega arith) (omega (arith, same)) at)) (λ other stood. absurd (omega (arith, past, apart, other, within, few)))))
-
-    -- what is known of a part is known of all
-    same : (block : Block) → IsPart block block
-    same block = record { room = omega arith; idle = λ h. h }
-
-    any : (number : ℕ) (kept : KeptShelf) → slice_get shelves number ≡ Some kept → IsKnown kept all
-    any number kept at = by_half (nat_le 16 number) refl
-      where
-        by_low : (t : Bool) → nat_le 8 number ≡ t → number < 16 → IsKnown kept all
-        by_low true e below =
-            known-part kept second all (next number kept (leb-true 8 number e) (omega (arith, below)) at)
-            (part-still second (joined first second) third (part-own first second))
-        by_low false e below =
-            known-part kept first all (low number kept (omega arith) (omega (arith, leb-false 8 number e)) at)
-            (part-still first (joined first second) third (part-still first first second (same first)))
-
-        by_half : (t : Bool) → nat_le 16 number ≡ t → IsKnown kept all
-        by_half true e =
-            let within = slice_get_within shelves number kept at in
-            known-part kept third all (high number kept (omega (arith, leb-true 16 number e)) (omega (arith, within, few)) at) (part-own (joined first second) third)
-        by_half false e = by_low (nat_le 8 number) refl (omega (arith, leb-false 16 number e))
-
-    whole : (size : ℕ) (bs : List Block) → ((number : ℕ) → number < 24 → block_of size number ≡ 0) → AreKnownOf (λ n. Unit {0}) size (changed_by (Some 0) (λ _. all) bs) shelves
-    whole size bs zero_ number kept block such at in_block =
-        read-changed (λ _. all) bs 0 (block_of size number) block in_block (λ z stood is_first is. subst (IsKnown kept) (sym is) (any number kept at))
-        (λ apart stood. absurd (apart (zero_ number (omega (arith, slice_get_within shelves number kept at, few)))))
 
 -- how tall a shelf is that was read
 pub height-read : (shelves : List KeptShelf) (number : ℕ) (kept : KeptShelf) → slice_get shelves number ≡ Some kept → kept.shelf.height ≡ height_at shelves number
@@ -465,4 +415,5 @@ known-with k one blocks shelves here own known = record { counted = λ counts. a
           by_other number kept at (λ same shelf. subst (λ (n : ℕ). IsBeside blocks.others n kept) (sym same) (subst (IsBeside blocks.others k) shelf (own.beside some)))
           (λ other. counted.others some number kept other at);
       own = counted.own;
+      nested = counted.nested;
     }

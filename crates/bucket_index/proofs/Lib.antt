@@ -6,6 +6,7 @@ pub mod KnownSpans
 pub mod LimitedWaste
 pub mod LinkedRecords
 pub mod MissedShelves
+pub mod NestedBlocks
 pub mod OtherShelves
 pub mod PassedShelves
 pub mod RestOfRows

@@ -9,12 +9,9 @@ use Rattle.bucketed_records.specs.Private.Store.{is_kept_idle}
 use Rattle.bucket_index.specs.declared.blocks.Block.{Block}
 use Rattle.bucket_index.specs.declared.blocks.Blocks.{Blocks}
 use Rattle.bucket_index.specs.declared.blocks.Others.{Others}
-use Rattle.bucket_index.specs.Private.Blocks.{AreCountedWhere, AreKnownIf, AreKnownOf, AreKnownWhere, AreOthers, IsBeside, IsBesideOf, IsFollowed, IsKnown, IsKnownOf, IsOwnKnown, IsOwnOf, IsPart, block_at, block_of, lowered, no_others, no_shelves, raised, remembered, remembered_others, with_own, with_shelf}
+use Rattle.bucket_index.specs.Private.Blocks.{AreCountedWhere, AreKnownIf, AreKnownOf, AreKnownWhere, AreOthers, IsBeside, IsBesideOf, IsFollowed, IsKnown, IsKnownOf, IsOwnKnown, IsOwnOf, IsPart, block_at, block_of, kept_others, lowered, no_others, no_shelves, raised, remembered, remembered_others, with_own, with_shelf}
 use Rattle.bucket_index.proofs.KnownBlocks.{known-own, known-part, known-still, raise-known, read-changed, some-same}
-
--- each block knows nothing
-pub part-none : (block : Block) → IsPart no_shelves block
-part-none block = record { room = omega arith; idle = λ h. absurd (cc) }
+use Rattle.bucket_index.proofs.NestedBlocks.{nested-kept, nested-lowered, nested-none, nested-own, nested-raised, nested-remembered, own-nested, part-none}
 
 -- a block that was counted with a shelf knows it
 part-shelf : (kept : KeptShelf) (block : Block) → IsPart (with_shelf kept no_shelves) (with_shelf kept block)
@@ -79,13 +76,17 @@ own-raised k one blocks same = record { small = of_size 8 blocks.small; middle =
 
 -- all are known to the blocks of a shelf that was raised
 pub raise-counted : (k room : ℕ) (one : KeptShelf) (blocks : Blocks) (shelves : List KeptShelf) → length blocks.small ≡ 512 → length blocks.middle ≡ 64 → length blocks.large ≡ 8
-    → slice_get shelves k ≡ Some one → AreCountedWhere (λ n. n ≡ k → ⊥) blocks shelves → AreCountedWhere (λ n. Unit {0}) (with_own one (raised k one (remembered k room blocks))) shelves
-raise-counted k room one blocks shelves long wide few here counted = record {
+    → slice_get shelves k ≡ Some one → k < blocks.nested → AreCountedWhere (λ n. n ≡ k → ⊥) blocks shelves
+    → AreCountedWhere (λ n. Unit {0}) (with_own one (raised k one (remembered k room blocks))) shelves
+raise-counted k room one blocks shelves long wide few here within counted = record {
   each = record { small = each.small; middle = each.middle; large = each.large };
   others = λ some number kept any at.
       let beside = others-kept k room blocks shelves long wide few counted some number kept any at in
       record { small = beside.small; middle = beside.middle; large = beside.large };
   own = own-raised k one (remembered k room blocks) (remembered-number k room blocks);
+  nested =
+      nested-own one (raised k one (remembered k room blocks))
+      (nested-raised k one (remembered k room blocks) long wide few (λ _. remembered-number k room blocks) (nested-remembered k room blocks within counted.nested));
 }
   where
     before : AreKnownWhere (λ n. n ≡ k → ⊥) (remembered k room blocks) shelves
@@ -94,10 +95,40 @@ raise-counted k room one blocks shelves long wide few here counted = record {
     each : AreKnownWhere (λ n. Unit {0}) (raised k one (remembered k room blocks)) shelves
     each = raise-known (λ n. n ≡ k → ⊥) (λ n. Unit {0}) k one (remembered k room blocks) shelves here (λ n any other. other) before
 
+-- the same where nothing is kept of others
+pub raise-without : (k : ℕ) (one : KeptShelf) (blocks : Blocks) (shelves : List KeptShelf) → length blocks.small ≡ 512 → length blocks.middle ≡ 64 → length blocks.large ≡ 8 → slice_get shelves k ≡ Some one
+    → AreCountedWhere (λ n. n ≡ k → ⊥) blocks shelves → AreCountedWhere (λ n. Unit {0}) (raised k one (record blocks { others = no_others })) shelves
+raise-without k one blocks shelves long wide few here counted = record {
+  each = raise-known (λ n. n ≡ k → ⊥) (λ n. Unit {0}) k one (record blocks { others = no_others }) shelves here (λ n any other. other)
+      (record { small = counted.each.small; middle = counted.each.middle; large = counted.each.large });
+  others = λ some. absurd (omega (arith, some));
+  own = record { small = λ block at. part-none block; middle = λ block at. part-none block; large = λ block at. part-none block };
+  nested =
+      nested-raised k one (record blocks { others = no_others }) long wide few (λ some. absurd (omega (arith, some)))
+      (nested-none blocks.nested blocks.small blocks.middle blocks.large blocks.others counted.nested);
+}
+
+-- all are known where the blocks of a shelf are kept as they stand, whose small one knows it
+pub kept-counted : (k room : ℕ) (blocks : Blocks) (shelves : List KeptShelf) → length blocks.small ≡ 512 → length blocks.middle ≡ 64 → length blocks.large ≡ 8 → k < blocks.nested
+    → AreCountedWhere (λ n. n ≡ k → ⊥) blocks shelves → AreCountedWhere (λ n. n ≡ k → ⊥) (kept_others k room blocks) shelves
+kept-counted k room blocks shelves long wide few within counted = record {
+  each = record { small = counted.each.small; middle = counted.each.middle; large = counted.each.large };
+  others = λ some number kept other at. record {
+    small = kept-of 8 k blocks.small shelves (omega (arith, some, long)) counted.each.small number kept at;
+    middle = kept-of 64 k blocks.middle shelves (omega (arith, some, wide)) counted.each.middle number kept at;
+    large = kept-of 512 k blocks.large shelves (omega (arith, some, few)) counted.each.large number kept at;
+  };
+  own =
+      let own = own-nested k blocks within counted.nested in
+      record { small = own.0; middle = own.1; large = own.2 };
+  nested = nested-kept k room blocks within counted.nested;
+}
+
 -- such shelves are known to the blocks of one that are known by the others and it
-pub lower-counted : (Before After : ℕ → Type 0) (k : ℕ) (one : KeptShelf) (blocks : Blocks) (shelves : List KeptShelf) → slice_get shelves k ≡ Some one → blocks.others.number ≡ k → k < 4096
+pub lower-counted : (Before After : ℕ → Type 0) (k : ℕ) (one : KeptShelf) (blocks : Blocks) (shelves : List KeptShelf) → length blocks.small ≡ 512 → length blocks.middle ≡ 64 → length blocks.large ≡ 8
+    → slice_get shelves k ≡ Some one → blocks.others.number ≡ k → k < 4096
     → ((n : ℕ) → After n → (n ≡ k → ⊥) → Before n) → AreCountedWhere Before blocks shelves → AreCountedWhere After (lowered k one blocks) shelves
-lower-counted Before After k one blocks shelves here same some before counted = record {
+lower-counted Before After k one blocks shelves long wide few here same some before counted = record {
   each = record {
     small = of_size 8 blocks.others.small blocks.small (λ number kept after at. (beside number kept after at).small) counted.each.small;
     middle = of_size 64 blocks.others.middle blocks.middle (λ number kept after at. (beside number kept after at).middle) counted.each.middle;
@@ -113,6 +144,7 @@ lower-counted Before After k one blocks shelves here same some before counted = 
     middle = own_of 64 blocks.others.middle blocks.middle;
     large = own_of 512 blocks.others.large blocks.large;
   };
+  nested = nested-lowered k one blocks long wide few same some counted.nested;
 }
   where
     beside : (number : ℕ) (kept : KeptShelf) → After number → slice_get shelves number ≡ Some kept → IsBeside blocks.others number kept
@@ -188,4 +220,5 @@ known-late IsSuch late blocks shelves known = record { counted = λ counts. all 
       each = record { small = counted.each.small; middle = counted.each.middle; large = counted.each.large };
       others = counted.others;
       own = record { small = counted.own.small; middle = counted.own.middle; large = counted.own.large };
+      nested = counted.nested;
     }

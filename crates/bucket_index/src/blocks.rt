@@ -15,7 +15,7 @@ use bucketed_records::records::KeptShelf;
 pub const SHELVES_OF_BLOCK: usize = 8;
 
 /// So many shelves are gone through without blocks.
-pub const FEW_SHELVES: usize = 2 * SHELVES_OF_BLOCK;
+pub const FEW_SHELVES: usize = 4 * SHELVES_OF_BLOCK;
 
 /// How many blocks stand in one of the next size.
 const PARTS_OF_BLOCK: usize = 8;
@@ -66,7 +66,7 @@ pub struct Others {
     pub number: usize,
     /// How much room it had when that was known.
     pub room: u16,
-    /// What is known of the shelf itself: what it had when it was raised last.
+    /// What its blocks know of it at least: what it had when it was raised last, or what others of its small block have.
     pub own: Block,
     pub small: Block,
     pub middle: Block,
@@ -83,8 +83,7 @@ const NO_OTHERS: Others = Others {
     large: NO_SHELVES,
 };
 
-/// The blocks of the shelves of an atlas, in three sizes. Before there are more shelves than in a small one nothing is
-/// known of them.
+/// The blocks of the shelves of an atlas, in three sizes. Before there are more than a few shelves nothing is known of them.
 #[derive(Clone, Copy)]
 pub struct Blocks {
     pub are_counted: bool,
@@ -94,6 +93,8 @@ pub struct Blocks {
     pub others: Others,
     /// Whether the blocks of that shelf are yet to be lowered: before a search, or once another shelf changes.
     pub is_late: bool,
+    /// What is known of the small and middle blocks of so many first shelves is known of the larger ones around them too.
+    pub nested: usize,
     pub small: [Block; MOST_SMALL],
     pub middle: [Block; MOST_MIDDLE],
     pub large: [Block; MOST_LARGE],
@@ -154,6 +155,13 @@ pub fn known_of_busy(kept: &KeptShelf) -> Block
     }
 }
 
+/// Whether the same is known of two blocks.
+fn is_same(one: Block, other: Block) -> bool
+    ensures { IsTrue result → one ≡ other }
+{
+    one.widest_room == other.widest_room && one.has_idle == other.has_idle
+}
+
 /// What is known of two blocks together.
 fn joined(one: Block, other: Block) -> Block
     ensures { result ≡ spec.joined one other }
@@ -162,6 +170,13 @@ fn joined(one: Block, other: Block) -> Block
         widest_room: one.widest_room.max(other.widest_room),
         has_idle: one.has_idle | other.has_idle,
     }
+}
+
+/// The number of the first shelf of the small block in which one stands.
+fn first_of_block(shelf: usize) -> usize
+    ensures { result ≡ spec.first_of_block shelf }
+{
+    shelf / SHELVES_OF_BLOCK * SHELVES_OF_BLOCK
 }
 
 /// What is known of the shelves from this one on, as many as a small block has.
@@ -177,6 +192,16 @@ fn counted(shelves: &[KeptShelf], from: usize) -> Block
         block = with_standing(block, &shelves[number]);
     }
     block
+}
+
+/// Knows the first small blocks, as many as stand in a middle one.
+fn count_first(blocks: &mut [Block], shelves: &[KeptShelf])
+    ensures { spec.AreKnownOf (λ number. number < 64) 8 blocks.new shelves.now }
+{
+    for number in 0..PARTS_OF_BLOCK {
+        let fresh = counted(shelves, number * SHELVES_OF_BLOCK);
+        set_block(blocks, number, fresh);
+    }
 }
 
 /// What is known of the blocks from this one on, as many as stand in one of the next size.
@@ -303,12 +328,14 @@ impl Blocks {
     pub fn new() -> Blocks
         ensures known { spec.AreKnown result [] }
         ensures none { result.others ≡ spec.no_others }
+        ensures nested { spec.AreNestedIn result }
     {
         Blocks {
             are_counted: false,
             in_steps: true,
             others: NO_OTHERS,
             is_late: false,
+            nested: MOST_SHELVES,
             small: [NO_SHELVES; MOST_SMALL],
             middle: [NO_SHELVES; MOST_MIDDLE],
             large: [NO_SHELVES; MOST_LARGE],
@@ -457,9 +484,24 @@ impl Blocks {
         ensures { spec.AreKnown self.new shelves.now }
     {
         let kept = &shelves[number];
-        self.remember(number, room);
-        self.raise(number, kept);
-        self.keep_own(kept);
+        if number < self.nested {
+            self.remember(number, room);
+            self.raise(number, kept);
+            self.keep_own(kept);
+        } else {
+            self.raise_alone(shelves, number);
+        }
+    }
+
+    /// The same where it isn't kept how its blocks are known by the others.
+    fn raise_alone(&mut self, shelves: &[KeptShelf], number: usize)
+        requires counted { self.old.are_counted ≡ true }
+        requires within { number < length shelves.now }
+        requires others { spec.AreOthersKnown number self.old shelves.now }
+        ensures { spec.AreKnown self.new shelves.now }
+    {
+        self.others = NO_OTHERS;
+        self.raise(number, &shelves[number]);
     }
 
     /// Keeps what a shelf has that was raised, and that its blocks are as they are to be.
@@ -501,25 +543,64 @@ impl Blocks {
         let kept = &shelves[number];
         if self.knows_others(number, kept.widest_room) {
             self.lower_again(number, kept);
+            return;
+        }
+        let fresh = counted(shelves, first_of_block(number));
+        let small = block_at(&self.small, number / SHELVES_OF_BLOCK);
+        if number < self.nested && is_same(fresh, small) {
+            self.keep_others(number, kept.widest_room);
         } else {
-            self.recount(shelves, number);
+            self.recount(shelves, number, fresh);
         }
     }
 
-    /// Knows the blocks of the shelf of a number anew.
+    /// Keeps the blocks of the shelf of a number, which has this room now, as they stand: it and others of its small block have
+    /// all that is known of that.
+    fn keep_others(&mut self, number: usize, room: u16)
+        ensures { self.new ≡ spec.kept_others number room self.old }
+    {
+        let small = block_at(&self.small, number / SHELVES_OF_BLOCK);
+        self.is_late = false;
+        self.others = Others {
+            number,
+            room,
+            own: small,
+            small,
+            middle: block_at(&self.middle, number / SHELVES_OF_MIDDLE),
+            large: block_at(&self.large, number / SHELVES_OF_LARGE),
+        };
+    }
+
+    /// Knows the blocks of the shelf of a number anew, of whose small one this is known now, and keeps them so.
     #[inline(never)]
-    fn recount(&mut self, shelves: &[KeptShelf], number: usize)
+    fn recount(&mut self, shelves: &[KeptShelf], number: usize, fresh: Block)
         requires counted { self.old.are_counted ≡ true }
         requires within { number < length shelves.now }
+        requires fresh { spec.AreCountedFrom (spec.first_of_block number) fresh shelves.now }
         requires others { spec.AreOthersKnown number self.old shelves.now }
         ensures { spec.AreKnown self.new shelves.now }
+    {
+        self.count_anew(shelves, number, fresh);
+        if number < self.nested {
+            self.keep_others(number, shelves[number].widest_room);
+        }
+    }
+
+    /// The same, but keeps nothing of others.
+    fn count_anew(&mut self, shelves: &[KeptShelf], number: usize, fresh: Block)
+        requires counted { self.old.are_counted ≡ true }
+        requires within { number < length shelves.now }
+        requires fresh { spec.AreCountedFrom (spec.first_of_block number) fresh shelves.now }
+        requires others { spec.AreOthersKnown number self.old shelves.now }
+        ensures known { spec.AreKnown self.new shelves.now }
+        ensures counted { self.new.are_counted ≡ true }
+        ensures all { spec.AreAll self.new }
     {
         let small = number / SHELVES_OF_BLOCK;
         let middle = number / SHELVES_OF_MIDDLE;
         let large = number / SHELVES_OF_LARGE;
         self.others = NO_OTHERS;
         self.is_late = false;
-        let fresh = counted(shelves, small * SHELVES_OF_BLOCK);
         set_block(&mut self.small, small, fresh);
         let fresh_middle = gathered(&self.small, middle * PARTS_OF_BLOCK);
         set_block(&mut self.middle, middle, fresh_middle);
@@ -607,6 +688,58 @@ impl Blocks {
         } else {
             self.raise_beside(shelves, number, before.widest_room);
         }
+    }
+
+    /// The same where the shelf holds nothing live any more. Where its blocks know as much already, by another one, nothing
+    /// is raised.
+    #[inline(always)]
+    pub fn follow_emptied(&mut self, shelves: &[KeptShelf], number: usize, before: Block)
+        requires within { number < length shelves.now }
+        requires before { self.old.are_counted ≡ true
+            → spec.IsFollowedUpTo number (spec.height_at shelves.now number) before.widest_room self.old }
+        requires others { spec.AreOthersKnown number self.old shelves.now }
+        ensures { spec.AreKnown self.new shelves.now }
+    {
+        if !self.are_counted {
+            return;
+        }
+        if self.others.number < MOST_SHELVES {
+            self.follow_emptied_first(shelves, number, before);
+        } else if !self.knows_idle(number, shelves[number].widest_room) {
+            self.raise_alone(shelves, number);
+        }
+    }
+
+    /// The same where it is kept how the blocks of a shelf are known by others. That is given up once nothing is raised:
+    /// where one shelf after another is emptied it would be kept in vain.
+    #[inline(always)]
+    fn follow_emptied_first(&mut self, shelves: &[KeptShelf], number: usize, before: Block)
+        requires counted { self.old.are_counted ≡ true }
+        requires within { number < length shelves.now }
+        requires before { spec.IsFollowedUpTo number (spec.height_at shelves.now number)
+            before.widest_room self.old }
+        requires others { spec.AreOthersKnown number self.old shelves.now }
+        ensures { spec.AreKnown self.new shelves.now }
+    {
+        let stays = number == self.others.number || self.is_late;
+        if !stays && self.knows_idle(number, shelves[number].widest_room) {
+            self.others.number = MOST_SHELVES;
+        } else {
+            self.follow_returned(shelves, number, before);
+        }
+    }
+
+    /// Whether the blocks of the shelf of a number know it with this room and nothing live.
+    #[inline(always)]
+    fn knows_idle(&self, number: usize, room: u16) -> bool
+        requires { self.now.nested ≤ 4096 }
+        ensures { IsTrue result → spec.KnowsIdle number room self.now }
+    {
+        if number >= self.nested {
+            return false;
+        }
+        let block = &self.small[number / SHELVES_OF_BLOCK];
+        room <= block.widest_room && block.has_idle
     }
 
     /// Knows the shelf of a number, of which this was known before, where that is known as it was or raised last, and says
@@ -701,35 +834,61 @@ impl Blocks {
     {
         let last = shelves.len() - 1;
         if self.are_counted {
+            self.begin_blocks(shelves, last);
             self.raise_beside(shelves, last, 0);
         } else if last == FEW_SHELVES {
             self.count(shelves);
         }
     }
 
-    /// Knows all shelves, no more than stand in three small blocks.
+    /// Knows nothing of the blocks that begin with the last shelf, where that is the first behind those that are nested.
+    #[inline(always)]
+    fn begin_blocks(&mut self, shelves: &[KeptShelf], last: usize)
+        requires counted { self.old.are_counted ≡ true }
+        requires last { length shelves.now ≡ last + 1 }
+        requires others { spec.AreOthersKnown last self.old shelves.now }
+        ensures others { spec.AreOthersKnown last self.new shelves.now }
+        ensures counted { self.new.are_counted ≡ true }
+    {
+        if last == self.nested && last < MOST_SHELVES {
+            self.begin_small(last);
+        }
+    }
+
+    /// The same where it is.
+    #[inline(never)]
+    fn begin_small(&mut self, last: usize)
+        requires { last < 4096 }
+        ensures { self.new ≡ spec.begun last self.old }
+    {
+        self.others = NO_OTHERS;
+        self.is_late = false;
+        self.nested = last + SHELVES_OF_BLOCK;
+        set_block(&mut self.small, last / SHELVES_OF_BLOCK, NO_SHELVES);
+        if last % SHELVES_OF_MIDDLE == 0 {
+            set_block(&mut self.middle, last / SHELVES_OF_MIDDLE, NO_SHELVES);
+        }
+    }
+
+    /// Knows all shelves, no more than stand in a middle block.
     #[inline(never)]
     fn count(&mut self, shelves: &[KeptShelf])
-        requires few { length shelves.now ≤ 24 }
+        requires few { length shelves.now ≤ 64 }
         requires steps { self.old.in_steps ≡ true → spec.AreInSteps shelves.now }
         ensures { spec.AreKnown self.new shelves.now }
     {
-        let first = counted(shelves, 0);
-        let second = counted(shelves, SHELVES_OF_BLOCK);
-        let third = counted(shelves, 2 * SHELVES_OF_BLOCK);
-        let all = joined(joined(first, second), third);
-        set_block(&mut self.small, 0, first);
-        set_block(&mut self.small, 1, second);
-        set_block(&mut self.small, 2, third);
+        count_first(&mut self.small, shelves);
+        let all = gathered(&self.small, 0);
         set_block(&mut self.middle, 0, all);
         set_block(&mut self.large, 0, all);
+        self.nested = SHELVES_OF_MIDDLE;
         self.others = NO_OTHERS;
         self.is_late = false;
         self.are_counted = true;
     }
 
     /// Knows the shelves that are left after some were dropped, and that of a number changed, if it is left. Nothing is
-    /// known any more of fewer than a small block has.
+    /// known any more of half as many as are few.
     #[inline(always)]
     pub fn follow_dropped(&mut self, shelves: &[KeptShelf], number: usize)
         requires { spec.AreOthersKnown number self.old shelves.now }
@@ -747,11 +906,12 @@ impl Blocks {
         requires others { spec.AreOthersKnown number self.old shelves.now }
         ensures { spec.AreKnown self.new shelves.now }
     {
-        if shelves.len() < SHELVES_OF_BLOCK {
+        if shelves.len() < FEW_SHELVES / 2 {
             self.are_counted = false;
         } else if number < shelves.len() {
             self.settle_beside(shelves, number);
-            self.recount(shelves, number);
+            let fresh = counted(shelves, first_of_block(number));
+            self.recount(shelves, number, fresh);
         }
     }
 
@@ -766,8 +926,7 @@ impl Blocks {
             if self.is_late {
                 self.settle_beside(shelves, number);
             }
-            self.others = NO_OTHERS;
-            self.raise(number, &shelves[number]);
+            self.raise_alone(shelves, number);
         }
     }
 }

@@ -1,5 +1,5 @@
 -- What stays where an item is returned to a bucket that keeps others.
-use Rattle.std.proofs.Common.{◌≡◌, ℕ, zero, suc, ◌-◌, ◌<◌, Bool, true, false, cond, Option, None, Some, List, [], ◌∷◌, length, refl, ap, sym, subst, ◌∙◌, arith, ◌==◌}
+use Rattle.std.proofs.Common.{◌≡◌, ℕ, zero, suc, ◌+◌, ◌-◌, ◌<◌, Bool, true, false, cond, Option, None, Some, List, [], ◌∷◌, length, refl, ap, sym, subst, ◌∙◌, arith, ◌==◌}
 use Rattle.std.proofs.lemmas.Bool.{eqb-true}
 use Rattle.std.specs.Option.{option_map_or}
 use Rattle.std.specs.Prelude.{nat_le, option_map, slice_get}
@@ -108,3 +108,31 @@ ends-left shelf shelves many last =
     by_last : (o : Option KeptShelf) → slice_get after (length shelves - 1) ≡ o → idle o ≡ false
     by_last None e = refl
     by_last (Some kept) e = less-at shelf (length shelves - 1) shelves kept many e (λ one at same live. busy one kept live same) (λ at. ap idle (sym at) ∙ last)
+
+-- the last shelf still holds something where another one changed
+pub ends-before : (shelf : ℕ) (change : KeptShelf → KeptShelf) (shelves : List KeptShelf) → shelf + 1 < length shelves → ends_idle shelves ≡ false → ends_idle (changed_by (Some shelf) change shelves) ≡ false
+ends-before shelf change shelves before last =
+    ap (λ (n : ℕ). idle (slice_get (changed_by (Some shelf) change shelves) (n - 1))) (length-changed_by change shelves (Some shelf))
+    ∙ ap idle (get-changed_by-other change shelves (Some shelf) (length shelves - 1) (λ (h : Some shelf ≡ Some (length shelves - 1)). omega (arith, before, inner h))) ∙ last
+  where
+    idle : Option KeptShelf → Bool
+    idle o = option_map_or (λ (kept : KeptShelf). kept.live_items == 0) o false
+
+    inner : Some shelf ≡ Some (length shelves - 1) → shelf ≡ length shelves - 1
+    inner h = cc
+
+-- a return keeps a record's link
+pub links-same : (width : ℕ) (b : LinkedBucket) → (returned_record width b).next ≡ b.next
+links-same width b = by_test (nat_le b.refcount 1)
+  where
+    by_test : (t : Bool) → (cond t (emptied_record width b) (lessened_record b)).next ≡ b.next
+    by_test true = refl
+    by_test false = refl
+
+-- and its place
+pub places-same : (width : ℕ) (b : LinkedBucket) → (returned_record width b).x ≡ b.x
+places-same width b = by_test (nat_le b.refcount 1)
+  where
+    by_test : (t : Bool) → (cond t (emptied_record width b) (lessened_record b)).x ≡ b.x
+    by_test true = refl
+    by_test false = refl

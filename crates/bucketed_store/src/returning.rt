@@ -2,7 +2,7 @@
 //!
 //! Definitions: `Private/Returns`, and `Returning` for what they mean. A return looks at one bucket and its shelf.
 
-ghost use Rattle.std.specs.Prelude.{◌≡◌, ◌<◌, ◌≤◌, ◌*◌, IsTrue, Some, length, nat_le};
+ghost use Rattle.std.specs.Prelude.{◌≡◌, ◌+◌, ◌<◌, ◌≤◌, ◌*◌, IsTrue, Some, length, nat_le, false, true};
 ghost use Rattle.etagere_links.specs.Edits.{changed_by};
 ghost use Rattle.bucketed_model.specs.Returning as returning;
 ghost use Rattle.bucketed_records.specs.StandsFor.{free_of, live_of, shelf_of};
@@ -71,6 +71,13 @@ fn take_back(bucket: &mut LinkedBucket, width: u16)
         bucket.refcount -= 1;
         return;
     }
+    empty_bucket(bucket, width);
+}
+
+/// Empties a bucket, in a shelf whose buckets are this wide.
+fn empty_bucket(bucket: &mut LinkedBucket, width: u16)
+    ensures { bucket.new ≡ spec.emptied_record width bucket.old }
+{
     bucket.free_space = width;
     bucket.refcount = 0;
     bucket.item_count = 0;
@@ -85,6 +92,15 @@ fn count_returned(kept: &mut KeptShelf, empties: bool)
     if empties {
         kept.widest_room = kept.shelf.bucket_width;
     }
+}
+
+/// Counts the only live item of a shelf as returned, which emptied a bucket.
+fn count_none(kept: &mut KeptShelf)
+    requires { kept.old.live_items ≡ 1 }
+    ensures { kept.new ≡ spec.returned_kept true kept.old }
+{
+    kept.live_items = 0;
+    kept.widest_room = kept.shelf.bucket_width;
 }
 
 /// Returns an item to the bucket of this number.
@@ -104,6 +120,42 @@ pub(crate) fn return_item(shelves: &mut [KeptShelf], buckets: &mut [LinkedBucket
     let empties = bucket.refcount <= 1;
     take_back(bucket, kept.shelf.bucket_width);
     count_returned(kept, empties);
+}
+
+/// The same where that is the only live item of its shelf.
+pub(crate) fn return_only(shelves: &mut [KeptShelf], buckets: &mut [LinkedBucket], number: usize)
+    requires number { number < length buckets.old }
+    requires shelf { shelf_of buckets.old number < length shelves.old }
+    requires only { spec.IsOnly number shelves.old buckets.old }
+    ensures shelves { shelves.new
+        ≡ changed_by (Some (shelf_of buckets.old number))
+        (spec.returned_kept (nat_le (live_of buckets.old number) 1)) shelves.old }
+    ensures buckets { buckets.new
+        ≡ changed_by (Some number)
+        (spec.returned_record (spec.width_of shelves.old (shelf_of buckets.old number)))
+        buckets.old }
+{
+    let bucket = &mut buckets[number];
+    let kept = &mut shelves[usize::from(bucket.shelf)];
+    empty_bucket(bucket, kept.shelf.bucket_width);
+    count_none(kept);
+}
+
+/// Whether an item returned to the bucket of a number is the only live one of its shelf, and no shelf is dropped then.
+#[inline(always)]
+pub(crate) fn leaves_idle(shelves: &[KeptShelf], buckets: &[LinkedBucket], number: usize) -> bool
+    requires number { number < length buckets.now }
+    requires shelf { shelf_of buckets.now number < length shelves.now }
+    ensures only { IsTrue result → spec.IsOnly number shelves.now buckets.now }
+    ensures before { IsTrue result → shelf_of buckets.now number + 1 < length shelves.now }
+    ensures last { IsTrue result → spec.ends_idle shelves.now ≡ false }
+{
+    let bucket = &buckets[number];
+    let shelf = usize::from(bucket.shelf);
+    bucket.refcount <= 1
+        && shelves[shelf].live_items == 1
+        && shelf + 1 < shelves.len()
+        && !ends_idle(shelves)
 }
 
 /// Whether the bucket of a number keeps other live items, and its shelf too, where an item is returned to it, and no shelf is

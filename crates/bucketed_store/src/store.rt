@@ -2,14 +2,14 @@
 //!
 //! Definitions: `Store`, `StoreEdits`. `Store` also says when records spell a state.
 
-ghost use Rattle.std.specs.Prelude.{IsFalse, IsTrue, List, ◌≡◌, ◌+◌, ◌-◌, ◌*◌, ◌<◌, ◌≤◌, ◌^◌, [], None, Some, IfOk, IfSome, IsSome, OnOk, OnErr, false, length, slice_get, vec_len, vec_capacity, map};
+ghost use Rattle.std.specs.Prelude.{IsFalse, IsTrue, List, ◌≡◌, ◌+◌, ◌-◌, ◌*◌, ◌<◌, ◌≤◌, ◌^◌, [], None, Some, IfOk, IfSome, IsSome, OnOk, OnErr, false, length, slice_get, vec_len, vec_capacity, map, nat_le};
 ghost use Rattle.etagere_links.specs.Edits.{changed_by};
 ghost use Rattle.etagere_links.specs.Links.{no_link};
 ghost use Rattle.bucketed_model.specs.Adding as adding;
 ghost use Rattle.bucketed_model.specs.Frames.{IsBucketedFrame, longest_bucketed_side};
 ghost use Rattle.bucketed_model.specs.State.{most_buckets};
 ghost use Rattle.bucketed_model.specs.Taking as taking;
-ghost use Rattle.bucketed_records.specs.StandsFor.{free_of, place_of, shelf_of};
+ghost use Rattle.bucketed_records.specs.StandsFor.{free_of, live_of, place_of, shelf_of};
 ghost use Rattle.bucketed_records.specs.Private.Store.{record_room, shelf_record};
 ghost use Rattle.bucketed_records.specs.Restoring as restoring;
 ghost use Rattle.bucket_index.specs.Private.Blocks.{AreKnown};
@@ -28,7 +28,9 @@ use crate::growing::{left_after, widen_shelves};
 use crate::making::{NewBuckets, make_buckets, reserve_records};
 use crate::merging::{Group, merge};
 use crate::placing::Placement;
-use crate::returning::{is_known, leaves_others, return_item, returned_area, shelf_number};
+use crate::returning::{
+    is_known, leaves_idle, leaves_others, return_item, return_only, returned_area, shelf_number,
+};
 use bucket_index::blocks::{Blocks, known_of, known_of_busy};
 use bucket_index::heights::Heights;
 use bucket_index::missed::Missed;
@@ -494,6 +496,13 @@ impl Store {
         ensures stays { result.drops ≡ false → length self.new.shelves ≡ length self.old.shelves }
         ensures area { result.area ≡ returns.returned_area number self.old.shelves self.old.buckets }
     {
+        if leaves_idle(&self.shelves, &self.buckets, number) {
+            return Returned {
+                area: self.return_only(number),
+                drops: false,
+                dropped: 0,
+            };
+        }
         let area = returned_area(&self.shelves, &self.buckets, number);
         let shelf = shelf_number(&self.buckets, number);
         let before = known_of_busy(&self.shelves[shelf]);
@@ -527,6 +536,34 @@ impl Store {
             drops: true,
             dropped,
         }
+    }
+
+    /// Returns the only live item of its shelf, where no shelf is dropped then. Each bucket of that is free then, so that it
+    /// needn't be known what those beside this one can give.
+    #[inline(always)]
+    fn return_only(&mut self, number: usize) -> u32
+        requires number { number < length self.old.buckets }
+        requires shelf { shelf_of self.old.buckets number < length self.old.shelves }
+        requires free { free_of self.old.buckets number
+            ≤ returns.width_of self.old.shelves (shelf_of self.old.buckets number) }
+        requires only { returns.IsOnly number self.old.shelves self.old.buckets }
+        ensures returned { self.new ≡ returns.item_returned number self.old }
+        ensures area { result ≡ returns.returned_area number self.old.shelves self.old.buckets }
+    {
+        let area = returned_area(&self.shelves, &self.buckets, number);
+        let shelf = shelf_number(&self.buckets, number);
+        let before = known_of_busy(&self.shelves[shelf]);
+        return_followed(
+            &mut self.shelves,
+            &mut self.buckets,
+            &mut self.spans,
+            &mut self.rooms,
+            number,
+        );
+        self.blocks.follow_emptied(&self.shelves, shelf, before);
+        self.rest.forget();
+        self.missed.follow(&self.shelves, shelf);
+        area
     }
 
     /// Gives the shelves their buckets for a width that is added at a place, where so many are left, and
@@ -786,6 +823,67 @@ fn add_shelf(
         .unwrap();
     blocks.add_last(shelves);
     heights.add_last(shelves);
+}
+
+/// Returns the only live item of a shelf to the bucket of a number, and has spans and rooms follow where they are known.
+#[inline(always)]
+fn return_followed(
+    shelves: &mut [KeptShelf],
+    buckets: &mut [LinkedBucket],
+    spans: &mut Spans,
+    rooms: &mut Rooms,
+    number: usize,
+)
+    requires number { number < length buckets.old }
+    requires shelf { shelf_of buckets.old number < length shelves.old }
+    requires only { returns.IsOnly number shelves.old buckets.old }
+    requires spans { AreSpans spans.old buckets.old }
+    requires rooms { AreCounted rooms.old buckets.old }
+    ensures shelves { shelves.new
+        ≡ changed_by (Some (shelf_of buckets.old number))
+        (returns.returned_kept (nat_le (live_of buckets.old number) 1)) shelves.old }
+    ensures buckets { buckets.new
+        ≡ changed_by (Some number)
+        (returns.returned_record (returns.width_of shelves.old (shelf_of buckets.old number)))
+        buckets.old }
+    ensures spans { AreSpans spans.new buckets.new }
+    ensures rooms { AreCounted rooms.new buckets.new }
+{
+    if spans.are_learned || rooms.are_counted {
+        return_known(shelves, buckets, spans, rooms, number);
+    } else {
+        return_only(shelves, buckets, number);
+    }
+}
+
+/// The same where one of them is known, or both.
+#[inline(never)]
+fn return_known(
+    shelves: &mut [KeptShelf],
+    buckets: &mut [LinkedBucket],
+    spans: &mut Spans,
+    rooms: &mut Rooms,
+    number: usize,
+)
+    requires number { number < length buckets.old }
+    requires shelf { shelf_of buckets.old number < length shelves.old }
+    requires only { returns.IsOnly number shelves.old buckets.old }
+    requires spans { AreSpans spans.old buckets.old }
+    requires rooms { AreCounted rooms.old buckets.old }
+    ensures shelves { shelves.new
+        ≡ changed_by (Some (shelf_of buckets.old number))
+        (returns.returned_kept (nat_le (live_of buckets.old number) 1)) shelves.old }
+    ensures buckets { buckets.new
+        ≡ changed_by (Some number)
+        (returns.returned_record (returns.width_of shelves.old (shelf_of buckets.old number)))
+        buckets.old }
+    ensures spans { AreSpans spans.new buckets.new }
+    ensures rooms { AreCounted rooms.new buckets.new }
+{
+    let room = room_of(buckets, number);
+    return_only(shelves, buckets, number);
+    spans.track(buckets, number, room);
+    rooms.follow_record(buckets, number, room);
 }
 
 /// Takes an item of this width from the bucket of a number.

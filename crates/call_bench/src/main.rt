@@ -9,7 +9,7 @@ mod commanded;
 
 use anyhow::{Context, Result};
 use commanded::Commanded;
-use etagere::{AtlasAllocator, BucketedAtlasAllocator};
+use etagere::{AllocId, AtlasAllocator, BucketedAtlasAllocator};
 use run_scripts::commands::{AtlasCommand, BucketedCommand};
 use run_scripts::reading::read_all;
 use run_scripts::script::{Commands, Script, read_script};
@@ -21,16 +21,19 @@ fn main(rt: HostRuntime) -> Result<()> {
     let script = read_script(rt.alloc(), input.as_slice())
         .ok()
         .context("no script")?;
-    let mut given = 0;
+    let mut ids = Vec::new(rt.alloc());
     for round in env::args(&rt)?.skip(1) {
-        given = one_round(rt.alloc(), &script, round.as_str())?;
+        ids = one_round(rt.alloc(), &script, round.as_str())?;
     }
-    println!(rt; "{given} given")?;
+    println!(rt; "{} given", ids.iter().flatten().count())?;
     Ok(())
 }
 
-/// Makes all calls of a script on a new atlas, and counts the rectangles that were given.
-fn one_round(alloc: Global, script: &Script, round: &str) -> Result<u64> {
+/// The ids of what each command was given.
+type Given = Vec<Option<AllocId>>;
+
+/// Makes all calls of a script on a new atlas.
+fn one_round(alloc: Global, script: &Script, round: &str) -> Result<Given> {
     match &script.commands {
         Commands::OfShelves(commands) => of_shelves(alloc, script, commands.as_slice(), round),
         Commands::OfBuckets(commands) => of_buckets(alloc, script, commands.as_slice(), round),
@@ -44,7 +47,7 @@ fn of_shelves(
     script: &Script,
     commands: &[AtlasCommand],
     round: &str,
-) -> Result<u64> {
+) -> Result<Given> {
     let mut atlas = AtlasAllocator::with_options(alloc, script.size, &script.options)?;
     call_and_end(alloc, &mut atlas, commands, round)
 }
@@ -55,7 +58,7 @@ fn of_buckets(
     script: &Script,
     commands: &[BucketedCommand],
     round: &str,
-) -> Result<u64> {
+) -> Result<Given> {
     let mut atlas = BucketedAtlasAllocator::with_options(alloc, script.size, &script.options)?;
     call_and_end(alloc, &mut atlas, commands, round)
 }
@@ -65,10 +68,10 @@ fn call_and_end<A: Commanded>(
     atlas: &mut A,
     commands: &[A::Command],
     round: &str,
-) -> Result<u64> {
-    let given = call_all(alloc, atlas, commands)?;
+) -> Result<Given> {
+    let ids = call_all(alloc, atlas, commands)?;
     end_round(alloc, atlas, round)?;
-    Ok(given)
+    Ok(ids)
 }
 
 /// Does with the atlas what the round is named for. Never inlined: else the calls before it take more.
@@ -82,14 +85,12 @@ fn end_round<A: Commanded>(alloc: Global, atlas: &A, round: &str) -> Result<()> 
     }
 }
 
-/// Makes the calls of the commands, and counts the rectangles that were given.
-fn call_all<A: Commanded>(alloc: Global, atlas: &mut A, commands: &[A::Command]) -> Result<u64> {
+/// Makes the calls of the commands.
+fn call_all<A: Commanded>(alloc: Global, atlas: &mut A, commands: &[A::Command]) -> Result<Given> {
     let mut ids = Vec::with_capacity(alloc, commands.len())?;
-    let mut given = 0_u64;
     for command in commands {
         let id = atlas.call(*command, ids.as_slice())?;
-        given = given.saturating_add(u64::from(id.is_some()));
         ids.push(id)?;
     }
-    Ok(given)
+    Ok(ids)
 }

@@ -397,7 +397,8 @@ impl AtlasAllocator {
     ///
     /// `Err` comes exactly where nothing is allocated under the id; then nothing changes. Takes no memory. It looks at
     /// the record of the id, and at those beside it and its shelf, whose entry in the list by height it finds at once
-    /// or by binary search. Which shelves merge is only noted: the next allocation moves them in that list.
+    /// or by binary search. Which shelves merge is only noted, and one that is emptied after that may be: the next
+    /// allocation moves them in that list.
     pub fn deallocate(&mut self, id: AllocId) -> Result<(), UnknownId>
         ensures ok { OnOk result (self.new ≡ returned self.old id) }
         ensures unknown { IsErr result ↔ (is_allocated self.old id ≡ false) }

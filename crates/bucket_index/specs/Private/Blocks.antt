@@ -1,6 +1,6 @@
 -- What is known of neighbouring shelves together.
 pub use Rattle.std.specs.Prelude.{ℕ}
-use Rattle.std.specs.Prelude.{◌≡◌, ◌<◌, ◌≤◌, ◌+◌, ◌*◌, ◌/◌, ◌%◌, ◌==◌, cond, get_or, max, Bool, true, false, ◌&&◌, ◌||◌, Some, List, slice_get, nat_le, if◌then◌else◌}
+use Rattle.std.specs.Prelude.{◌≡◌, ◌<◌, ◌≤◌, ◌+◌, ◌*◌, ◌/◌, ◌%◌, ◌==◌, cond, get_or, max, Bool, true, false, ◌&&◌, ◌||◌, Some, List, length, slice_get, nat_le, if◌then◌else◌}
 use Rattle.std.specs.Option.{option_map_or}
 use Rattle.etagere_links.specs.Edits.{changed_by, field_at}
 use Rattle.bucketed_records.specs.Private.Store.{is_kept_idle}
@@ -183,6 +183,88 @@ pub record IsOwnKnown (blocks : Blocks) : Type 0 where
   pub middle : IsOwnOf 64 blocks.others.number blocks.others.own blocks.middle
   pub large : IsOwnOf 512 blocks.others.number blocks.others.own blocks.large
 
+-- there are blocks of each size for as many shelves as there can be
+pub record AreAll (blocks : Blocks) : Type 0 where
+  pub small : length blocks.small ≡ 512
+  pub middle : length blocks.middle ≡ 64
+  pub large : length blocks.large ≡ 8
+
+-- what is known of each of these blocks of the first so many shelves, where one has so many shelves, is known of the one
+-- of the next size around it
+abbrev pub AreParts : ℕ → ℕ → List Block → List Block → Type 0
+AreParts shelves size blocks wholes =
+    (number : ℕ) → number * size < shelves
+    → IsPart (block_at blocks number) (block_at wholes (number / 8))
+
+-- the same of each but one of these blocks in the one of the next size around that
+abbrev pub ArePartsBeside : ℕ → ℕ → ℕ → List Block → Block → Type 0
+ArePartsBeside shelves size one blocks whole =
+    (number : ℕ) → number * size < shelves → (number ≡ one → ⊥) → number / 8 ≡ one / 8
+    → IsPart (block_at blocks number) whole
+
+-- what is kept of the blocks of a shelf by the others is known of the next larger one, and so is what is known of others in
+-- that
+pub record AreOthersNested (shelves : ℕ) (smalls middles : List Block) (others : Others) : Type 0 where
+  pub within : others.number < shelves
+  pub small : IsPart others.small others.middle
+  pub middle : IsPart others.middle others.large
+  pub beside_small : ArePartsBeside shelves 8 (block_of 8 others.number) smalls others.middle
+  pub beside_middle : ArePartsBeside shelves 64 (block_of 64 others.number) middles others.large
+
+-- what is known of the blocks of the first so many shelves, which begin a small block, is known of the larger ones around them
+pub record AreNested (shelves : ℕ) (smalls middles larges : List Block) (kept : Others) : Type 0 where
+  pub small : AreParts shelves 8 smalls middles
+  pub middle : AreParts shelves 64 middles larges
+  pub others : kept.number < 4096 → AreOthersNested shelves smalls middles kept
+  pub few : shelves ≤ 4096
+  pub whole : shelves % 8 ≡ 0
+
+abbrev pub AreNestedIn : Blocks → Type 0
+AreNestedIn blocks =
+    AreNested blocks.nested blocks.small blocks.middle blocks.large blocks.others
+
+-- what is known of the small block of a shelf is known of its larger ones, and that there is one with this room and with
+-- nothing live
+pub record KnowsIdle (number wanted : ℕ) (blocks : Blocks) : Type 0 where
+  pub within : number < blocks.nested
+  pub room : wanted ≤ (block_at blocks.small (block_of 8 number)).widest_room
+  pub idle : (block_at blocks.small (block_of 8 number)).has_idle ≡ true
+
+-- the number of the first shelf of the small block in which one stands
+abbrev pub first_of_block : ℕ → ℕ
+first_of_block shelf = block_of 8 shelf * 8
+
+-- each of the shelves from this one on, as many as a small block has, is known to what is known of that
+abbrev pub AreCountedFrom : ℕ → Block → List KeptShelf → Type 0
+AreCountedFrom from block shelves =
+    (number : ℕ) (kept : KeptShelf) → from ≤ number → number < from + 8
+    → slice_get shelves number ≡ Some kept → IsKnown kept block
+
+-- the blocks of a shelf, which has this room now, are kept as they stand
+abbrev pub kept_others : ℕ → ℕ → Blocks → Blocks
+kept_others number room blocks =
+    record blocks {
+      is_late = false;
+      others =
+          record (remembered_others number room blocks) {
+            own = block_at blocks.small (block_of 8 number);
+          };
+    }
+
+-- nothing is known of the blocks that begin with a shelf, the first behind those that are nested
+abbrev pub begun : ℕ → Blocks → Blocks
+begun shelf blocks =
+    record blocks {
+      others = no_others;
+      is_late = false;
+      nested = shelf + 8;
+      small = changed_by (Some (block_of 8 shelf)) (λ _. no_shelves) blocks.small;
+      middle =
+          if shelf % 64 == 0
+          then changed_by (Some (block_of 64 shelf)) (λ _. no_shelves) blocks.middle
+          else blocks.middle;
+    }
+
 -- the height of each shelf is a multiple of eight
 abbrev pub AreInSteps : List KeptShelf → Type 0
 AreInSteps shelves =
@@ -192,13 +274,14 @@ AreInSteps shelves =
 abbrev pub IsStep : ℕ → List KeptShelf → Type 0
 IsStep step shelves = 1 < step → (step ≡ 8) × AreInSteps shelves
 
--- each of these shelves of such a number is known to its blocks, and what is known of others is
--- right for them
+-- each of these shelves of such a number is known to its blocks, what is known of others is right for them, and
+-- what is known of the blocks of some first shelves is known of the larger ones
 pub record AreCountedWhere (IsSuch : ℕ → Type 0) (blocks : Blocks) (shelves : List KeptShelf)
     : Type 0 where
   pub each : AreKnownWhere IsSuch blocks shelves
   pub others : AreOthers IsSuch blocks.others shelves
   pub own : IsOwnKnown blocks
+  pub nested : AreNestedIn blocks
 
 -- the same of these shelves where they are counted, and heights are in steps where that is known
 pub record AreKnownIf (IsSuch : ℕ → Type 0) (blocks : Blocks) (shelves : List KeptShelf) : Type 0 where

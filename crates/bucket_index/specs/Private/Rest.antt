@@ -46,7 +46,7 @@ abbrev pub widest_of : List (Option ℕ) → List LinkedBucket → ℕ
 widest_of [] buckets = 0
 widest_of (link ∷ links) buckets = max (room_behind buckets link) (widest_of links buckets)
 
--- a bucket stands in a row, so many steps from a link on
+-- a bucket stands in a row, within so many steps from a link on
 abbrev pub Stands : ℕ → List LinkedBucket → Option ℕ → ℕ → Type 0
 Stands zero buckets at number = ⊥
 Stands (suc steps) buckets None number = ⊥
@@ -96,7 +96,7 @@ pub record IsFurthest (width : ℕ) (links : List (Option ℕ)) (buckets : List 
   pub most : (number : ℕ) → IsNamed links number → is_roomy_at width buckets number ≡ true
       → place_of buckets number ≤ spot.x
 
--- the same where one has
+-- the same, or none of them has the room
 abbrev pub IsFurthestOf : ℕ → List (Option ℕ) → List LinkedBucket → Option Spot → Type 0
 IsFurthestOf width links buckets None =
     (number : ℕ) → IsNamed links number → is_roomy_at width buckets number ≡ false
@@ -120,12 +120,12 @@ pub record IsRow (rest : Rest) (buckets : List LinkedBucket) : Type 0 where
   pub stand : AllStand (few_of rest) buckets rest.first
   pub down : LeadDown most_buckets buckets rest.first
 
--- the same where a row is known; else it may give any width
+-- the buckets beside which a row is known stand in it where one is known; else it may give any width
 pub record IsRowIfAny (rest : Rest) (buckets : List LinkedBucket) : Type 0 where
   pub row : (number : ℕ) → rest.first ≡ Some number → IsRow rest buckets
   pub none : rest.first ≡ None → rest.most ≡ 65535
 
--- the same, and just that where it is more than the room that was left out
+-- a row can give no more than is known of it, and just that where it is more than the room that was left out
 pub record IsRest (rest : Rest) (buckets : List LinkedBucket) : Type 0 where
   pub most : IsAtMost rest buckets
   pub exact : rest.room < rest.most → widest_of_rest rest buckets ≡ rest.most

@@ -1,38 +1,25 @@
-use Rattle.std.proofs.Common.{rules, ◌≡◌, Some, length, arith, ◌∙◌}
-use Rattle.etagere_links.proofs.RecordChanges.{length-changed_by}
-use Rattle.bucket_index.specs.Private.Blocks.{AreKnownOf, Block, block_of}
-use Rattle.bucket_index.proofs.KnownBlocks.{gathered-large, gathered-middle, set-of}
-use Rattle.bucket_index.proofs.OtherShelves.{part-none}
+use Rattle.std.proofs.Common.{length, refl}
+use Rattle.std.proofs.lemmas.Option.{slice_get_read}
+use Rattle.bucket_index.specs.Private.Blocks.{kept_others}
+use Rattle.bucket_index.proofs.KnownBlocks.{known-at, known-except, known-with}
+use Rattle.bucket_index.proofs.OtherShelves.{kept-counted}
 use Rattle.bucket_index.proofs.blocks.Blocks.recount.Goals as goal
 
-pub returns : goal.returns
-returns c =
+pub returns-then-number-self : goal.returns-then-number-self
+returns-then-number-self c =
     let shelves = c.args.shelves.now in
     let number = c.args.number in
-    let old = c.args.self.now in
-    let counted = c.requires.others.counted c.requires.counted in
-    let long : length old.small ≡ 512 = search rules in
-    let wide : length old.middle ≡ 64 = search rules in
-    let few : length old.large ≡ 8 = search rules in
-    let small : AreKnownOf (λ n. Unit {0}) 8 c.set_block.new.blocks shelves =
-    rw c.set_block.ensures (set-of (λ n. n ≡ number → ⊥) (λ n. Unit {0}) 8 number c.counted-fresh.result old.small shelves (λ n any other. other) (λ n kept same low at. c.counted-fresh.ensures n kept (omega (arith, same)) (omega (arith, same)) at) counted.each.small) in
-    let long_ : length c.set_block.new.blocks ≡ 512 =
-    rw c.set_block.ensures (length-changed_by (λ (block : Block). c.counted-fresh.result) old.small (Some (block_of 8 number)) ∙ long) in
-    let middle : AreKnownOf (λ n. Unit {0}) 64 c.set_block-2.new.blocks shelves =
-    rw c.set_block-2.ensures (set-of (λ n. n ≡ number → ⊥) (λ n. Unit {0}) 64 number c.gathered-fresh_middle.result old.middle shelves (λ n any other. other)
-    (gathered-middle number c.gathered-fresh_middle.result c.set_block.new.blocks old.middle shelves long_ wide small c.gathered-fresh_middle.ensures) counted.each.middle) in
-    let wide_ : length c.set_block-2.new.blocks ≡ 64 =
-    rw c.set_block-2.ensures (length-changed_by (λ (block : Block). c.gathered-fresh_middle.result) old.middle (Some (block_of 64 number)) ∙ wide) in
-    record {
-      counted = λ _. record {
-        each = record {
-          small = small;
-          middle = middle;
-          large = rw c.set_block-3.ensures (set-of (λ n. n ≡ number → ⊥) (λ n. Unit {0}) 512 number c.gathered-fresh_large.result old.large shelves (λ n any other. other)
-              (gathered-large number c.gathered-fresh_large.result c.set_block-2.new.blocks old.large shelves wide_ few middle c.gathered-fresh_large.ensures) counted.each.large);
-        };
-        others = λ some. absurd (omega (arith, some));
-        own = record { small = λ block at. part-none block; middle = λ block at. part-none block; large = λ block at. part-none block };
-      };
-      steps = c.requires.others.steps;
-    }
+    let counted = c.count_anew.new.self in
+    let one = c.index-shelves-number.result in
+    let there = slice_get_read shelves (length shelves) number one refl c.requires.within c.index-shelves-number.is in
+    let all = c.count_anew.ensures.all in
+    let counts = c.count_anew.ensures.counted in
+    let known = (known-at number one counted shelves there c.count_anew.ensures.known counts).known in
+    let others = known-except number counted shelves c.count_anew.ensures.known in
+    rw c.keep_others.ensures
+    (known-with number one (kept_others number _ counted) shelves there
+    (record {
+      known = record { small = known.small; middle = known.middle; large = known.large };
+      beside = λ _. record { small = λ other. absurd (other refl); middle = λ other. absurd (other refl); large = λ other. absurd (other refl) };
+    })
+    (record { counted = λ _. kept-counted number _ counted shelves all.small all.middle all.large c.if-number-self.true (others.counted counts); steps = others.steps }))

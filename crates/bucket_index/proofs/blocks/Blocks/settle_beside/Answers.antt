@@ -1,4 +1,4 @@
-use Rattle.std.proofs.Common.{◌≡◌, false, length, refl, arith}
+use Rattle.std.proofs.Common.{rules, ◌≡◌, false, length, refl, arith}
 use Rattle.std.proofs.lemmas.Option.{slice_get_read}
 use Rattle.bucket_index.proofs.OtherShelves.{known-late, lower-counted, lower-followed}
 use Rattle.bucket_index.proofs.blocks.Blocks.settle_beside.Goals as goal
@@ -12,7 +12,7 @@ returns-then-late-min-clause-others c =
     let one = c.index-shelves-late.result in
     rw c.lower_again.ensures (record {
       counted = λ counts.
-          lower-counted (λ n. n ≡ number → ⊥) (λ n. n ≡ number → ⊥) late one old shelves (slice_get_read shelves (length shelves) late one refl (omega (arith, c.if-late-min.true)) c.index-shelves-late.is) refl
+          lower-counted (λ n. n ≡ number → ⊥) (λ n. n ≡ number → ⊥) late one old shelves (search rules) (search rules) (search rules) (slice_get_read shelves (length shelves) late one refl (omega (arith, c.if-late-min.true)) c.index-shelves-late.is) refl
           (omega (arith, c.if-late-min.true)) (λ n after _. after) (c.requires.others.counted counts);
       steps = c.requires.others.steps;
     })
