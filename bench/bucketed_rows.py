@@ -111,6 +111,23 @@ def emptied(shelves):
     return make
 
 
+def any_go(shelves):
+    """Full shelves of a bucket each, of which any two go and two come."""
+
+    def make(_program):
+        chooser = random.Random(11)
+        holders, lines = list(range(shelves)), []
+        for _ in range(ROUNDS // 4):
+            some = sorted(chooser.sample(range(shelves - 1), 2))
+            lines += [f"r {holders[shelf]}" for shelf in reversed(some)]
+            for shelf in some:
+                holders[shelf] = shelves + len(lines)
+                lines.append("a 16 8")
+        return [f"bucketed 16 {8 * shelves} 1 1 1 h"] + ["a 16 8"] * shelves, lines
+
+    return make
+
+
 def refused(_program):
     return full_shelves(), ["a 16 8"] * ROUNDS
 
@@ -183,16 +200,19 @@ ROWS = {
     # What the crate takes here was counted with plain geometry types in place of its own.
     "a shelf of 512, the same": Row(shelf_alone, 9679, before=10321),
     # Counted likewise, as the next ones.
-    "a shelf of 16 buckets with a little left: any goes and comes": Row(lambda _: little_left(16), 218, before=390),
-    "a shelf of 64, the same": Row(lambda _: little_left(64), 381, before=927),
-    "a full shelf of 64 buckets: any two go and two come": Row(lambda _: some_of_row(64, 2), 369, before=729),
-    "the same with 256": Row(lambda _: some_of_row(256, 2), 999, before=2351),
-    "the same with 128, any sixteen": Row(lambda _: some_of_row(128, 16), 588),
+    "a shelf of 16 buckets with a little left: any goes and comes": Row(lambda _: little_left(16), 217, before=390),
+    "a shelf of 64, the same": Row(lambda _: little_left(64), 379, before=927),
+    "a full shelf of 64 buckets: any two go and two come": Row(lambda _: some_of_row(64, 2), 364, before=729),
+    "the same with 256": Row(lambda _: some_of_row(256, 2), 994, before=2351),
+    "the same with 128, any sixteen": Row(lambda _: some_of_row(128, 16), 582),
     "4095 full shelves: the first goes and comes": Row(first_goes, 158, before=26829),
     "the same, any": Row(any_goes, 49080, before=26829, most=MOST),
-    # Counted likewise, as the next one.
-    "16 full shelves that are emptied in any order": Row(emptied(16), 86, before=136),
-    "4095 such shelves": Row(emptied(BUCKETS), 86, before=245),
+    # Counted likewise, as the next ones.
+    "16 full shelves that are emptied in any order": Row(emptied(16), 80, before=136),
+    "40 such shelves": Row(emptied(40), 80, before=194),
+    "4095 such shelves": Row(emptied(BUCKETS), 80, before=245),
+    "17 full shelves: any two go and two come": Row(any_go(17), 322, before=353),
+    "64 full shelves, the same": Row(any_go(64), 868, before=370),
     "4095 full shelves: a refused size": Row(refused, 311351, before=82013, most=MOST),
     "the same, a merge looked for": Row(merge_looked_for, 204872, before=67679, most=MOST),
     "4095 shelves with little room: a wider item is refused": Row(narrow_rooms, 311349, most=MOST),
@@ -201,10 +221,10 @@ ROWS = {
     "3000 shelves that are too low: the same item comes and goes": Row(too_low, 10673, most=MOST),
     "4000 empty shelves: a narrower item comes and goes": Row(empty_shelves, 94132, before=88714, most=MOST),
     "4094 empty shelves: each item has two of them merged": Row(merges, 154910, before=118894, most=MOST),
-    "an atlas is cleared and gets an item": Row(cleared, 167, before=1501),
-    "the same with a shelf of four buckets": Row(cleared_of_four, 210, before=333),
-    "an atlas without shelves is cleared": Row(cleared_empty, 30, before=53),
-    "an atlas is cleared and gets 16 items that add a shelf each": Row(filled_anew, 438, before=772),
+    "an atlas is cleared and gets an item": Row(cleared, 164, before=1501),
+    "the same with a shelf of four buckets": Row(cleared_of_four, 204, before=333),
+    "an atlas without shelves is cleared": Row(cleared_empty, 23, before=53),
+    "an atlas is cleared and gets 16 items that add a shelf each": Row(filled_anew, 434, before=772),
 }
 
 IN_THE_END = {
