@@ -1,7 +1,7 @@
 -- What is known of blocks of shelves: after a shelf was added or changed, and of shelves that are passed over.
 use Rattle.std.proofs.Common.{◌≡◌, ℕ, zero, suc, ◌+◌, ◌-◌, ◌*◌, ◌<◌, ◌≤◌, Bool, true, false, Option, None, Some, List, [], ◌∷◌, ◌++◌, length, length-append, take, cond, refl, ap, sym, subst, ◌∙◌, arith, ◌==◌}
 use Rattle.std.proofs.lemmas.Bool.Decides.{nat_tests}
-use Rattle.std.proofs.lemmas.Bool.{and_parts, eqb-true, leb-false, leb-true}
+use Rattle.std.proofs.lemmas.Bool.{and_parts, eqb-true, leb-false}
 use Rattle.std.proofs.lemmas.Option.{slice_get_within}
 use Rattle.std.specs.Option.{option_map_or}
 use Rattle.std.specs.Prelude.{option_map, nat_le, nat_lt, slice_get, ◌%◌, ◌||◌}

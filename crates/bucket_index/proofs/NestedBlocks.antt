@@ -1,15 +1,15 @@
 -- What is known of blocks is known of the larger ones around them: where a shelf is raised or lowered, where blocks are counted anew, and where they begin.
-use Rattle.std.proofs.Common.{◌≡◌, ℕ, zero, suc, ◌+◌, ◌*◌, ◌/◌, ◌%◌, ◌<◌, ◌≤◌, Bool, true, false, None, Some, List, [], ◌∷◌, length, replicate, cond, ap, arith, ◌==◌, ◌∙◌, refl, subst, sym}
+use Rattle.std.proofs.Common.{◌≡◌, ℕ, zero, suc, ◌+◌, ◌*◌, ◌/◌, ◌%◌, ◌<◌, ◌≤◌, Bool, true, false, Some, List, [], ◌∷◌, length, replicate, cond, ap, arith, ◌==◌, ◌∙◌, refl, subst, sym}
 use Rattle.std.proofs.lemmas.Bool.{eqb-false, eqb-true}
 use Rattle.std.proofs.lemmas.Option.{slice_get-get_or, slice_get_within}
-use Rattle.std.specs.Prelude.{nat_lt, slice_get, ◌||◌}
+use Rattle.std.specs.Prelude.{max, nat_lt, slice_get, ◌||◌}
 use Rattle.etagere_links.specs.Edits.{changed_by}
 use Rattle.bucketed_records.specs.declared.records.KeptShelf.{KeptShelf}
 use Rattle.bucketed_records.specs.Private.Store.{is_kept_idle}
 use Rattle.bucket_index.specs.declared.blocks.Block.{Block}
 use Rattle.bucket_index.specs.declared.blocks.Blocks.{Blocks}
 use Rattle.bucket_index.specs.declared.blocks.Others.{Others}
-use Rattle.bucket_index.specs.Private.Blocks.{AreCountedWhere, AreKnownIf, AreKnownOf, AreNested, AreNestedIn, AreOthersNested, AreParts, ArePartsBeside, IsKnown, IsKnownAt, IsOwnOf, IsPart, KnowsIdle, begun, block_at, block_of, kept_others, lowered, no_others, no_shelves, raised, remembered, remembered_others, with_own, with_shelf}
+use Rattle.bucket_index.specs.Private.Blocks.{AreCountedWhere, AreKnownIf, AreKnownOf, AreNested, AreNestedIn, AreOthersNested, AreParts, ArePartsBeside, IsCovered, IsKnown, IsKnownAt, IsOwnOf, IsPart, KnowsIdle, begun, block_at, block_of, kept_others, lowered, no_others, no_shelves, raised, remembered, remembered_others, with_own, with_shelf}
 use Rattle.bucket_index.proofs.KnownBlocks.{AreGathered, known-part, read-changed}
 
 -- each block knows nothing
@@ -29,7 +29,7 @@ joins false false i h e = e
 part-with : (one : KeptShelf) (block whole : Block) → IsPart block whole → IsPart (with_shelf one block) (with_shelf one whole)
 part-with one block whole part = record { room = omega (arith, part.room); idle = joins block.has_idle whole.has_idle (is_kept_idle one) part.idle }
 
-part-more : (one : KeptShelf) (block whole : Block) → IsPart block whole → IsPart block (with_shelf one whole)
+pub part-more : (one : KeptShelf) (block whole : Block) → IsPart block whole → IsPart block (with_shelf one whole)
 part-more one block whole part = record { room = omega (arith, part.room); idle = λ idle. ap (λ (b : Bool). b || is_kept_idle one) (part.idle idle) }
 
 -- the block of a number where one was changed
@@ -315,6 +315,40 @@ own-nested k blocks within nested = (
 
     large : Block
     large = block_at blocks.large (block_of 512 k)
+
+-- a block that knows a shelf is as it was where that is counted with it
+covered-same : (one : KeptShelf) (block : Block) → IsCovered one block → with_shelf one block ≡ block
+covered-same one block known =
+    subst (λ (room : ℕ). record { widest_room = room; has_idle = block.has_idle || is_kept_idle one } ≡ block) (sym wide)
+    (ap (λ (idle : Bool). record { widest_room = block.widest_room; has_idle = idle }) (either block.has_idle (is_kept_idle one) known.idle))
+  where
+    wide : max block.widest_room one.widest_room ≡ block.widest_room
+    wide = omega (arith, known.room)
+
+    either : (s t : Bool) → (t ≡ true → s ≡ true) → (s || t) ≡ s
+    either true t h = refl
+    either false true h = sym (h refl)
+    either false false h = refl
+
+-- blocks are as they were where the change of one is none
+changed-same : (change : Block → Block) (blocks : List Block) (k : ℕ) → change (block_at blocks k) ≡ block_at blocks k → changed_by (Some k) change blocks ≡ blocks
+changed-same change [] k same = refl
+changed-same change (x ∷ xs) zero same = ap (λ (block : Block). block ∷ xs) same
+changed-same change (x ∷ xs) (suc k) same = ap (λ (blocks : List Block). x ∷ blocks) (changed-same change xs k same)
+
+-- a shelf is raised once it is counted with its small block, where that is nested and the middle one knows it
+pub raised-small : (k : ℕ) (one : KeptShelf) (blocks : Blocks) → k < blocks.nested → AreNestedIn blocks → IsCovered one (block_at blocks.middle (block_of 64 k))
+    → record blocks { small = changed_by (Some (block_of 8 k)) (with_shelf one) blocks.small } ≡ raised k one blocks
+raised-small k one blocks within nested known =
+    rw (
+      changed-same (with_shelf one) blocks.middle (block_of 64 k) (covered-same one (block_at blocks.middle (block_of 64 k)) known),
+      changed-same (with_shelf one) blocks.large (block_of 512 k) (covered-same one (block_at blocks.large (block_of 512 k)) in_large),
+    ) refl
+  where
+    in_large : IsCovered one (block_at blocks.large (block_of 512 k))
+    in_large =
+        let part = in-large k blocks within nested in
+        record { room = omega (arith, known.room, part.room); idle = λ idle. part.idle (known.idle idle) }
 
 -- a shelf with nothing live is known to a small block that knows as much
 pub known-idle : (k room : ℕ) (one : KeptShelf) (blocks : Blocks) → one.widest_room ≡ room → KnowsIdle k room blocks → IsKnown one (block_at blocks.small (block_of 8 k))

@@ -1,5 +1,5 @@
 -- What is kept of the blocks of a shelf as they are known by the others, and of the shelf itself.
-use Rattle.std.proofs.Common.{◌≡◌, ℕ, ◌<◌, Bool, true, false, Some, List, length, cond, ap, arith, ◌==◌, ◌∙◌, refl, subst, sym}
+use Rattle.std.proofs.Common.{◌≡◌, ℕ, ◌<◌, ◌≤◌, Bool, true, false, Some, List, length, cond, ap, arith, ◌==◌, ◌∙◌, refl, subst, sym}
 use Rattle.std.proofs.lemmas.Bool.{eqb-true}
 use Rattle.std.proofs.lemmas.Option.{slice_get-get_or}
 use Rattle.std.specs.Prelude.{slice_get, ◌||◌}
@@ -11,7 +11,7 @@ use Rattle.bucket_index.specs.declared.blocks.Blocks.{Blocks}
 use Rattle.bucket_index.specs.declared.blocks.Others.{Others}
 use Rattle.bucket_index.specs.Private.Blocks.{AreCountedWhere, AreKnownIf, AreKnownOf, AreKnownWhere, AreOthers, IsBeside, IsBesideOf, IsFollowed, IsKnown, IsKnownOf, IsOwnKnown, IsOwnOf, IsPart, block_at, block_of, kept_others, lowered, no_others, no_shelves, raised, remembered, remembered_others, with_own, with_shelf}
 use Rattle.bucket_index.proofs.KnownBlocks.{known-own, known-part, known-still, raise-known, read-changed, some-same}
-use Rattle.bucket_index.proofs.NestedBlocks.{nested-kept, nested-lowered, nested-none, nested-own, nested-raised, nested-remembered, own-nested, part-none}
+use Rattle.bucket_index.proofs.NestedBlocks.{nested-kept, nested-lowered, nested-none, nested-own, nested-raised, nested-remembered, own-nested, part-more, part-none}
 
 -- a block that was counted with a shelf knows it
 part-shelf : (kept : KeptShelf) (block : Block) → IsPart (with_shelf kept no_shelves) (with_shelf kept block)
@@ -96,17 +96,33 @@ raise-counted k room one blocks shelves long wide few here within counted = reco
     each = raise-known (λ n. n ≡ k → ⊥) (λ n. Unit {0}) k one (remembered k room blocks) shelves here (λ n any other. other) before
 
 -- the same where nothing is kept of others
+pub raise-unkept : (k : ℕ) (one : KeptShelf) (blocks : Blocks) (shelves : List KeptShelf) → length blocks.small ≡ 512 → length blocks.middle ≡ 64 → length blocks.large ≡ 8 → slice_get shelves k ≡ Some one
+    → 4096 ≤ blocks.others.number → AreCountedWhere (λ n. n ≡ k → ⊥) blocks shelves → AreCountedWhere (λ n. Unit {0}) (raised k one blocks) shelves
+raise-unkept k one blocks shelves long wide few here none counted = record {
+  each = raise-known (λ n. n ≡ k → ⊥) (λ n. Unit {0}) k one blocks shelves here (λ n any other. other) counted.each;
+  others = λ some. absurd (omega (arith, some, none));
+  own = record { small = of_size 8 blocks.small counted.own.small; middle = of_size 64 blocks.middle counted.own.middle; large = of_size 512 blocks.large counted.own.large };
+  nested = nested-raised k one blocks long wide few (λ some. absurd (omega (arith, some, none))) counted.nested;
+}
+  where
+    of_size : (size : ℕ) (bs : List Block) → IsOwnOf size blocks.others.number blocks.others.own bs
+        → IsOwnOf size blocks.others.number blocks.others.own (changed_by (Some (block_of size k)) (with_shelf one) bs)
+    of_size size bs known block at =
+        read-changed (with_shelf one) bs (block_of size k) (block_of size blocks.others.number) block at
+        (λ z stood same is. subst (IsPart blocks.others.own) (sym is) (part-more one blocks.others.own z (known z (ap (slice_get bs) same ∙ stood))))
+        (λ apart stood. known block stood)
+
+-- the same where that is forgotten
 pub raise-without : (k : ℕ) (one : KeptShelf) (blocks : Blocks) (shelves : List KeptShelf) → length blocks.small ≡ 512 → length blocks.middle ≡ 64 → length blocks.large ≡ 8 → slice_get shelves k ≡ Some one
     → AreCountedWhere (λ n. n ≡ k → ⊥) blocks shelves → AreCountedWhere (λ n. Unit {0}) (raised k one (record blocks { others = no_others })) shelves
-raise-without k one blocks shelves long wide few here counted = record {
-  each = raise-known (λ n. n ≡ k → ⊥) (λ n. Unit {0}) k one (record blocks { others = no_others }) shelves here (λ n any other. other)
-      (record { small = counted.each.small; middle = counted.each.middle; large = counted.each.large });
-  others = λ some. absurd (omega (arith, some));
-  own = record { small = λ block at. part-none block; middle = λ block at. part-none block; large = λ block at. part-none block };
-  nested =
-      nested-raised k one (record blocks { others = no_others }) long wide few (λ some. absurd (omega (arith, some)))
-      (nested-none blocks.nested blocks.small blocks.middle blocks.large blocks.others counted.nested);
-}
+raise-without k one blocks shelves long wide few here counted =
+    raise-unkept k one (record blocks { others = no_others }) shelves long wide few here (omega arith)
+    (record {
+      each = record { small = counted.each.small; middle = counted.each.middle; large = counted.each.large };
+      others = λ some. absurd (omega (arith, some));
+      own = record { small = λ block at. part-none block; middle = λ block at. part-none block; large = λ block at. part-none block };
+      nested = nested-none blocks.nested blocks.small blocks.middle blocks.large blocks.others counted.nested;
+    })
 
 -- all are known where the blocks of a shelf are kept as they stand, whose small one knows it
 pub kept-counted : (k room : ℕ) (blocks : Blocks) (shelves : List KeptShelf) → length blocks.small ≡ 512 → length blocks.middle ≡ 64 → length blocks.large ≡ 8 → k < blocks.nested

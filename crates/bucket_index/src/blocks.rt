@@ -233,6 +233,17 @@ fn may_be_idle(blocks: &[Block], number: usize) -> bool
     number >= blocks.len() || blocks[number].has_idle
 }
 
+/// Whether a shelf is known to the block of a number.
+fn knows_shelf(blocks: &[Block], number: usize, kept: &KeptShelf) -> bool
+    ensures { IsTrue result → spec.IsCovered kept.now (spec.block_at blocks.now number) }
+{
+    if number >= blocks.len() {
+        return false;
+    }
+    let block = &blocks[number];
+    kept.widest_room <= block.widest_room && (block.has_idle || !kept.is_idle())
+}
+
 /// What is known of the block of a number.
 fn block_at(blocks: &[Block], number: usize) -> Block
     ensures { result ≡ spec.block_at blocks.now number }
@@ -706,7 +717,41 @@ impl Blocks {
         if self.others.number < MOST_SHELVES {
             self.follow_emptied_first(shelves, number, before);
         } else if !self.knows_idle(number, shelves[number].widest_room) {
-            self.raise_alone(shelves, number);
+            self.raise_emptied(shelves, number);
+        }
+    }
+
+    /// The same where its small block may know less, and nothing is kept of others.
+    fn raise_emptied(&mut self, shelves: &[KeptShelf], number: usize)
+        requires counted { self.old.are_counted ≡ true }
+        requires within { number < length shelves.now }
+        requires none { 4096 ≤ self.old.others.number }
+        requires others { spec.AreOthersKnown number self.old shelves.now }
+        ensures { spec.AreKnown self.new shelves.now }
+    {
+        let emptied = &shelves[number];
+        if number < self.nested {
+            self.raise_nested(number, emptied);
+        } else {
+            self.raise(number, emptied);
+        }
+    }
+
+    /// Knows the shelf of a number beside the others, where what is known of its small block is known of the larger ones: these
+    /// stay as they are where the middle one knows it.
+    fn raise_nested(&mut self, number: usize, kept: &KeptShelf)
+        requires nested { spec.AreNestedIn self.old }
+        requires within { number < self.old.nested }
+        ensures { self.new ≡ spec.raised number kept.now self.old }
+    {
+        let room = kept.widest_room;
+        let is_idle = kept.is_idle();
+        let middle = number / SHELVES_OF_MIDDLE;
+        let large = number / SHELVES_OF_LARGE;
+        raise_block(&mut self.small, number / SHELVES_OF_BLOCK, room, is_idle);
+        if !knows_shelf(&self.middle, middle, kept) {
+            raise_block(&mut self.middle, middle, room, is_idle);
+            raise_block(&mut self.large, large, room, is_idle);
         }
     }
 
@@ -721,11 +766,13 @@ impl Blocks {
         requires others { spec.AreOthersKnown number self.old shelves.now }
         ensures { spec.AreKnown self.new shelves.now }
     {
-        let stays = number == self.others.number || self.is_late;
-        if !stays && self.knows_idle(number, shelves[number].widest_room) {
+        let room = before.widest_room;
+        if number == self.others.number || self.is_late {
+            self.follow_returned(shelves, number, before);
+        } else if self.knows_idle(number, shelves[number].widest_room) {
             self.others.number = MOST_SHELVES;
         } else {
-            self.follow_returned(shelves, number, before);
+            self.raise_beside(shelves, number, room);
         }
     }
 
@@ -855,7 +902,7 @@ impl Blocks {
         }
     }
 
-    /// The same where it is.
+    /// The same where it is the first of these.
     #[inline(never)]
     fn begin_small(&mut self, last: usize)
         requires { last < 4096 }

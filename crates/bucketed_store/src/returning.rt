@@ -137,8 +137,8 @@ pub(crate) fn return_only(shelves: &mut [KeptShelf], buckets: &mut [LinkedBucket
 {
     let bucket = &mut buckets[number];
     let kept = &mut shelves[usize::from(bucket.shelf)];
-    empty_bucket(bucket, kept.shelf.bucket_width);
     count_none(kept);
+    empty_bucket(bucket, kept.shelf.bucket_width);
 }
 
 /// Whether an item returned to the bucket of a number is the only live one of its shelf, and no shelf is dropped then.

@@ -337,13 +337,16 @@ impl BucketedAtlasAllocator {
 
     /// Takes everything back at once: the atlas is as new, with its present size and columns.
     ///
-    /// Takes no memory, and gives none back. Takes constant time with up to 8 shelves, since dropping a record does
+    /// Takes no memory, and gives none back. Takes constant time with up to 32 shelves, since dropping a record does
     /// nothing, else forgets what is known of each 8 of them.
     pub fn clear(&mut self)
         ensures cleared { self.new ≡ fresh self.old.frame }
         ensures empty { AreTied [] self.new }
         ensures promises { KeepsPromises self.new }
     {
+        if self.store.is_empty() {
+            return;
+        }
         self.store.clear();
         self.current_column = 0;
         self.available_height = self.frame.across_side();

@@ -477,22 +477,57 @@ fn copy_all(kept: &mut Vec<LinkedShelf>, shelves: &[LinkedShelf])
     ensures items { kept.new.items ≡ shelves.now }
     ensures capacity { vec_capacity kept.new ≡ vec_capacity kept.old }
 {
+    if kept.len() == shelves.len() {
+        write_all(kept, shelves);
+    } else {
+        push_all(kept, shelves);
+    }
+}
+
+/// The same where there are as many.
+fn write_all(kept: &mut [LinkedShelf], shelves: &[LinkedShelf])
+    requires { length shelves.now ≡ length kept.old }
+    ensures { kept.new ≡ shelves.now }
+{
+    for at in 0..shelves.len() {
+        kept[at] = shelves[at];
+    }
+}
+
+/// The same where there are more or fewer. Never inlined, so that what calls it is short.
+#[inline(never)]
+fn push_all(kept: &mut Vec<LinkedShelf>, shelves: &[LinkedShelf])
+    requires { length shelves.now ≤ vec_capacity kept.old }
+    ensures items { kept.new.items ≡ shelves.now }
+    ensures capacity { vec_capacity kept.new ≡ vec_capacity kept.old }
+{
     kept.clear();
     for shelf in shelves {
         kept.push_reserved(*shelf);
     }
 }
 
-/// Makes entries of so many shelves, for which there is room, of each of which the same is known. Those that are there are
-/// written over at once.
+/// Makes entries of so many shelves, for which there is room, of each of which the same is known.
 fn know_all(standing: &mut Vec<Standing>, count: usize, known: Standing)
     requires { count ≤ vec_capacity standing.old }
     ensures items { standing.new.items ≡ replicate count known }
     ensures capacity { vec_capacity standing.new ≡ vec_capacity standing.old }
 {
-    standing.truncate(count);
+    if standing.len() != count {
+        resize_within(standing, count, known);
+    }
     standing.fill(known);
-    for _shelf in standing.len()..count {
+}
+
+/// Leaves or makes so many entries, for which there is room. Never inlined, so that what calls it is short.
+#[inline(never)]
+fn resize_within(standing: &mut Vec<Standing>, count: usize, known: Standing)
+    requires { count ≤ vec_capacity standing.old }
+    ensures len { length standing.new.items ≡ count }
+    ensures capacity { vec_capacity standing.new ≡ vec_capacity standing.old }
+{
+    standing.truncate(count);
+    while standing.len() < count {
         standing.push_reserved(known);
     }
 }

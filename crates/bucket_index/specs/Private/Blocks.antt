@@ -219,12 +219,13 @@ pub record AreNested (shelves : ℕ) (smalls middles larges : List Block) (kept 
   pub few : shelves ≤ 4096
   pub whole : shelves % 8 ≡ 0
 
+-- the same of those that an atlas keeps
 abbrev pub AreNestedIn : Blocks → Type 0
 AreNestedIn blocks =
     AreNested blocks.nested blocks.small blocks.middle blocks.large blocks.others
 
--- what is known of the small block of a shelf is known of its larger ones, and that there is one with this room and with
--- nothing live
+-- the small block of a shelf is one of those that are known of larger ones, and knows one with this room and with nothing
+-- live
 pub record KnowsIdle (number wanted : ℕ) (blocks : Blocks) : Type 0 where
   pub within : number < blocks.nested
   pub room : wanted ≤ (block_at blocks.small (block_of 8 number)).widest_room

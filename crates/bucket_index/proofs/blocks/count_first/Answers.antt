@@ -1,4 +1,4 @@
-use Rattle.std.proofs.Common.{◌≡◌, ◌*◌, subst, sym, arith}
+use Rattle.std.proofs.Common.{subst, sym, arith}
 use Rattle.bucket_index.specs.Private.Blocks.{IsKnown, block_of}
 use Rattle.bucket_index.proofs.KnownBlocks.{read-changed}
 use Rattle.bucket_index.proofs.blocks.count_first.Goals as goal

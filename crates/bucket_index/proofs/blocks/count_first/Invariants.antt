@@ -1,4 +1,4 @@
-use Rattle.std.proofs.Common.{◌≡◌, ◌*◌, ◌<◌}
+use Rattle.std.proofs.Common.{◌*◌, ◌<◌}
 use Rattle.bucket_index.specs.Private.Blocks.{AreKnownOf}
 use Rattle.bucket_index.proofs.blocks.count_first.Given as goal
 

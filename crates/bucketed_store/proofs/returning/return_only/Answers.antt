@@ -1,4 +1,4 @@
-use Rattle.std.proofs.Common.{◌≡◌, ℕ, ◌-◌, Bool, Some, Option, cond, get_or, refl, sym, ◌∙◌, ap, arith}
+use Rattle.std.proofs.Common.{◌≡◌, ℕ, ◌-◌, Bool, true, Some, Option, cond, get_or, refl, sym, ◌∙◌, ap, arith}
 use Rattle.std.proofs.lemmas.Option.{slice_get_read}
 use Rattle.std.specs.Option.{option_map_or}
 use Rattle.std.specs.Prelude.{slice_get, nat_le, length}
@@ -35,5 +35,5 @@ returns-clause-buckets c =
     set-changed_by (returned_record (width_of c.args.shelves.now (shelf_of c.args.buckets.now c.args.number))) c.args.buckets.now (Some c.args.number)
     c.args.number c.empty_bucket.new.bucket c.index-buckets-number.result refl c.requires.number
     (c.empty_bucket.ensures
-    ∙ ap (λ (w : ℕ). emptied_record w one) (ap (λ (k : KeptShelf). k.shelf.bucket_width) (sym c.index-shelves-from.is) ∙ width)
+    ∙ ap (λ (w : ℕ). emptied_record w one) (ap (λ (k : KeptShelf). k.shelf.bucket_width) (c.count_none.ensures ∙ ap (returned_kept true) (sym c.index-shelves-from.is)) ∙ width)
     ∙ ap (λ (t : Bool). cond t (emptied_record (width_of c.args.shelves.now (shelf_of c.args.buckets.now c.args.number)) one) (lessened_record one)) (sym only))

@@ -1,4 +1,4 @@
-use Rattle.std.proofs.Common.{rules, length, arith}
+use Rattle.std.proofs.Common.{rules}
 use Rattle.bucket_index.proofs.NestedBlocks.{known-counted}
 use Rattle.bucket_index.proofs.blocks.Blocks.count.Goals as goal
 

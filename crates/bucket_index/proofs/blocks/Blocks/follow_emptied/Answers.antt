@@ -1,4 +1,4 @@
-use Rattle.std.proofs.Common.{◌≡◌, length, ap, refl, arith}
+use Rattle.std.proofs.Common.{length, ap, refl, arith}
 use Rattle.std.proofs.lemmas.Option.{slice_get_read}
 use Rattle.bucket_index.specs.Private.Blocks.{KeptShelf}
 use Rattle.bucket_index.proofs.KnownBlocks.{known-with}

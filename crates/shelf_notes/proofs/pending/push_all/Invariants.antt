@@ -1,5 +1,5 @@
 use Rattle.std.proofs.Common.{◌≡◌, take, vec_capacity}
-use Rattle.shelf_notes.proofs.pending.copy_all.Given as goal
+use Rattle.shelf_notes.proofs.pending.push_all.Given as goal
 
 -- the records so far are the first of them
 abbrev pub invariant-loop-shelf : goal.invariant-loop-shelf
