@@ -121,18 +121,19 @@ ends-before shelf change shelves before last =
     inner : Some shelf ≡ Some (length shelves - 1) → shelf ≡ length shelves - 1
     inner h = cc
 
--- a return keeps a record's link
-pub links-same : (width : ℕ) (b : LinkedBucket) → (returned_record width b).next ≡ b.next
-links-same width b = by_test (nat_le b.refcount 1)
+-- a return keeps of a record what is kept whether it empties the bucket or not
+kept-same : {X : Type 0} (field : LinkedBucket → X) (width : ℕ) (b : LinkedBucket) → field (emptied_record width b) ≡ field b → field (lessened_record b) ≡ field b
+    → field (returned_record width b) ≡ field b
+kept-same field width b emptied lessened = by_test (nat_le b.refcount 1)
   where
-    by_test : (t : Bool) → (cond t (emptied_record width b) (lessened_record b)).next ≡ b.next
-    by_test true = refl
-    by_test false = refl
+    by_test : (t : Bool) → field (cond t (emptied_record width b) (lessened_record b)) ≡ field b
+    by_test true = emptied
+    by_test false = lessened
+
+-- its link
+pub links-same : (width : ℕ) (b : LinkedBucket) → (returned_record width b).next ≡ b.next
+links-same width b = kept-same (λ (r : LinkedBucket). r.next) width b refl refl
 
 -- and its place
 pub places-same : (width : ℕ) (b : LinkedBucket) → (returned_record width b).x ≡ b.x
-places-same width b = by_test (nat_le b.refcount 1)
-  where
-    by_test : (t : Bool) → (cond t (emptied_record width b) (lessened_record b)).x ≡ b.x
-    by_test true = refl
-    by_test false = refl
+places-same width b = kept-same (λ (r : LinkedBucket). r.x) width b refl refl

@@ -4,6 +4,7 @@ pub mod Emptying
 pub mod KnownShelves
 pub mod LeftShelves
 pub mod MadeOnes
+pub mod ReadRecords
 pub mod Refused
 pub mod RoomsKept
 pub mod Spelling

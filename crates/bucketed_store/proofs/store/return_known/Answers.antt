@@ -1,5 +1,4 @@
-use Rattle.std.proofs.Common.{◌≡◌, List, Some, subst, sym}
-use Rattle.etagere_links.specs.Edits.{changed_by}
+use Rattle.std.proofs.Common.{List, subst, sym}
 use Rattle.bucketed_records.specs.declared.records.LinkedBucket.{LinkedBucket}
 use Rattle.bucketed_records.specs.StandsFor.{shelf_of}
 use Rattle.bucket_index.specs.Private.Rooms.{AreCounted}

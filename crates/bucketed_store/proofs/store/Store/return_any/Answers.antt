@@ -1,4 +1,4 @@
-use Rattle.std.proofs.Common.{◌≡◌, ℕ, ◌+◌, ◌<◌, List, Bool, true, false, Some, length, ap, cond, Option, None, refl, subst, sym, ◌∙◌, arith, ◌==◌}
+use Rattle.std.proofs.Common.{◌≡◌, ℕ, ◌+◌, ◌<◌, List, false, Some, length, ap, Option, None, refl, subst, sym, ◌∙◌, arith, ◌==◌}
 use Rattle.std.proofs.lemmas.List.{with_items_is}
 use Rattle.std.proofs.lemmas.Option.{slice_get-get_or}
 use Rattle.std.specs.Option.{option_map_or}
@@ -23,7 +23,7 @@ use Rattle.bucket_index.proofs.MissedShelves.{missed-beside}
 use Rattle.bucket_index.proofs.RestOfRows.{known-beside}
 use Rattle.bucket_index.proofs.KnownBlocks.{AreSome, followed-stays, known-at, known-others}
 use Rattle.bucket_index.proofs.KnownSpans.{spans-changed-room}
-use Rattle.bucketed_store.specs.Private.Returns.{Dropping, dropping_from, dropping_of, emptied_record, ends_idle, item_returned, lessened_record, returned_kept, returned_record, width_of}
+use Rattle.bucketed_store.specs.Private.Returns.{Dropping, dropping_from, dropping_of, ends_idle, item_returned, returned_kept, returned_record, width_of}
 use Rattle.bucketed_store.specs.Private.StoreEdits.{IsInRow, KnowsWidest, first_bucket_of}
 use Rattle.bucketed_store.proofs.KnownShelves.{height-kept, others-some, some-dropped}
 use Rattle.bucketed_store.proofs.LeftShelves.{ends-before, links-same, none-dropped, places-same, stored-returned}
