@@ -212,7 +212,6 @@ impl Store {
     /// Makes the new shelves, with their buckets, where so many are in use. Takes memory for the records
     /// of shelves, and for those of buckets as far as too few were unused. The error comes only where
     /// there was no memory, and then nothing has changed.
-    #[inline(never)]
     pub(crate) fn add(
         &mut self,
         frame: &Frame,
