@@ -162,6 +162,11 @@ def cleared_of_four(_program):
     return ["bucketed 512 512 1 1 1 h"], ["c", "a 8 8"] * ROUNDS
 
 
+def cleared_aligned(_program):
+    """An atlas with an alignment is cleared and gets an item, with a shelf of four buckets."""
+    return ["bucketed 380 76 4 4 1 h"], ["c", "a 18 49"] * ROUNDS
+
+
 def cleared_empty(_program):
     """An atlas without shelves, which is cleared again and again."""
     return ["bucketed 1024 64 1 1 1 h"], ["c"] * ROUNDS
@@ -176,6 +181,21 @@ def empty_shelves(_program):
     """4000 empty shelves of a bucket each before one in use, and an item that is a pixel narrower than they are."""
     filling = ["bucketed 8 32000 1 1 1 h"] + ["a 8 8"] * 4000 + [f"r {position}" for position in range(3999)]
     return filling, comes_and_goes(len(filling) - 1, "a 7 8")
+
+
+def last_low_ones(shelves):
+    """Items for which all shelves are too tall, so that each adds one, of which the last eight go and eight come."""
+
+    def make(_program):
+        holders, lines = list(range(shelves)), []
+        for _ in range(ROUNDS // 16):
+            lines += [f"r {holders.pop()}" for _ in range(8)]
+            for _ in range(8):
+                holders.append(shelves + len(lines))
+                lines.append("a 23 1")
+        return ["bucketed 61 848 2 2 1 h"] + ["a 23 1"] * shelves, lines
+
+    return make
 
 
 def too_low(_program):
@@ -219,10 +239,12 @@ ROWS = {
     "4095 shelves that are too tall: the same item comes and goes": Row(too_tall, 16626, most=MOST),
     # Counted likewise, as the next ones.
     "3000 shelves that are too low: the same item comes and goes": Row(too_low, 10673, most=MOST),
+    "44 shelves that are too tall: eight more come and go": Row(last_low_ones(44), 551, before=690),
     "4000 empty shelves: a narrower item comes and goes": Row(empty_shelves, 94132, before=88714, most=MOST),
     "4094 empty shelves: each item has two of them merged": Row(merges, 154910, before=118894, most=MOST),
     "an atlas is cleared and gets an item": Row(cleared, 164, before=1501),
     "the same with a shelf of four buckets": Row(cleared_of_four, 204, before=333),
+    "the same in 380x76 with an alignment of 4": Row(cleared_aligned, 181, before=287),
     "an atlas without shelves is cleared": Row(cleared_empty, 23, before=53),
     "an atlas is cleared and gets 16 items that add a shelf each": Row(filled_anew, 434, before=772),
 }

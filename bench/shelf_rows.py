@@ -111,6 +111,11 @@ def cleared_empty(_program):
     return ["atlas 1024 1024 1 1 1 h"], ["c"] * ROUNDS
 
 
+def columns_anew(_program):
+    """An atlas of 13 columns is cleared and gets four items."""
+    return ["atlas 111 45864 1 1 13 v"], ["c", "a 61 153", "a 62 153", "a 61 153", "a 61 153"] * (ROUNDS // 5)
+
+
 def first_ones_empty(shelves, empty):
     """Shelves of one item each, of two heights, of which the first go two at a time, and one behind them that splits and
     merges, meanwhile and after that.
@@ -198,6 +203,7 @@ ROWS = {
     "100 shelves drained in any order": Row(drained(100, False), 136, before=242),
     "100 shelves of five heights, the same": Row(drained_of_heights(100), 135, before=260),
     "an atlas without items is cleared": Row(cleared_empty, 115, before=201),
+    "an atlas of 13 columns is cleared and gets four items": Row(columns_anew, 422, before=579),
     "4096 shelves, half of them empty: a split and a merge": Row(half_empty(16, 256), 26893, before=1754),
     "32000 such shelves": Row(half_empty(16, 2000), before=9120, most=600),
     "the same item alone: its shelf splits and merges": Row(same_item(0), 285, before=772),
