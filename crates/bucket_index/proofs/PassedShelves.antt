@@ -79,15 +79,21 @@ exact-past sides buckets m zero (x ∷ xs) kept at none =
     ap (λ (o : Option FoundBucket). or_else o (exact_from sides buckets (suc m) xs)) (ap (exact_in sides buckets m) same ∙ none)
 exact-past sides buckets m (suc n) (x ∷ xs) kept at none = exact-past sides buckets m n xs kept at none
 
--- the best so far is the best past shelves that count for nothing
+-- the best so far is the best past shelves that leave it
+pub least-left : (adds : Bool) (sides : Sides) (shelves : List KeptShelf) (best : Option Found) (from behind : ℕ) → best ≡ first_least (map (kept_waste adds sides) (take from shelves)) → from ≤ behind
+    → ((number : ℕ) (kept : KeptShelf) → from ≤ number → number < behind → slice_get shelves number ≡ Some kept → better best (option_map (λ n. record { number = number; rank = n }) (kept_waste adds sides kept)) ≡ best)
+    → best ≡ first_least (map (kept_waste adds sides) (take behind shelves))
+least-left adds sides shelves best from behind is on leaves =
+    let end : from + (behind - from) ≡ behind = omega (arith, on) in
+    sym (best-keeps (kept_waste adds sides) shelves best from (behind - from) (sym is) (λ k x low high at. leaves k x low (omega (arith, high, end)) at))
+    ∙ ap (λ (k : ℕ). first_least (map (kept_waste adds sides) (take k shelves))) end
+
+-- the same where they count for nothing
 pub least-past : (adds : Bool) (sides : Sides) (shelves : List KeptShelf) (best : Option Found) (from behind : ℕ) → best ≡ first_least (map (kept_waste adds sides) (take from shelves)) → from ≤ behind
     → ((number : ℕ) (kept : KeptShelf) → from ≤ number → number < behind → slice_get shelves number ≡ Some kept → kept_waste adds sides kept ≡ None) → best ≡ first_least (map (kept_waste adds sides) (take behind shelves))
 least-past adds sides shelves best from behind is on none =
-    let end : from + (behind - from) ≡ behind = omega (arith, on) in
-    sym (best-keeps (kept_waste adds sides) shelves best from (behind - from) (sym is)
-    (λ k x low high at.
-    ap (λ (r : Option ℕ). better best (option_map (λ n. record { number = k; rank = n }) r)) (none k x low (omega (arith, high, end)) at) ∙ better-same best))
-    ∙ ap (λ (k : ℕ). first_least (map (kept_waste adds sides) (take k shelves))) end
+    least-left adds sides shelves best from behind is on
+    (λ number kept low high at. ap (λ (r : Option ℕ). better best (option_map (λ n. record { number = number; rank = n }) r)) (none number kept low high at) ∙ better-same best)
 
 -- a search for an exact bucket goes on past shelves that have none
 pub exact-behind : (sides : Sides) (buckets : List LinkedBucket) (shelves : List KeptShelf) (from behind : ℕ) → from ≤ behind

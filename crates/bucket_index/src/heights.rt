@@ -1,9 +1,10 @@
-//! How tall neighbouring shelves are at most, so that a search passes over those that are too low.
+//! How tall neighbouring shelves are at most and at least, so that a search passes over those that are too low, or waste too
+//! much.
 //!
-//! Definitions: `Private/Heights`. What is known may be too much, never too little. Where no more shelves stand than a
-//! search goes through anyway nothing need be known.
+//! Definitions: `Private/Heights`. What is known of the tallest may be too much, never too little, and of the lowest the
+//! other way round. Where no more shelves stand than a search goes through anyway nothing need be known.
 
-ghost use Rattle.std.specs.Prelude.{◌≡◌, ◌-◌, ◌<◌, ◌≤◌, ◌^◌, Some, length, false, max, take};
+ghost use Rattle.std.specs.Prelude.{◌≡◌, ◌-◌, ◌+◌, ◌<◌, ◌≤◌, ◌^◌, IsTrue, Some, length, false, take};
 ghost use Rattle.etagere_links.specs.Edits.{changed_by};
 ghost use Rattle.bucket_index.specs.Private.Heights as spec;
 
@@ -22,30 +23,62 @@ const MOST_SMALL: usize = 256;
 /// Of how many large blocks.
 const MOST_LARGE: usize = 16;
 
-/// The height of the tallest shelf of each block, or more, in two sizes. Before there are more shelves than in a small
-/// block of `Blocks` nothing is known of them.
+/// How tall the shelves of a block are.
+#[derive(Clone, Copy)]
+pub struct HeightRange {
+    /// None that has a height is lower.
+    pub lowest: u16,
+    /// None is taller.
+    pub tallest: u16,
+}
+
+/// No shelf has a height.
+const NO_HEIGHTS: HeightRange = HeightRange {
+    lowest: u16::MAX,
+    tallest: 0,
+};
+
+/// How tall the shelves of each block are, in two sizes. Before there are more shelves than in a small block of `Blocks`
+/// nothing is known of them.
 #[derive(Clone, Copy)]
 pub struct Heights {
     pub are_known: bool,
-    pub small: [u16; MOST_SMALL],
-    pub large: [u16; MOST_LARGE],
+    pub small: [HeightRange; MOST_SMALL],
+    pub large: [HeightRange; MOST_LARGE],
 }
 
 /// Knows a shelf of this height in a block.
-fn raise(tallest: &mut [u16], block: usize, height: u16)
-    ensures { tallest.new ≡ changed_by (Some block) (max height) tallest.old }
+fn widen(ranges: &mut [HeightRange], block: usize, height: u16)
+    ensures { ranges.new ≡ changed_by (Some block) (spec.widened height) ranges.old }
 {
-    if block < tallest.len() {
-        let most = &mut tallest[block];
-        *most = height.max(*most);
+    if block < ranges.len() {
+        let range = &mut ranges[block];
+        range.lowest = height.min(range.lowest);
+        range.tallest = height.max(range.tallest);
     }
 }
 
-/// Whether all shelves of a block are lower than this.
-fn is_low(tallest: &[u16], block: usize, across: u32) -> bool
-    ensures { result ≡ spec.is_low across tallest.now block }
+/// Knows that no shelf of a block has a height.
+fn empty(ranges: &mut [HeightRange], block: usize)
+    ensures { ranges.new ≡ changed_by (Some block) (λ _. spec.no_heights) ranges.old }
 {
-    block < tallest.len() && u32::from(tallest[block]) < across
+    if block < ranges.len() {
+        let range = &mut ranges[block];
+        range.lowest = NO_HEIGHTS.lowest;
+        range.tallest = NO_HEIGHTS.tallest;
+    }
+}
+
+/// Whether each shelf of a block that has a height is lower than one height, or each is as tall as another.
+fn are_outside(ranges: &[HeightRange], block: usize, across: u32, too_tall: u32) -> bool
+    ensures within { IsTrue result → block < length ranges.now }
+    ensures outside { IsTrue result → spec.AreOutside across too_tall ranges.now block }
+{
+    if block >= ranges.len() {
+        return false;
+    }
+    let range = &ranges[block];
+    u32::from(range.tallest) < across || too_tall <= u32::from(range.lowest)
 }
 
 impl Heights {
@@ -55,8 +88,8 @@ impl Heights {
     {
         Heights {
             are_known: false,
-            small: [0; MOST_SMALL],
-            large: [0; MOST_LARGE],
+            small: [NO_HEIGHTS; MOST_SMALL],
+            large: [NO_HEIGHTS; MOST_LARGE],
         }
     }
 
@@ -75,19 +108,17 @@ impl Heights {
     pub fn forget(&mut self)
         ensures { self.new.are_known ≡ false }
     {
-        if self.are_known {
-            *self = Heights::new();
-        }
+        self.are_known = false;
     }
 
     /// Knows how tall these shelves are.
     fn learn(&mut self, shelves: &[KeptShelf])
-        ensures { spec.AreAllBelow self.new shelves.now }
+        ensures { spec.AreAllWithin self.new shelves.now }
     {
         self.are_known = true;
         for number in 0..shelves.len() {
             let kept = &shelves[number];
-            self.add(number, kept.shelf.height);
+            self.add_behind(number, kept.shelf.height);
         }
     }
 
@@ -95,8 +126,28 @@ impl Heights {
     pub fn add(&mut self, number: usize, height: u16)
         ensures { self.new ≡ spec.with_height number height self.old }
     {
-        raise(&mut self.small, number / SHELVES_OF_SMALL, height);
-        raise(&mut self.large, number / SHELVES_OF_LARGE, height);
+        widen(&mut self.small, number / SHELVES_OF_SMALL, height);
+        widen(&mut self.large, number / SHELVES_OF_LARGE, height);
+    }
+
+    /// Knows that the shelf of a number, behind which there is none, is so tall.
+    fn add_behind(&mut self, number: usize, height: u16)
+        ensures { self.new ≡ spec.with_height number height (spec.begun number self.old) }
+    {
+        if number % SHELVES_OF_SMALL == 0 {
+            self.begin(number);
+        }
+        self.add(number, height);
+    }
+
+    /// Knows nothing of the blocks that begin with the shelf of a number.
+    fn begin(&mut self, number: usize)
+        ensures { self.new ≡ spec.begun_at number self.old }
+    {
+        empty(&mut self.small, number / SHELVES_OF_SMALL);
+        if number % SHELVES_OF_LARGE == 0 {
+            empty(&mut self.large, number / SHELVES_OF_LARGE);
+        }
     }
 
     /// Knows the last shelf beside the others. Where it is one more than a search goes through anyway, all are known.
@@ -108,28 +159,30 @@ impl Heights {
         let last = shelves.len() - 1;
         if self.are_known {
             let kept = &shelves[last];
-            self.add(last, kept.shelf.height);
+            self.add_behind(last, kept.shelf.height);
         } else if last == FEW_SHELVES {
             self.learn(shelves);
         }
     }
 
-    /// Where a search for a shelf that is so tall goes on that has come to the shelf of a number, one of so many: at that
-    /// one, or behind blocks in which each is lower.
-    pub(crate) fn behind_low(&self, from: usize, across: u32, count: usize) -> usize
-        requires { count < 2 ^ 62 }
+    /// Where a search for a shelf that is so tall and wastes less than this goes on that has come to the shelf of a number, one
+    /// of so many: at that one, or behind blocks in which each is too low or wastes as much.
+    pub(crate) fn behind_unfit(&self, from: usize, across: u32, limit: u32, count: usize) -> usize
+        requires across { 0 < across }
+        requires count { count < 2 ^ 62 }
         ensures on { from ≤ result }
-        ensures low { (shelves : spec.Shelves) → spec.AreBelow self.now shelves
-            → spec.AreLow across from result shelves }
+        ensures unfit { (shelves : spec.Shelves) → spec.AreBelow self.now shelves
+            → spec.AreUnfit across limit from result shelves }
     {
         if !self.are_known {
             return from;
         }
+        let too_tall = across.saturating_add(limit);
         let mut at = from;
         while at < count {
-            if is_low(&self.large, at / SHELVES_OF_LARGE, across) {
+            if are_outside(&self.large, at / SHELVES_OF_LARGE, across, too_tall) {
                 at = end_of(SHELVES_OF_LARGE, at);
-            } else if is_low(&self.small, at / SHELVES_OF_SMALL, across) {
+            } else if are_outside(&self.small, at / SHELVES_OF_SMALL, across, too_tall) {
                 at = end_of(SHELVES_OF_SMALL, at);
             } else {
                 break;

@@ -15,6 +15,7 @@ ghost use Rattle.bucket_index.specs.Private.Searching.{first_from, widest_from};
 ghost use Rattle.bucket_index.specs.declared.searching.Wanted.TheVariants.{Roomy};
 ghost use Rattle.bucket_index.specs.Private.Spans.{room_at};
 
+use crate::searching::{Wanted, first_within};
 use bucketed_records::records::{LinkedBucket, MOST_GIVEN, record_room};
 use etagere_links::Link;
 
@@ -40,6 +41,9 @@ pub struct Spot {
     pub number: usize,
     pub x: u16,
 }
+
+/// So many buckets of a row are looked at before those that are kept in mind.
+const NEAR_BUCKETS: u32 = 4;
 
 /// How many buckets are kept in mind at most before the one where items come and go.
 const MOST_FORMER: usize = 15;
@@ -243,7 +247,10 @@ impl Rest {
         if width <= u32::from(self.bound) {
             return None;
         }
-        self.first_of_few(buckets, width)
+        match first_within(NEAR_BUCKETS, Wanted::Roomy(width), buckets, first) {
+            Some(number) => Some(number),
+            None => self.first_of_few(buckets, width),
+        }
     }
 
     /// The same where others of these buckets may have the room.

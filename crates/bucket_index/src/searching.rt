@@ -140,9 +140,23 @@ fn first_by_links(wanted: Wanted, buckets: &[LinkedBucket], first: Link) -> Opti
     ensures number { result ≡ spec.first_from most_buckets wanted buckets.now first }
     ensures within { IfSome result (λ number. number < length buckets.now) }
 {
+    first_within(MOST_BUCKETS, wanted, buckets, first)
+}
+
+/// The same among so many buckets.
+#[inline(always)]
+pub(crate) fn first_within(
+    most: u32,
+    wanted: Wanted,
+    buckets: &[LinkedBucket],
+    first: Link,
+) -> Option<usize>
+    ensures number { result ≡ spec.first_from most wanted buckets.now first }
+    ensures within { IfSome result (λ number. number < length buckets.now) }
+{
     let end = end_of_linked(buckets);
     let mut at = first;
-    for _step in 0..MOST_BUCKETS {
+    for _step in 0..most {
         let number = usize::from(at.bits());
         if number >= end {
             return None;
@@ -328,8 +342,9 @@ pub(crate) fn waste_below(limit: u32, sides: &Sides, kept: &KeptShelf) -> Option
     ensures value { result ≡ spec.waste_below limit sides.now kept.now }
     ensures small { kept.now.shelf.height < 2 ^ 16 }
 {
-    let height = u32::from(kept.shelf.height);
-    if height < sides.across || limit <= height - sides.across {
+    // A shelf that is too low wastes more than any limit.
+    let waste = u64::from(kept.shelf.height).wrapping_sub(u64::from(sides.across));
+    if u64::from(limit) <= waste {
         return None;
     }
     if u32::from(kept.widest_room) < sides.along
@@ -337,7 +352,7 @@ pub(crate) fn waste_below(limit: u32, sides: &Sides, kept: &KeptShelf) -> Option
     {
         return None;
     }
-    Some(height - sides.across)
+    Some(waste as u32)
 }
 
 /// A shelf has to waste less height than this to be chosen, where this was found before it.
@@ -408,7 +423,8 @@ fn least_unless_missed(
     best
 }
 
-/// The same, where blocks in which none has room are passed over, and behind one that was searched those that are too low.
+/// The same, where blocks in which none has room are passed over, and behind one that was searched those in which none is as
+/// tall as is wanted.
 fn least_by_blocks(
     adds: bool,
     sides: &Sides,
@@ -438,7 +454,8 @@ fn least_by_blocks(
                 break;
             }
             in_vain = true;
-            from = heights.behind_low(end, sides.across, shelves.len());
+            let limit = limit_beside(adds, sides, &best);
+            from = heights.behind_unfit(end, sides.across, limit, shelves.len());
         }
     }
     best
@@ -517,7 +534,8 @@ fn exact_from(
     exact_between(sides, shelves, buckets, spans, from, shelves.len())
 }
 
-/// The same, where blocks in which none has room are passed over, and behind one that was searched those that are too low.
+/// The same, where blocks in which none has room are passed over, and behind one that was searched those in which none is as
+/// tall as is wanted.
 fn exact_by_blocks(
     sides: &Sides,
     shelves: &[KeptShelf],
@@ -551,7 +569,7 @@ fn exact_by_blocks(
                 return found;
             }
             in_vain = true;
-            at = heights.behind_low(end, sides.across, shelves.len());
+            at = heights.behind_unfit(end, sides.across, 1, shelves.len());
         }
     }
     None

@@ -184,10 +184,10 @@ below-merged group heights shelves below = by_test (group.others == 2)
     next = changed_by (Some (group.first + 1)) (flattened across) risen
 
     two : AreBelow known next
-    two = below-kept (group.first + 1) (flattened across) known risen (λ x. omega arith) (below-changed group.first height (to_height height) heights shelves (λ x. omega arith) below)
+    two = below-kept (group.first + 1) (flattened across) known risen (λ x some. absurd (omega (arith, some))) (below-changed group.first height (to_height height) heights shelves (λ x. refl) below)
 
     by_test : (t : Bool) → AreBelow known (cond t (changed_by (Some (group.first + 2)) (flattened across) next) next)
-    by_test true = below-kept (group.first + 2) (flattened across) known next (λ x. omega arith) two
+    by_test true = below-kept (group.first + 2) (flattened across) known next (λ x some. absurd (omega (arith, some))) two
     by_test false = two
 
 -- no merged shelf but the first has a place for what was missed

@@ -4,7 +4,7 @@ use Rattle.bucketed_model.specs.Picking.{or_else}
 use Rattle.bucket_index.specs.declared.searching.FoundBucket.{FoundBucket}
 use Rattle.bucket_index.specs.Private.Searching.{exact_from}
 use Rattle.bucket_index.proofs.PassedShelves.{exact-behind, exact-passed}
-use Rattle.bucket_index.proofs.TallestShelves.{exact-low}
+use Rattle.bucket_index.proofs.TallestShelves.{exact-unfit}
 use Rattle.bucket_index.proofs.searching.exact_by_blocks.Goals as goal
 use Rattle.bucket_index.proofs.searching.exact_by_blocks.Goals.{then-at-behind, else-at-behind+else-is_some}
 
@@ -29,10 +29,10 @@ loop-block-preserved c =
       }
       | else-at-behind+else-is_some w ↦ record {
         rest = ap (λ (k : ℕ). exact_from sides buckets k (drop k shelves)) w.at-is
-            ∙ exact-behind sides buckets shelves w.behind_wide-end.result w.behind_low-at.result w.behind_low-at.ensures.on
-            (λ number kept on under there. exact-low sides buckets number kept (w.behind_low-at.ensures.low shelves c.requires.below number kept on under there))
+            ∙ exact-behind sides buckets shelves w.behind_wide-end.result w.behind_unfit-at.result w.behind_unfit-at.ensures.on
+            (λ number kept on under there. exact-unfit sides buckets number kept (w.behind_unfit-at.ensures.unfit shelves c.requires.below number kept on under there))
             ∙ sym (none-first w.exact_between-found.result (exact_from sides buckets w.behind_wide-end.result (drop w.behind_wide-end.result shelves)) (sym w.is_some.ensures ∙ w.if-is_some.false))
             ∙ w.exact_between-found.ensures ∙ c.loop-block.invariant.rest;
-        on = omega (arith, w.at-is, w.behind_low-at.ensures.on, w.behind_wide-end.ensures.on, c.loop-block.invariant.on);
+        on = omega (arith, w.at-is, w.behind_unfit-at.ensures.on, w.behind_wide-end.ensures.on, c.loop-block.invariant.on);
       }
     ]

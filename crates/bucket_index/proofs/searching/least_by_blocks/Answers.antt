@@ -1,9 +1,10 @@
-use Rattle.std.proofs.Common.{sym, ◌∙◌, arith}
+use Rattle.std.proofs.Common.{ℕ, subst, sym, ◌∙◌, arith}
+use Rattle.bucket_index.specs.Private.Heights.{IsUnfit}
 use Rattle.bucket_index.specs.Private.Searching.{kept_waste}
-use Rattle.bucket_index.proofs.PassedShelves.{least-past, waste-passed}
+use Rattle.bucket_index.proofs.PassedShelves.{least-left, least-past, waste-passed}
 use Rattle.bucket_index.proofs.FoundShelves.{all-within, before-end}
 use Rattle.bucket_index.proofs.SteppedShelves.{best-of_all}
-use Rattle.bucket_index.proofs.TallestShelves.{waste-low}
+use Rattle.bucket_index.proofs.TallestShelves.{unfit-leaves}
 use Rattle.bucket_index.proofs.searching.least_by_blocks.Goals as goal
 
 pub loop-from-preserved-then-from-behind : goal.loop-from-preserved-then-from-behind
@@ -14,9 +15,10 @@ loop-from-preserved-then-from-behind c =
 
 pub loop-from-preserved : goal.loop-from-preserved
 loop-from-preserved c =
-    let low = c.behind_low-from in
-    least-past c.args.adds c.args.sides.now c.args.shelves.now c.least_in-best.result c.behind_wide-end.result low.result c.least_in-best.ensures low.ensures.on
-    (λ number kept on under at. waste-low c.args.adds c.args.sides.now kept (low.ensures.low c.args.shelves.now c.requires.below number kept on under at))
+    let unfit = c.behind_unfit-from in
+    least-left c.args.adds c.args.sides.now c.args.shelves.now c.least_in-best.result c.behind_wide-end.result unfit.result c.least_in-best.ensures unfit.ensures.on
+    (λ number kept on under at. unfit-leaves c.args.adds c.args.sides.now kept c.least_in-best.result number
+    (subst (λ (limit : ℕ). IsUnfit c.args.sides.now.across limit kept) c.limit_beside-limit.ensures (unfit.ensures.unfit c.args.shelves.now c.requires.below number kept on under at)))
 
 pub least_in-best-requires-clause-step : goal.least_in-best-requires-clause-step
 least_in-best-requires-clause-step c = c.step-step.ensures c.args.shelves.now c.requires.known

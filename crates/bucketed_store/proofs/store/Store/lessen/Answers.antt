@@ -49,7 +49,7 @@ invariant_of-self c =
       subst (IsRest inside.rest) (sym buckets) (rest-kept number lessened_record inside.rest inside.buckets.items (λ b. refl) (λ b. refl) (λ b. refl) c.self.invariant.2),
       subst (AreCounted inside.rooms) (sym buckets)
           (counted-same inside.rooms inside.buckets.items (changed_by (Some number) lessened_record inside.buckets.items) c.self.invariant.3 (λ slot. tally-kept slot number lessened_record inside.buckets.items (λ b. refl))),
-      subst (AreBelow inside.heights) (sym shelves) (below-kept shelf change inside.heights inside.shelves.items (λ x. omega arith) c.self.invariant.4),
+      subst (AreBelow inside.heights) (sym shelves) (below-kept shelf change inside.heights inside.shelves.items (λ x _. refl) c.self.invariant.4),
       subst (IsMissed inside.missed) (sym shelves)
           (missed-changed (λ n. Unit {0}) shelf change inside.missed inside.shelves.items (λ sides kept some there none. narrower-without sides kept (change kept) refl (omega arith) none) c.self.invariant.5),
     )

@@ -144,7 +144,7 @@ invariant_of-self c =
     ∙ ap (λ (xs : List KeptShelf). changed_by (Some (shelf_of inside.buckets.items number)) lowers xs) c.deref_mut.ensures.value
     ∙ ap (λ (n : ℕ). changed_by (Some n) lowers inside.shelves.items) (sym shelf) in
     let below : AreBelow inside.heights (with_items inside.shelves c.return_item.new.shelves).items =
-    subst (AreBelow inside.heights) (sym shelves) (below-kept c.shelf_number-shelf.result lowers inside.heights inside.shelves.items (λ x. omega arith) c.self.invariant.4) in
+    subst (AreBelow inside.heights) (sym shelves) (below-kept c.shelf_number-shelf.result lowers inside.heights inside.shelves.items (λ x _. refl) c.self.invariant.4) in
     let within : number < length inside.buckets.items = subst (λ (stored : Stored). number < length stored.buckets) (sym c.self.view_is) c.requires.number in
     let one = is-there number inside.buckets.items within in
     let items : (with_items inside.buckets c.return_item.new.buckets).items ≡ c.return_item.new.buckets =
@@ -215,7 +215,7 @@ invariant_of-self-2 c =
     ∙ ap (λ (xs : List KeptShelf). changed_by (Some (shelf_of inside.buckets.items number)) lowers xs) c.deref_mut.ensures.value
     ∙ ap (λ (n : ℕ). changed_by (Some n) lowers inside.shelves.items) (sym shelf) in
     let below : AreBelow inside.heights (with_items inside.shelves c.return_item.new.shelves).items =
-    subst (AreBelow inside.heights) (sym shelves) (below-kept c.shelf_number-shelf.result lowers inside.heights inside.shelves.items (λ x. omega arith) c.self.invariant.4) in
+    subst (AreBelow inside.heights) (sym shelves) (below-kept c.shelf_number-shelf.result lowers inside.heights inside.shelves.items (λ x _. refl) c.self.invariant.4) in
     let within : number < length inside.buckets.items = subst (λ (stored : Stored). number < length stored.buckets) (sym c.self.view_is) c.requires.number in
     let one = is-there number inside.buckets.items within in
     let items : (with_items inside.buckets c.return_item.new.buckets).items ≡ c.return_item.new.buckets =

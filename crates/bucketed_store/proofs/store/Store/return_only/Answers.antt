@@ -78,6 +78,6 @@ invariant_of-self c =
       c.forget.ensures _,
       subst (AreCounted c.return_followed.new.rooms) (sym items) c.return_followed.ensures.rooms,
       subst (AreBelow inside.heights) (sym (returned (goal.at.invariant_of-self c).After-return_followed))
-          (below-kept c.shelf_number-shelf.result lowers inside.heights inside.shelves.items (λ x. omega arith) c.self.invariant.4),
+          (below-kept c.shelf_number-shelf.result lowers inside.heights inside.shelves.items (λ x _. refl) c.self.invariant.4),
       subst (IsMissed c.follow.new.self) c.deref-5.ensures.value c.follow.ensures,
     )

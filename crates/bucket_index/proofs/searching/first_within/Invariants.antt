@@ -1,9 +1,8 @@
 use Rattle.std.proofs.Common.{◌≡◌, ◌-◌}
-use Rattle.bucketed_model.specs.State.{most_buckets}
 use Rattle.bucket_index.specs.Private.Searching.{first_from}
-use Rattle.bucket_index.proofs.searching.first_by_links.Given as goal
+use Rattle.bucket_index.proofs.searching.first_within.Given as goal
 
 -- what is sought from the first link on is what is sought from here on
 abbrev pub invariant-loop-step : goal.invariant-loop-step
 invariant-loop-step l =
-    first_from (most_buckets - l._step) l.wanted l.buckets l.at ≡ first_from most_buckets l.wanted l.buckets l.fn.first
+    first_from (l.most - l._step) l.wanted l.buckets l.at ≡ first_from l.most l.wanted l.buckets l.fn.first
