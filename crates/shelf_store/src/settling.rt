@@ -36,7 +36,7 @@ const MANY: usize = 32;
 const WALKED_AT_FIRST: usize = 40;
 
 /// So many are gone through in further searches, unless there are many of these.
-const WALKED: usize = 12;
+const WALKED: usize = 20;
 
 /// Where more have changed than this, shelves aren't gone through: each may be one that the list hasn't.
 const WALKED_CHANGES: usize = 64;
