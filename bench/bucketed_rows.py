@@ -198,6 +198,11 @@ def last_low_ones(shelves):
     return make
 
 
+def shelves_too_tall(_program):
+    """3000 items for which all shelves are too tall, so that each adds one."""
+    return ["bucketed 61 32760 2 2 1 h"], ["a 23 1"] * 3000
+
+
 def too_low(_program):
     """3000 shelves that have room and are too low, and an item that comes and goes beside another of its height."""
     filling = ["bucketed 512 60000 1 1 1 h"] + ["a 300 16"] * 3000 + ["a 100 24"]
@@ -240,6 +245,7 @@ ROWS = {
     # Counted likewise, as the next ones.
     "3000 shelves that are too low: the same item comes and goes": Row(too_low, 10673, most=MOST),
     "44 shelves that are too tall: eight more come and go": Row(last_low_ones(44), 551, before=690),
+    "3000 items that add a shelf each, since all are too tall": Row(shelves_too_tall, 24337, before=17944, most=MOST),
     "4000 empty shelves: a narrower item comes and goes": Row(empty_shelves, 94132, before=88714, most=MOST),
     "4094 empty shelves: each item has two of them merged": Row(merges, 154910, before=118894, most=MOST),
     "an atlas is cleared and gets an item": Row(cleared, 164, before=1501),

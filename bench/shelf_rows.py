@@ -116,6 +116,21 @@ def columns_anew(_program):
     return ["atlas 111 45864 1 1 13 v"], ["c", "a 61 153", "a 62 153", "a 61 153", "a 61 153"] * (ROUNDS // 5)
 
 
+def same_in_columns(_program):
+    """The same item in an atlas of 30 columns."""
+    return ["atlas 336 410 3 8 30 h"], comes_and_goes(0, "a 2 1")
+
+
+def beside_low_ones(_program):
+    """Low items of which every other went, an empty shelf that splits and merges, and a size that is refused each time."""
+    filling = ["atlas 660 151 1 1 1 h"] + ["a 11 9"] * 240 + [f"r {position}" for position in range(0, 240, 2)]
+    later = []
+    for _ in range(ROUNDS // 5):
+        first = len(filling) - 1 + len(later)
+        later += ["a 38 56", "a 6 2", "a 39 112", f"r {first}", f"r {first + 1}"]
+    return filling, later
+
+
 def first_ones_empty(shelves, empty):
     """Shelves of one item each, of two heights, of which the first go two at a time, and one behind them that splits and
     merges, meanwhile and after that.
@@ -208,6 +223,9 @@ ROWS = {
     "32000 such shelves": Row(half_empty(16, 2000), before=9120, most=600),
     "the same item alone: its shelf splits and merges": Row(same_item(0), 285, before=772),
     "the same item beside another": Row(same_item(1), 208, before=301),
+    # Counted with plain geometry types, as the next one.
+    "30 columns, the same item": Row(same_in_columns, 488),
+    "low items of which half went, beside a shelf that splits and merges": Row(beside_low_ones, 304),
     "65535 columns, the same item": Row(in_columns(65535), 182, before=363),
     "8000 full shelves: the first goes and comes": Row(full_shelves(lambda _: 0), 181, before=347),
     "8000 full shelves: any goes and comes": Row(full_shelves(lambda chooser: chooser.randrange(8000)), 72703),
