@@ -40,6 +40,7 @@ ghost use Rattle.etagere_shelves.specs.Plain.{allocation_in, rectangle_in};
 use crate::listing::Iter;
 use crate::plain::PlainAllocation;
 use crate::restored::restore_atlas;
+use crate::walking::walk_or_settle;
 use etagere_base::{
     AllocId, Allocation, AllocatorOptions, DEFAULT_OPTIONS, Frame, LONGEST_SIDE, OptionsFault,
     Rectangle, RestoreFault, Size, UnknownId, asked, atlas_frame, grown_frame, options_fault, side,
@@ -54,7 +55,7 @@ use shelf_records::Records;
 use shelf_records::snapshots::snapshot_of;
 use shelf_restoring::loaded_atlas::LoadedAtlas;
 use shelf_search::asking::refusal;
-use shelf_search::choosing::{MOST_ITEMS, fits_when_empty, placement_of};
+use shelf_search::choosing::{MOST_ITEMS, fits_when_empty, placement_of, shelf_height};
 use shelf_search::drawing::push_shelves;
 use shelf_search::looking::{index_of, number_of, recorded_area, recorded_shelf, rectangle_of};
 use shelf_search::tallying::{largest_free, usage};
@@ -62,7 +63,7 @@ use shelf_store::growing::counting::needed_for;
 use shelf_store::growing::{grow_shelves, size_fault};
 use shelf_store::returning::return_item;
 use shelf_store::settling::noting::{settle_all_notes, settled_notes, unknown_seconds};
-use shelf_store::settling::{settle_shelves, settle_unless_few};
+use shelf_store::settling::settle_shelves;
 use shelf_store::starting::{fresh_by_height, fresh_records, reset_by_height, reset_records};
 use shelf_store::taking::take_found;
 use snapshot_records::shelves::AtlasSnapshot;
@@ -242,9 +243,8 @@ impl AtlasAllocator {
     /// are much too tall, it looks at the first such shelf of each height, and searches the free list of the earliest.
     /// Before that the list by height follows the shelves that were split or merged since the last search: each goes where
     /// it belongs by binary search, and an end of the list moves; many are sorted anew. In the first searches after a
-    /// change all shelves are gone through instead where there are no more than some dozen and 128 items, or no more than
-    /// six, and as many that were split off since, of which each free list begins with an item that is wide enough. Of more
-    /// than some dozen, those whose free items are all narrower than what was asked for of late stay out of the list; where
+    /// change all shelves are gone through instead where no more than some dozen are listed, along no more than 96 free
+    /// items. Of more, those whose free items are all narrower than what was asked for of late stay out of the list; where
     /// some do, what is as narrow has all shelves sorted anew, the more rarely the more often it came.
     #[inline(always)]
     pub fn allocate(&mut self, size: Size) -> Result<Option<Allocation>, AllocError>
@@ -316,21 +316,23 @@ impl AtlasAllocator {
         let Some(sides) = asked(&self.frame, size) else {
             return Ok(false);
         };
-        let follows = settle_unless_few(
+        let height = shelf_height(&self.frame, sides.across);
+        let walked = walk_or_settle(
             &self.frame,
             &self.records,
             &mut self.by_height,
             &mut self.pending,
-            self.items_in_use,
             sides.along,
+            height,
         );
         let found = placement_of(
             &self.frame,
             &self.records,
             &mut self.by_height,
-            follows,
+            walked,
             self.items_in_use,
             sides,
+            height,
         );
         let Some(placement) = found else {
             return Ok(false);

@@ -16,7 +16,10 @@ use std::alloc::{AllocError, Global};
 use std::marker::Model;
 
 /// No more searches than this are counted.
-pub const MOST_SEARCHES: u32 = 8;
+pub const MOST_SEARCHES: u32 = 16;
+
+/// So many searches count as the last of them once going through all shelves was given up.
+const RESTED_SEARCHES: u32 = 6;
 
 /// Where fewer shelves are listed, none is parked.
 const LISTED_TO_PARK: usize = 64;
@@ -83,6 +86,8 @@ pub struct PendingShelves {
     narrow_below: u16,
     /// How many searches were counted since something was noted, up to `MOST_SEARCHES`. Nothing rests on it.
     searches: u32,
+    /// How many more searches count as the last of these. Nothing rests on it.
+    rested: u32,
     /// What was asked for of late. Nothing rests on it.
     watch: Watch,
 }
@@ -130,6 +135,7 @@ impl PendingShelves {
             parked_below: 0,
             narrow_below: 0,
             searches: MOST_SEARCHES,
+            rested: 0,
             watch: UNWATCHED,
         })
     }
@@ -168,6 +174,7 @@ impl PendingShelves {
             parked_below: self.parked_below,
             narrow_below: self.narrow_below,
             searches: self.searches,
+            rested: self.rested,
             watch: self.watch,
         };
         pending.reserve(room)?;
@@ -199,9 +206,21 @@ impl PendingShelves {
         ensures notes { self.new.notes ≡ self.old.notes }
         ensures room { self.new.room ≡ self.old.room }
     {
+        if self.rested > 0 {
+            self.rested -= 1;
+            self.searches = MOST_SEARCHES;
+        }
         let searches = self.searches;
         self.searches = searches.min(MOST_SEARCHES - 1) + 1;
         searches
+    }
+
+    /// Has some searches count as the last that are counted, since going through all shelves was given up.
+    pub fn rest_from_walks(&mut self)
+        ensures notes { self.new.notes ≡ self.old.notes }
+        ensures room { self.new.room ≡ self.old.room }
+    {
+        self.rested = RESTED_SEARCHES;
     }
 
     /// The number of one of them, in the order in which they changed.

@@ -103,6 +103,7 @@ fn widest_at(records: &Records, height: u32, shelf: usize) -> u16
 fn lacks_records(records: &Records, items_in_use: u32, height: u32, sides: Sides) -> bool
     requires linked { IsLinked records.now (walked_lists records.now) }
     requires few { items_in_use ≤ MOST_ITEMS }
+    requires counts { (length records.now.shelves ≤ no_link) × (length records.now.items ≤ no_link) }
     requires short { (sides.along ≤ longest_side) × (height ≤ longest_side) }
     ensures { (frame : Frame) → AreKept frame records.now
         → items_in_use ≡ state.items_in_use (state_of frame records.now).shelves

@@ -1,78 +1,149 @@
 //! A search through all shelves in the order of their places, of which nothing need be known but their records.
 //!
 //! Definitions: `Searching`. A free list is gone through only where its shelf would rank lower than what was found, and the
-//! first shelf ends the search that is just as tall as asked and has room.
+//! first shelf ends the search that is just as tall as asked and has room. It is given up where it would go through more free
+//! items than it may.
 
-ghost use Rattle.std.specs.Prelude.{◌≡◌, ◌≤◌, ◌<◌, Some, length};
-ghost use Rattle.std.specs.Option.{option_map_or};
+ghost use Rattle.std.specs.Prelude.{◌≡◌, ◌≤◌, ◌*◌, ◌+◌, ◌<◌, IfSome, None, Option, length};
 ghost use Rattle.etagere_base.specs.Frames.{longest_side};
 ghost use Rattle.etagere_base.specs.Lists.{times};
 ghost use Rattle.etagere_links.specs.Edits.{link_at};
+ghost use Rattle.etagere_links.specs.Links.{no_link};
 ghost use Rattle.shelf_records.specs.RecordLists.{IsLinked, shelf_walk, walked_lists};
 ghost use Rattle.shelf_records.specs.Records.{shelf_chain};
+ghost use Rattle.shelf_search.specs.Private.Opening as opening;
 ghost use Rattle.shelf_search.specs.Private.Searching as searching;
+ghost use Rattle.shelf_search.specs.declared.by_place.Looked.TheVariants.{Unknown};
+ghost use Rattle.shelf_search.specs.declared.by_place.Walked.TheVariants.{NotThrough};
+ghost use Rattle.shelf_search.specs.declared.choosing.Candidate.{Candidate};
 
-use crate::choosing::{Candidate, NO_NUMBER, Searched, rank_of, search_free_list};
+use crate::choosing::{Candidate, NO_NUMBER, Searched, rank_of};
 use etagere_links::Link;
 use shelf_records::{LinkedShelf, Records};
 
-/// What the first shelf of least rank offers. A part of its own, so that what it is found in is made ready only for it.
-#[inline(always)]
-pub(crate) fn best_by_place(records: &Records, width: u32, height: u32) -> Option<Candidate>
-    requires linked { IsLinked records.now (walked_lists records.now) }
-    requires short { height ≤ longest_side }
-    ensures { result ≡ searching.best_candidate records.now width height }
-{
-    first_of_least_rank(records, width, height)
+/// What going through all shelves came to.
+#[derive(Clone, Copy)]
+pub enum Walked {
+    /// What the first shelf of least rank offers.
+    Through(Option<Candidate>),
+    /// Not all were gone through.
+    NotThrough,
 }
 
-/// The same. Never inlined, so that a search by height doesn't carry it.
-#[inline(never)]
-pub(crate) fn first_of_least_rank(records: &Records, width: u32, height: u32) -> Option<Candidate>
+/// What a look at a shelf came to.
+enum Looked {
+    /// What it offers, which ranks lower than what was found.
+    Lower(Candidate),
+    /// That it offers nothing that does.
+    NotLower,
+    /// Nothing, since too many items would be gone through.
+    Unknown,
+}
+
+/// Goes through all shelves for the first of least rank, and through no more than so many items of their free lists.
+#[inline(always)]
+pub fn walk_shelves(records: &Records, width: u32, height: u32, most: u32) -> Walked
     requires linked { IsLinked records.now (walked_lists records.now) }
     requires short { height ≤ longest_side }
-    ensures { result ≡ searching.best_candidate records.now width height }
+    ensures through { searching.IsThrough records.now width height result }
+    ensures long { result ≡ NotThrough → most < length records.now.shelves * length records.now.items }
 {
     let mut best = None;
+    let mut limit = u32::MAX;
+    let mut left = most;
     let mut shelf = usize::from(records.first_shelf().bits());
     while shelf < NO_NUMBER {
-        if let Some(candidate) = lower_at(records, width, height, shelf, &best) {
-            if candidate.rank <= height {
-                return Some(candidate);
+        match look_at(records, width, height, shelf, limit, &mut left) {
+            Looked::Lower(candidate) => {
+                if candidate.rank <= height {
+                    return Walked::Through(Some(candidate));
+                }
+                limit = candidate.rank;
+                best = Some(candidate);
             }
-            best = Some(candidate);
+            Looked::NotLower => {}
+            Looked::Unknown => return Walked::NotThrough,
         }
         shelf = usize::from(next_link(records.shelves(), shelf).bits());
     }
-    best
+    Walked::Through(best)
 }
 
-/// What a shelf offers, where it ranks lower than what was found.
-fn lower_at(
+/// What the first shelf of least rank offers. Never inlined, since it is rarely asked for.
+#[inline(never)]
+pub(crate) fn first_of_least_rank(records: &Records, width: u32, height: u32) -> Option<Candidate>
+    requires linked { IsLinked records.now (walked_lists records.now) }
+    requires few { (length records.now.shelves ≤ no_link) × (length records.now.items ≤ no_link) }
+    requires short { height ≤ longest_side }
+    ensures { result ≡ searching.best_candidate records.now width height }
+{
+    match walk_shelves(records, width, height, u32::MAX) {
+        Walked::Through(best) => best,
+        Walked::NotThrough => None,
+    }
+}
+
+/// What a shelf offers, where it ranks below the limit, which is the rank of what was found. Of its free list no more items
+/// are gone through than are left to be.
+fn look_at(
     records: &Records,
     width: u32,
     height: u32,
     shelf: usize,
-    best: &Option<Candidate>,
-) -> Option<Candidate>
+    limit: u32,
+    left: &mut u32,
+) -> Looked
     requires linked { IsLinked records.now (walked_lists records.now) }
     requires stands { 1 ≤ times shelf (shelf_walk records.now).met }
     requires within { shelf < length records.now.shelves }
     requires short { height ≤ longest_side }
-    ensures { option_map_or Some result best.now
-        ≡ searching.better best.now (searching.offered records.now width height shelf) }
+    ensures looked { (best : Option Candidate) → searching.limit_of best ≡ limit
+        → searching.IsLooked best (searching.offered records.now width height shelf) result }
+    ensures few { left.old ≤ left.new + length records.now.items }
+    ensures long { result ≡ Unknown → left.old < length records.now.items }
 {
-    if u32::from(records.shelves()[shelf].height) < height {
-        return None;
+    let own = u32::from(records.shelves()[shelf].height);
+    if own < height || limit <= own {
+        return Looked::NotLower;
     }
     let rank = rank_of(records, height, shelf);
-    if !ranks_lower(rank, best) {
-        return None;
+    if limit <= rank {
+        return Looked::NotLower;
     }
-    match search_free_list(records, width, shelf) {
-        Searched::Found(item) => Some(Candidate { shelf, item, rank }),
-        Searched::Widest(_) => None,
+    match search_within(records, width, shelf, left) {
+        Some(Searched::Found(item)) => Looked::Lower(Candidate { shelf, item, rank }),
+        Some(Searched::Widest(_)) => Looked::NotLower,
+        None => Looked::Unknown,
     }
+}
+
+/// The first item of a shelf's free list that is wide enough, or the width of the widest; none where that takes more items
+/// than are left to be gone through.
+fn search_within(records: &Records, width: u32, shelf: usize, left: &mut u32) -> Option<Searched>
+    requires linked { IsLinked records.now (walked_lists records.now) }
+    requires stands { 1 ≤ times shelf (shelf_walk records.now).met }
+    requires within { shelf < length records.now.shelves }
+    ensures known { IfSome result (λ searched. searched ≡ opening.searched records.now width shelf) }
+    ensures few { left.old ≤ left.new + length records.now.items }
+    ensures long { result ≡ None → left.old < length records.now.items }
+{
+    let items = records.items();
+    let mut number = usize::from(records.shelves()[shelf].first_unallocated.bits());
+    let mut widest = 0_u32;
+    while number < NO_NUMBER {
+        if *left == 0 {
+            return None;
+        }
+        *left -= 1;
+        let item = &items[number];
+        let own = u32::from(item.width);
+        if own >= width {
+            return Some(Searched::Found(number));
+        }
+        widest = widest.max(own);
+        number = usize::from(item.next_unallocated.bits());
+    }
+    Some(Searched::Widest(widest as u16))
 }
 
 /// The link to the shelf after one that is there.
@@ -81,14 +152,4 @@ fn next_link(shelves: &[LinkedShelf], shelf: usize) -> Link
     ensures { result ≡ link_at shelf_chain.next shelves.now shelf }
 {
     shelves[shelf].next
-}
-
-/// Whether a rank is lower than that of what was found, if anything was.
-fn ranks_lower(rank: u32, best: &Option<Candidate>) -> bool
-    ensures { result ≡ searching.ranks_lower rank best.now }
-{
-    match best {
-        Some(one) => rank < one.rank,
-        None => true,
-    }
 }

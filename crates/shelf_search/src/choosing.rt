@@ -3,8 +3,8 @@
 //! Definitions: `Choice`, `Searching` for the same by records, and `ByHeight` for the order. A search starts
 //! at the first shelf that is tall enough, and takes the first good fit. The first shelf that is too tall for one ends
 //! that: from there on only empty shelves are good fits, and their bounds tell them. Where there is none either, the
-//! shelf in the first place is taken. Where the list by height doesn't follow the records, all shelves are gone through
-//! (`by_place`). A free list is gone through only where the bound on its items is wide enough,
+//! shelf in the first place is taken. Where the list by height doesn't follow the records, all shelves were gone through
+//! before (`by_place`). A free list is gone through only where the bound on its items is wide enough,
 //! and the bound is lowered to the widest of them where none fits. Shelves without a free item as wide as what is asked may
 //! be missing from the list by height, and none is put in or taken out. Nothing here changes the records.
 
@@ -26,7 +26,7 @@ ghost use Rattle.shelf_search.specs.Private.Searching as searching;
 ghost use Rattle.shelf_search.specs.Private.Searching.{AreTooTall, IsFirstGood};
 ghost use Rattle.shelf_model.specs.State as state;
 
-use crate::by_place::best_by_place;
+use crate::by_place::Walked;
 use etagere_base::{Frame, Sides, Size, asked, step};
 use shelf_heights::by_height::{BoundedShelf, ShelvesByHeight};
 use shelf_heights::heights::{chain_order_of, first_as_tall};
@@ -72,22 +72,25 @@ pub(crate) enum Searched {
     Widest(u16),
 }
 
-/// The place of what asks for these sides, where it has one and there are records enough for its splits; shelf and item by
-/// the numbers of their records. Shelves without a free item as wide may be missing from the list by height, whose shelves
-/// stay as they are; only bounds fall. Where the list doesn't follow the records, it is left alone, and all shelves are gone
-/// through.
+/// The place of what asks for these sides, whose shelf is to be so high, where it has one and there are records enough for
+/// its splits; shelf and item by the numbers of their records. Shelves without a free item as wide may be missing from the
+/// list by height, whose shelves stay as they are; only bounds fall. Where all shelves were gone through, it is left alone.
 pub fn placement_of(
     frame: &Frame,
     records: &Records,
     by_height: &mut ShelvesByHeight,
-    follows: bool,
+    walked: Walked,
     items_in_use: u32,
     sides: Sides,
+    height: u32,
 ) -> Option<Placement>
     requires kept { AreKept frame.now records.now }
-    requires by_height { follows ≡ true → AreByHeightFor frame.now records.now sides.along by_height.old.items }
-    requires short { (sides.along ≤ longest_side) × (sides.across ≤ longest_side) }
+    requires by_height { searching.list_follows walked ≡ true
+        → AreByHeightFor frame.now records.now sides.along by_height.old.items }
+    requires short { (sides.along ≤ longest_side) × (height ≤ longest_side) }
     requires wide { 1 ≤ sides.along }
+    requires height { height ≡ choice.shelf_height frame.now sides.across }
+    requires walked { searching.IsThrough records.now sides.along height walked }
     requires counted { items_in_use
         ≡ state.items_in_use (state_of frame.now records.now).shelves }
     ensures none { result ≡ None → (size : Size) → frames.asked frame.now size ≡ Some sides
@@ -95,12 +98,13 @@ pub fn placement_of(
     ensures some { IfSome result
         (λ placement. (size : Size) → frames.asked frame.now size ≡ Some sides
         → Finds frame.now records.now size placement) }
-    ensures by_height { follows ≡ true → AreByHeightFor frame.now records.now sides.along by_height.new.items }
+    ensures by_height { searching.list_follows walked ≡ true
+        → AreByHeightFor frame.now records.now sides.along by_height.new.items }
     ensures numbers { numbers_by_height by_height.new.items ≡ numbers_by_height by_height.old.items }
-    ensures same { follows ≡ false → by_height.new.items ≡ by_height.old.items }
+    ensures same { searching.list_follows walked ≡ false → by_height.new.items ≡ by_height.old.items }
     ensures capacity { by_height.old.capacity ≤ by_height.new.capacity }
 {
-    let placement = chosen(frame, records, by_height, follows, sides)?;
+    let placement = chosen(frame, records, by_height, walked, sides, height)?;
     if items_in_use + placement.splits() <= MOST_ITEMS {
         Some(placement)
     } else {
@@ -130,52 +134,60 @@ fn chosen(
     frame: &Frame,
     records: &Records,
     by_height: &mut ShelvesByHeight,
-    follows: bool,
+    walked: Walked,
     sides: Sides,
+    height: u32,
 ) -> Option<Placement>
     requires kept { AreKept frame.now records.now }
-    requires by_height { follows ≡ true → AreByHeightFor frame.now records.now sides.along by_height.old.items }
-    requires short { (sides.along ≤ longest_side) × (sides.across ≤ longest_side) }
+    requires by_height { searching.list_follows walked ≡ true
+        → AreByHeightFor frame.now records.now sides.along by_height.old.items }
+    requires short { (sides.along ≤ longest_side) × (height ≤ longest_side) }
     requires wide { 1 ≤ sides.along }
+    requires height { height ≡ choice.shelf_height frame.now sides.across }
+    requires walked { searching.IsThrough records.now sides.along height walked }
     ensures value { result ≡ searching.chosen_at frame.now records.now sides }
-    ensures by_height { follows ≡ true → AreByHeightFor frame.now records.now sides.along by_height.new.items }
+    ensures by_height { searching.list_follows walked ≡ true
+        → AreByHeightFor frame.now records.now sides.along by_height.new.items }
     ensures numbers { numbers_by_height by_height.new.items ≡ numbers_by_height by_height.old.items }
-    ensures same { follows ≡ false → by_height.new.items ≡ by_height.old.items }
+    ensures same { searching.list_follows walked ≡ false → by_height.new.items ≡ by_height.old.items }
     ensures capacity { by_height.old.capacity ≤ by_height.new.capacity }
 {
-    let height = shelf_height(frame, sides.across);
-    let candidate = lowest_ranked(frame, records, by_height, follows, sides.along, height)?;
+    let candidate = lowest_ranked(frame, records, by_height, walked, sides.along, height)?;
     Some(placement_at(records, sides.along, height, candidate))
 }
 
-/// What the first shelf of least rank offers: by height, where the list follows the records, else by place.
+/// What the first shelf of least rank offers: what was found by place, or else by height.
 fn lowest_ranked(
     frame: &Frame,
     records: &Records,
     by_height: &mut ShelvesByHeight,
-    follows: bool,
+    walked: Walked,
     width: u32,
     height: u32,
 ) -> Option<Candidate>
     requires kept { AreKept frame.now records.now }
-    requires by_height { follows ≡ true → AreByHeightFor frame.now records.now width by_height.old.items }
+    requires by_height { searching.list_follows walked ≡ true
+        → AreByHeightFor frame.now records.now width by_height.old.items }
     requires wide { 1 ≤ width }
     requires short { height ≤ longest_side }
+    requires walked { searching.IsThrough records.now width height walked }
     ensures value { result ≡ searching.best_candidate records.now width height }
-    ensures by_height { follows ≡ true → AreByHeightFor frame.now records.now width by_height.new.items }
+    ensures by_height { searching.list_follows walked ≡ true
+        → AreByHeightFor frame.now records.now width by_height.new.items }
     ensures numbers { numbers_by_height by_height.new.items ≡ numbers_by_height by_height.old.items }
-    ensures same { follows ≡ false → by_height.new.items ≡ by_height.old.items }
+    ensures same { searching.list_follows walked ≡ false → by_height.new.items ≡ by_height.old.items }
     ensures capacity { by_height.old.capacity ≤ by_height.new.capacity }
 {
-    if follows {
-        best_candidate(records, by_height, frame.column_width, width, height)
-    } else {
-        best_by_place(records, width, height)
+    match walked {
+        Walked::Through(best) => best,
+        Walked::NotThrough => {
+            best_candidate(records, by_height, frame.column_width, width, height)
+        }
     }
 }
 
 /// The height of a shelf for items of this height: rounded up, unless that is taller than the atlas.
-pub(crate) fn shelf_height(frame: &Frame, height: u32) -> u32
+pub fn shelf_height(frame: &Frame, height: u32) -> u32
     requires frame { IsFrame longest_side frame.now }
     requires short { height ≤ longest_side }
     ensures value { result ≡ choice.shelf_height frame.now height }

@@ -6,7 +6,7 @@
 #![tactic(auto)]
 
 pub mod asking;
-mod by_place;
+pub mod by_place;
 pub mod choosing;
 pub mod drawing;
 mod free_items;

@@ -66,6 +66,12 @@ module _ {T V : Type 0} (next : T → Option ℕ) (records : List T) (all : List
         stands = omega (arith, ap (times number) whole, times-append number walk.passed (number ∷ step.others), times-here number step.others);
       }
 
+  -- where one is at hand, fewer steps were made than there are records
+  pub walk-few : (now : V) (at : Option ℕ) (number steps : ℕ) → Passes next records all value now at steps → at ≡ Some number → steps < length records
+  walk-few now at number steps walk is =
+      let step : IsStep next records number steps walk.rest = step-left next records at number steps walk.rest walk.left is in
+      omega (arith, walk.left.enough, ap length step.whole)
+
   -- the record at hand was passed
   pub walk-goes : (now new : V) (at after : Option ℕ) (number steps : ℕ) → Passes next records all value now at steps → at ≡ Some number → after ≡ link_at next records number
       → ((passed : List ℕ) → now ≡ value passed → new ≡ value (passed ++ number ∷ [])) → Passes next records all value new after (steps + 1)

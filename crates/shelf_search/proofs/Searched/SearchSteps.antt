@@ -1,5 +1,5 @@
 -- Where the search along a free list has come to, step by step, and what the best candidate is of.
-use Rattle.std.proofs.Common.{◌≡◌, ℕ, ◌+◌, ◌<◌, ◌≤◌, Bool, true, false, cond, Option, None, Some, option_map, List, [], ◌∷◌, ◌++◌, append_assoc, length, get_or, map, refl, ap, arith, sym, ◌∙◌, subst, ◌==◌}
+use Rattle.std.proofs.Common.{◌≡◌, ℕ, ◌+◌, ◌-◌, ◌^◌, ◌<◌, ◌≤◌, Bool, true, false, cond, Option, None, Some, option_map, List, [], ◌∷◌, ◌++◌, append_assoc, length, get_or, map, refl, ap, arith, sym, ◌∙◌, subst, ◌==◌}
 use Rattle.std.proofs.lemmas.Bool.{eqb-true}
 use Rattle.std.proofs.lemmas.Bool.Decides.{nat_tests}
 use Rattle.std.specs.Option.{option_map_or}
@@ -10,14 +10,16 @@ use Rattle.etagere_base.specs.declared.frames.Frame.{Frame}
 use Rattle.etagere_base.specs.declared.sides.Sides.{Sides}
 use Rattle.etagere_base.proofs.TimesLemmas.{find-stands}
 use Rattle.shelf_records.specs.declared.records.LinkedItem.{LinkedItem}
+use Rattle.shelf_records.specs.declared.records.LinkedShelf.{LinkedShelf}
 use Rattle.shelf_records.specs.RecordLists.{IsLinked, Records, first_free_of, free_walk, shelf_walk, walked_lists}
 use Rattle.shelf_records.specs.Records.{free_list}
 use Rattle.etagere_links.proofs.ListEnds.{times-here}
 use Rattle.shelf_records.specs.AtlasRecords.{height_of, is_empty_at, item_at}
 use Rattle.shelf_search.specs.Private.Opening.{searched, widest_of}
-use Rattle.shelf_search.specs.Private.Searching.{best_candidate, better, chosen_at, first_wide, lower, lowest, offered, placement_at, rank_of, ranks_lower}
+use Rattle.shelf_search.specs.Private.Searching.{best_candidate, better, chosen_at, first_wide, lower, lowest, limit_of, offered, placement_at, rank_of}
 use Rattle.shelf_model.specs.Choice.{shelf_height}
 use Rattle.shelf_search.specs.declared.choosing.Candidate.{Candidate}
+use Rattle.shelf_search.specs.declared.choosing.Searched.{Searched}
 use Rattle.shelf_search.specs.declared.choosing.Searched.TheVariants.{Found, Widest}
 use Rattle.shelf_search.proofs.Searched.OneMore.{lowest-settled}
 use Rattle.shelf_heights.proofs.ByHeight.FreeBounds.{next-read, width-read}
@@ -117,6 +119,38 @@ free-nearer records width shelf widest at next number item linked stands search 
     rw (follows, ← next-read records.items number item step.here read, ← search.whole)
     (step-nearer free_list.next records.items at number search.steps search.passed search.rest (λ k. rw search.whole (free-once records shelf linked stands k)) search.left is)
 
+-- the same where of so many items to be passed some are left
+pub record SearchesWithin (records : Records) (width shelf widest : ℕ) (at : Option ℕ) (most left : ℕ) : Type 0 where
+  pub search : SearchesFree records width shelf widest at
+  pub counted : search.steps + left ≡ most
+
+-- at first all are left
+pub within-begins : (records : Records) (width shelf most : ℕ) (at : Option ℕ) → IsLinked records (walked_lists records) → 1 ≤ times shelf (shelf_walk records).met → at ≡ first_free_of records.shelves shelf → SearchesWithin records width shelf 0 at most most
+unfolding free-begins
+within-begins records width shelf most at linked stands begins =
+    let search = free-begins records width shelf at linked stands begins in
+    let none : search.steps ≡ 0 = refl in
+    record { search = search; counted = omega (arith, none) }
+
+-- one that is not wide enough is passed
+pub within-passed : (records : Records) (width shelf widest wider : ℕ) (at next : Option ℕ) (number most left : ℕ) (item : LinkedItem) → SearchesWithin records width shelf widest at most left → 1 ≤ left → at ≡ Some number → item ≡ get_or records.items number item → item.width < width → wider ≡ max widest item.width → next ≡ item.next_unallocated
+    → SearchesWithin records width shelf wider next most (left - 1)
+unfolding free-passed
+within-passed records width shelf widest wider at next number most left item within some is read narrow grown follows =
+    let search = free-passed records width shelf widest wider at next number item within.search is read narrow grown follows in
+    let more : search.steps ≡ within.search.steps + 1 = refl in
+    record { search = search; counted = omega (arith, more, within.counted, some) }
+
+-- no more are passed than there are
+pub passed-few : (records : Records) (width shelf widest : ℕ) (at : Option ℕ) (most left : ℕ) → SearchesWithin records width shelf widest at most left → most ≤ left + length records.items
+passed-few records width shelf widest at most left within = omega (arith, within.counted, within.search.left.enough)
+
+-- and fewer, where one is at hand
+pub passed-fewer : (records : Records) (width shelf widest : ℕ) (at : Option ℕ) (number most left : ℕ) → SearchesWithin records width shelf widest at most left → at ≡ Some number → most < left + length records.items
+passed-fewer records width shelf widest at number most left within is =
+    let step : IsStep free_list.next records.items number within.search.steps within.search.rest = step-left free_list.next records.items at number within.search.steps within.search.rest within.search.left is in
+    omega (arith, within.counted, within.search.left.enough, ap length step.whole)
+
 -- a candidate that is the lowest of what numbers offer
 record IsOffered (offers : ℕ → Option Candidate) (numbers : List ℕ) (candidate : Candidate) : Type 0 where
   pub number : ℕ
@@ -198,16 +232,57 @@ chosen-found frame records sides height found stepped is =
     ap (option_map (placement_at records sides.along height)) is
     ∙ ap (λ (h : ℕ). option_map (placement_at records sides.along h) (best_candidate records sides.along h)) stepped
 
--- a shelf that wouldn't rank lower offers nothing better
-pub not-better : (records : Records) (width height shelf : ℕ) (best : Option Candidate) → ranks_lower (rank_of records.shelves height shelf) best ≡ false → better best (offered records width height shelf) ≡ best
-not-better records width height shelf None not_lower = absurd (cc)
-not-better records width height shelf (Some candidate) not_lower = by_offer (offered records width height shelf) refl
+-- a shelf that wouldn't rank below the limit offers nothing better
+pub not-better : (records : Records) (width height shelf : ℕ) (best : Option Candidate) → rank_of records.shelves height shelf < 2 ^ 32 - 1 → limit_of best ≤ rank_of records.shelves height shelf → better best (offered records width height shelf) ≡ best
+not-better records width height shelf None low limit = absurd (omega (arith, low, limit))
+not-better records width height shelf (Some candidate) low limit = by_offer (offered records width height shelf) refl
   where
     by_offer : (o : Option Candidate) → offered records width height shelf ≡ o → better (Some candidate) o ≡ Some candidate
     by_offer None e = refl
     by_offer (Some other) e =
-        let same : nat_lt other.rank candidate.rank ≡ false = ap (λ (rank : ℕ). nat_lt rank candidate.rank) (offers-parts records width height shelf other e).rank ∙ not_lower in
+        let rank : other.rank ≡ rank_of records.shelves height shelf = (offers-parts records width height shelf other e).rank in
+        let same : nat_lt other.rank candidate.rank ≡ false = grind (arith, nat_tests) in
         ap (λ (b : Bool). Some (cond b other candidate)) same
+
+-- a rank is at least the shelf's height, and at most that of bad fits
+pub rank-own : (shelves : List LinkedShelf) (height shelf : ℕ) → height_of shelves shelf ≤ 65535 → (height_of shelves shelf ≤ rank_of shelves height shelf) × (rank_of shelves height shelf ≤ 65536)
+rank-own shelves height shelf short = by_test (is_empty_at shelves shelf || nat_le (height_of shelves shelf) (height + height / 2))
+  where
+    by_test : (b : Bool) → (height_of shelves shelf ≤ cond b (height_of shelves shelf) 65536) × (cond b (height_of shelves shelf) 65536 ≤ 65536)
+    by_test true = (omega arith, omega (arith, short))
+    by_test false = (omega (arith, short), omega arith)
+
+-- what a shelf offers whose free list was searched, where it is tall enough
+pub offers-found : (records : Records) (width height shelf item : ℕ) → height ≤ height_of records.shelves shelf → Found item ≡ searched records width shelf
+    → offered records width height shelf ≡ Some (record { shelf = shelf; item = item; rank = rank_of records.shelves height shelf })
+offers-found records width height shelf item tall is = by_first (first_wide records width shelf) refl is
+  where
+    item_in : Searched → ℕ
+    item_in (Found number) = number
+    item_in (Widest width) = 0
+
+    passes : nat_le height (height_of records.shelves shelf) ≡ true
+    passes = grind (arith, nat_tests)
+
+    by_first : (o : Option ℕ) → first_wide records width shelf ≡ o → Found item ≡ option_map_or Found o (Widest (widest_of records.items (free_walk records shelf).met))
+        → offered records width height shelf ≡ Some (record { shelf = shelf; item = item; rank = rank_of records.shelves height shelf })
+    by_first None e same = absurd (cc)
+    by_first (Some other) e same = rw (passes, e) (ap (λ (s : Searched). Some (record { shelf = shelf; item = item_in s; rank = rank_of records.shelves height shelf })) (sym same))
+
+-- where no free item is wide enough, it offers nothing
+pub offers-none : (records : Records) (width height shelf widest : ℕ) → Widest widest ≡ searched records width shelf → offered records width height shelf ≡ None
+offers-none records width height shelf widest is = by_first (first_wide records width shelf) refl is
+  where
+    nothing : Option Candidate
+    nothing = None
+
+    by_test : (b : Bool) → cond b (option_map (λ (item : ℕ). record { shelf = shelf; item = item; rank = rank_of records.shelves height shelf }) None) None ≡ nothing
+    by_test true = refl
+    by_test false = refl
+
+    by_first : (o : Option ℕ) → first_wide records width shelf ≡ o → Widest widest ≡ option_map_or Found o (Widest (widest_of records.items (free_walk records shelf).met)) → offered records width height shelf ≡ None
+    by_first None e same = rw e (by_test (nat_le height (height_of records.shelves shelf)))
+    by_first (Some other) e same = absurd (cc)
 
 -- none ranks below the height that is asked for
 rank-low : (records : Records) (width height shelf : ℕ) (candidate : Candidate) → height ≤ 65535 → offered records width height shelf ≡ Some candidate → height ≤ candidate.rank

@@ -1,6 +1,6 @@
 -- How the place of a size is found by records: the shelf of least rank, and in it the first item
 -- that is wide enough.
-use Rattle.std.specs.Prelude.{◌≡◌, ℕ, ◌+◌, ◌/◌, ◌≤◌, Bool, true, ◌&&◌, ◌||◌, Option, None, Some, option_map, List, [], ◌∷◌, drop, find, length, map, nat_le, nat_lt, take, if◌then◌else◌}
+use Rattle.std.specs.Prelude.{◌≡◌, ℕ, ◌+◌, ◌-◌, ◌/◌, ◌^◌, ◌≤◌, Bool, false, true, ⊤, ◌&&◌, ◌||◌, Option, None, Some, option_map, List, [], ◌∷◌, drop, find, length, map, nat_le, nat_lt, take, if◌then◌else◌}
 use Rattle.std.specs.Option.{option_map_or}
 use Rattle.std.specs.List.{AllByRecursion}
 use Rattle.etagere_base.specs.declared.frames.Frame.{Frame}
@@ -10,6 +10,10 @@ use Rattle.shelf_records.specs.RecordLists.{Records, free_walk, shelf_walk}
 use Rattle.shelf_records.specs.AtlasRecords.{across_of, height_of, is_empty_at, item_at, item_place_of}
 use Rattle.shelf_model.specs.Choice.{Placement, bad_fit_rank, is_item_split, shelf_height, shelf_slack}
 use Rattle.shelf_heights.specs.Private.ByHeight.{chain_order}
+use Rattle.shelf_search.specs.declared.by_place.Looked.{Looked}
+use Rattle.shelf_search.specs.declared.by_place.Looked.TheVariants.{Lower, NotLower, Unknown}
+use Rattle.shelf_search.specs.declared.by_place.Walked.{Walked}
+use Rattle.shelf_search.specs.declared.by_place.Walked.TheVariants.{NotThrough, Through}
 use Rattle.shelf_search.specs.declared.choosing.Candidate.{Candidate}
 use Rattle.shelf_search.specs.declared.choosing.FirstGood.{FirstGood}
 use Rattle.shelf_search.specs.declared.choosing.FirstGood.TheVariants.{Found, Rest}
@@ -45,10 +49,16 @@ abbrev pub better : Option Candidate → Option Candidate → Option Candidate
 better None later = later
 better (Some candidate) later = Some (lower candidate later)
 
--- whether a rank is lower than that of what was found, if anything was
-abbrev pub ranks_lower : ℕ → Option Candidate → Bool
-ranks_lower rank None = true
-ranks_lower rank (Some candidate) = nat_lt rank candidate.rank
+-- below which a shelf ranks lower than what was found, if anything was: no rank is as high as where nothing was
+abbrev pub limit_of : Option Candidate → ℕ
+limit_of None = 2 ^ 32 - 1
+limit_of (Some candidate) = candidate.rank
+
+-- what a look at a shelf comes to where that was found: what ranks lower, that nothing does, or that it isn't known
+abbrev pub IsLooked : Option Candidate → Option Candidate → Looked → Type 0
+IsLooked best offer (Lower candidate) = better best offer ≡ Some candidate
+IsLooked best offer NotLower = better best offer ≡ best
+IsLooked best offer Unknown = ⊤
 
 -- the first of least rank
 abbrev pub lowest : List (Option Candidate) → Option Candidate
@@ -59,6 +69,16 @@ lowest (candidate ∷ candidates) = better candidate (lowest candidates)
 abbrev pub best_candidate : Records → ℕ → ℕ → Option Candidate
 best_candidate records width height =
     lowest (map (offered records width height) (shelf_walk records).met)
+
+-- where all shelves were gone through, that came to the first of least rank
+abbrev pub IsThrough : Records → ℕ → ℕ → Walked → Type 0
+IsThrough records width height walked =
+    (best : Option Candidate) → walked ≡ Through best → best ≡ best_candidate records width height
+
+-- whether the list by height is searched: all shelves weren't gone through before
+abbrev pub list_follows : Walked → Bool
+list_follows (Through best) = false
+list_follows NotThrough = true
 
 -- what a shelf offers, where it is a good fit
 abbrev pub good_offer : Records → ℕ → ℕ → ℕ → Option Candidate

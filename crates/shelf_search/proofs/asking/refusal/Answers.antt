@@ -69,3 +69,6 @@ lacks_records-requires-clause-linked c = (witnesses c.requires.kept).linked
 
 pub lacks_records-requires-clause-few : goal.lacks_records-requires-clause-few
 lacks_records-requires-clause-few c = omega (arith, c.requires.counted, (witnesses c.requires.kept).valid.peak_items)
+
+pub lacks_records-requires-clause-counts : goal.lacks_records-requires-clause-counts
+lacks_records-requires-clause-counts c = let counts = (witnesses c.requires.kept).counts in (counts.shelves.1, counts.items.1)

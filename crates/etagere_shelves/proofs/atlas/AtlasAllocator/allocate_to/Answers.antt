@@ -12,6 +12,7 @@ use Rattle.etagere_shelves.specs.Private.Consistent.{state_in}
 use Rattle.etagere_shelves.specs.declared.atlas.AtlasAllocator.TheInside.{Inside}
 use Rattle.shelf_heights.specs.Private.ByHeight.{AreByHeightFor, numbers_by_height}
 use Rattle.shelf_store.proofs.ByHeight.KeptSeconds.{seconds-equal}
+use Rattle.shelf_search.specs.Private.Searching.{list_follows}
 use Rattle.shelf_store.specs.Private.SecondWidths.{AreSeconds}
 use Rattle.shelf_store.specs.Private.Settling.{AreByHeightExceptNoted}
 use Rattle.shelf_records.specs.Private.Kept.{state_of, bare}
@@ -56,10 +57,10 @@ take_found-requires-clause-there c =
     found-there inside.frame inside.records c.args.size c.in-Some-found.placement c.self.invariant.kept (c.in-Some-found.ensures.some c.args.size (sym c.in-Some.ensures))
 
 pub take_found-requires-clause-room : goal.take_found-requires-clause-room
-take_found-requires-clause-room c = omega (arith, c.self.invariant.room, c.settle_unless_few-follows.ensures.capacity, c.placement_of-found.ensures.capacity)
+take_found-requires-clause-room c = omega (arith, c.self.invariant.room, c.walk_or_settle-walked.ensures.capacity, c.placement_of-found.ensures.capacity)
 
 pub take_found-requires-clause-room_to_note : goal.take_found-requires-clause-room_to_note
-take_found-requires-clause-room_to_note c = omega (arith, c.self.invariant.room_to_note, c.settle_unless_few-follows.ensures.room)
+take_found-requires-clause-room_to_note c = omega (arith, c.self.invariant.room_to_note, c.walk_or_settle-walked.ensures.room)
 
 pub returns-in_err-id-clause-split : goal.returns-in_err-id-clause-split
 returns-in_err-id-clause-split c =
@@ -111,17 +112,17 @@ searched inside by_height new notes width true holds numbers are same =
     searched-holds (bare inside.frame inside.records) (walked_lists inside.records).entries notes by_height new numbers (are refl).bounds holds
 searched inside by_height new notes width false holds numbers are same = subst (AreByHeightExceptNoted inside.frame inside.records notes) (sym (same refl)) holds
 
-searched-before : (c : goal.After-of) → AreByHeightExceptNoted c.self.inside.frame c.self.inside.records c.settle_unless_few-follows.new.pending.notes c.placement_of-found.new.by_height.items
+searched-before : (c : goal.After-of) → AreByHeightExceptNoted c.self.inside.frame c.self.inside.records c.walk_or_settle-walked.new.pending.notes c.placement_of-found.new.by_height.items
 searched-before c =
-    searched c.self.inside c.settle_unless_few-follows.new.by_height.items c.placement_of-found.new.by_height.items c.settle_unless_few-follows.new.pending.notes c.in-Some.sides.along c.settle_unless_few-follows.result
-    c.settle_unless_few-follows.ensures.by_height c.placement_of-found.ensures.numbers c.placement_of-found.ensures.by_height c.placement_of-found.ensures.same
+    searched c.self.inside c.walk_or_settle-walked.new.by_height.items c.placement_of-found.new.by_height.items c.walk_or_settle-walked.new.pending.notes c.in-Some.sides.along (list_follows c.walk_or_settle-walked.result)
+    c.walk_or_settle-walked.ensures.by_height c.placement_of-found.ensures.numbers c.placement_of-found.ensures.by_height c.placement_of-found.ensures.same
 
 -- and once what was found was taken
 by_height-after : (c : goal.After-of) → AreByHeightExceptNoted c.self.inside.frame c.take_found.new.records c.take_found.new.pending.notes c.take_found.new.by_height.items
 by_height-after c =
     let inside = c.self.inside in
     let found = c.in-Some-found.placement in
-    let notes : Notes = c.settle_unless_few-follows.new.pending.notes in
+    let notes : Notes = c.walk_or_settle-walked.new.pending.notes in
     let by_height : List BoundedShelf = c.placement_of-found.new.by_height.items in
     let new : List BoundedShelf = c.take_found.new.by_height.items in
     let finds = c.in-Some-found.ensures.some c.args.size (sym c.in-Some.ensures) in
@@ -134,27 +135,27 @@ by_height-after c =
 -- what taking asks of the list: its order, and that it has the shelf, if that has not changed
 pub take_found-requires-clause-order : goal.take_found-requires-clause-order
 take_found-requires-clause-order c =
-    let same = searched c.self.inside c.settle_unless_few-follows.new.by_height.items c.placement_of-found.new.by_height.items c.settle_unless_few-follows.new.pending.notes c.in-Some.sides.along c.settle_unless_few-follows.result
-    c.settle_unless_few-follows.ensures.by_height c.placement_of-found.ensures.numbers c.placement_of-found.ensures.by_height c.placement_of-found.ensures.same in
+    let same = searched c.self.inside c.walk_or_settle-walked.new.by_height.items c.placement_of-found.new.by_height.items c.walk_or_settle-walked.new.pending.notes c.in-Some.sides.along (list_follows c.walk_or_settle-walked.result)
+    c.walk_or_settle-walked.ensures.by_height c.placement_of-found.ensures.numbers c.placement_of-found.ensures.by_height c.placement_of-found.ensures.same in
     same.order
 
 pub take_found-requires-clause-stands : goal.take_found-requires-clause-stands
 take_found-requires-clause-stands c unnoted =
     let inside = c.self.inside in
-    let same = searched c.self.inside c.settle_unless_few-follows.new.by_height.items c.placement_of-found.new.by_height.items c.settle_unless_few-follows.new.pending.notes c.in-Some.sides.along c.settle_unless_few-follows.result
-    c.settle_unless_few-follows.ensures.by_height c.placement_of-found.ensures.numbers c.placement_of-found.ensures.by_height c.placement_of-found.ensures.same in
-    found-stands inside.frame inside.records c.args.size c.in-Some-found.placement c.settle_unless_few-follows.new.pending.notes c.placement_of-found.new.by_height.items c.self.invariant.kept (c.in-Some-found.ensures.some c.args.size (sym c.in-Some.ensures)) same unnoted
+    let same = searched c.self.inside c.walk_or_settle-walked.new.by_height.items c.placement_of-found.new.by_height.items c.walk_or_settle-walked.new.pending.notes c.in-Some.sides.along (list_follows c.walk_or_settle-walked.result)
+    c.walk_or_settle-walked.ensures.by_height c.placement_of-found.ensures.numbers c.placement_of-found.ensures.by_height c.placement_of-found.ensures.same in
+    found-stands inside.frame inside.records c.args.size c.in-Some-found.placement c.walk_or_settle-walked.new.pending.notes c.placement_of-found.new.by_height.items c.self.invariant.kept (c.in-Some-found.ensures.some c.args.size (sym c.in-Some.ensures)) same unnoted
 
 pub invariant_of-self : goal.invariant_of-self
 invariant_of-self c =
-    let same = searched c.self.inside c.settle_unless_few-follows.new.by_height.items c.placement_of-found.new.by_height.items c.settle_unless_few-follows.new.pending.notes c.in-Some.sides.along c.settle_unless_few-follows.result
-    c.settle_unless_few-follows.ensures.by_height c.placement_of-found.ensures.numbers c.placement_of-found.ensures.by_height c.placement_of-found.ensures.same in
+    let same = searched c.self.inside c.walk_or_settle-walked.new.by_height.items c.placement_of-found.new.by_height.items c.walk_or_settle-walked.new.pending.notes c.in-Some.sides.along (list_follows c.walk_or_settle-walked.result)
+    c.walk_or_settle-walked.ensures.by_height c.placement_of-found.ensures.numbers c.placement_of-found.ensures.by_height c.placement_of-found.ensures.same in
     record {
       kept = c.self.invariant.kept;
       by_height = same;
       seconds = c.self.invariant.seconds;
-      room = omega (arith, c.self.invariant.room, c.settle_unless_few-follows.ensures.capacity, c.placement_of-found.ensures.capacity);
-      room_to_note = omega (arith, c.self.invariant.room_to_note, c.settle_unless_few-follows.ensures.room);
+      room = omega (arith, c.self.invariant.room, c.walk_or_settle-walked.ensures.capacity, c.placement_of-found.ensures.capacity);
+      room_to_note = omega (arith, c.self.invariant.room_to_note, c.walk_or_settle-walked.ensures.room);
       counted = c.self.invariant.counted;
       space = c.self.invariant.space;
     }
@@ -162,8 +163,8 @@ invariant_of-self c =
 pub invariant_of-self-in_err-id : goal.invariant_of-self-in_err-id
 invariant_of-self-in_err-id c =
     let inside = c.self.inside in
-    let same = searched c.self.inside c.settle_unless_few-follows.new.by_height.items c.placement_of-found.new.by_height.items c.settle_unless_few-follows.new.pending.notes c.in-Some.sides.along c.settle_unless_few-follows.result
-    c.settle_unless_few-follows.ensures.by_height c.placement_of-found.ensures.numbers c.placement_of-found.ensures.by_height c.placement_of-found.ensures.same in
+    let same = searched c.self.inside c.walk_or_settle-walked.new.by_height.items c.placement_of-found.new.by_height.items c.walk_or_settle-walked.new.pending.notes c.in-Some.sides.along (list_follows c.walk_or_settle-walked.result)
+    c.walk_or_settle-walked.ensures.by_height c.placement_of-found.ensures.numbers c.placement_of-found.ensures.by_height c.placement_of-found.ensures.same in
     rw c.in_err-id.ensures.err
     (record {
       kept = c.self.invariant.kept;
@@ -247,13 +248,20 @@ asked-requires-clause-alignment_height c = (witnesses c.self.invariant.kept).val
 pub returns-in_default-clause-promises : goal.returns-in_default-clause-promises
 returns-in_default-clause-promises c = subst KeepsPromises c.self.view_is (promises (state_in c.self.inside) (witnesses c.self.invariant.kept).valid)
 
-pub settle_unless_few-follows-requires-clause-short : goal.settle_unless_few-follows-requires-clause-short
-settle_unless_few-follows-requires-clause-short c =
-    (asked-short c.self.inside.frame c.args.size c.in-Some.sides (witnesses c.self.invariant.kept).valid.frame (sym c.in-Some.ensures)).0
+pub shelf_height-height-requires-clause-frame : goal.shelf_height-height-requires-clause-frame
+shelf_height-height-requires-clause-frame c = (witnesses c.self.invariant.kept).valid.frame
+
+pub shelf_height-height-requires-clause-short : goal.shelf_height-height-requires-clause-short
+shelf_height-height-requires-clause-short c =
+    (asked-short c.self.inside.frame c.args.size c.in-Some.sides (witnesses c.self.invariant.kept).valid.frame (sym c.in-Some.ensures)).1
+
+pub walk_or_settle-walked-requires-clause-short : goal.walk_or_settle-walked-requires-clause-short
+walk_or_settle-walked-requires-clause-short c =
+    ((asked-short c.self.inside.frame c.args.size c.in-Some.sides (witnesses c.self.invariant.kept).valid.frame (sym c.in-Some.ensures)).0, c.shelf_height-height.ensures.short)
 
 pub placement_of-found-requires-clause-short : goal.placement_of-found-requires-clause-short
 placement_of-found-requires-clause-short c =
-    asked-short c.self.inside.frame c.args.size c.in-Some.sides (witnesses c.self.invariant.kept).valid.frame (sym c.in-Some.ensures)
+    ((asked-short c.self.inside.frame c.args.size c.in-Some.sides (witnesses c.self.invariant.kept).valid.frame (sym c.in-Some.ensures)).0, c.shelf_height-height.ensures.short)
 
 pub placement_of-found-requires-clause-wide : goal.placement_of-found-requires-clause-wide
 placement_of-found-requires-clause-wide c =

@@ -1,0 +1,105 @@
+//! Whether a search goes through all shelves or through the list by height, which is to follow what was noted first: what is
+//! less work.
+//!
+//! Definitions: `Searching` of `shelf_search` for what going through all comes to, `Settling` of `shelf_store` for the list.
+
+ghost use Rattle.std.specs.Prelude.{◌≡◌, ◌≤◌, length, true};
+ghost use Rattle.etagere_base.specs.Frames.{longest_side};
+ghost use Rattle.shelf_heights.specs.Private.ByHeight.{AreByHeightFor};
+ghost use Rattle.shelf_records.specs.Private.Kept.{AreKept};
+ghost use Rattle.shelf_records.specs.RecordLists.{IsLinked, walked_lists};
+ghost use Rattle.shelf_search.specs.Private.Searching.{IsThrough, list_follows};
+ghost use Rattle.shelf_store.specs.Private.Settling.{AreByHeightExceptNoted};
+
+use etagere_base::Frame;
+use shelf_heights::by_height::ShelvesByHeight;
+use shelf_notes::pending::PendingShelves;
+use shelf_records::Records;
+use shelf_search::by_place::{Walked, walk_shelves};
+use shelf_store::settling::{are_few, follows, settle_for};
+
+/// To go through more free items than this is more work than to make the list by height follow.
+const WALKED_ITEMS: u32 = 96;
+
+/// Goes through all shelves for something so wide, in a shelf so high, where that is less work than to make the list by
+/// height follow what was noted; else makes it follow. Shelves that have no room for it may stay out of the list.
+#[inline(always)]
+pub fn walk_or_settle(
+    frame: &Frame,
+    records: &Records,
+    by_height: &mut ShelvesByHeight,
+    pending: &mut PendingShelves,
+    width: u32,
+    height: u32,
+) -> Walked
+    requires kept { AreKept frame.now records.now }
+    requires by_height { AreByHeightExceptNoted frame.now records.now pending.old.notes by_height.old.items }
+    requires room { length records.now.shelves ≤ by_height.old.capacity }
+    requires room_to_note { length records.now.shelves ≤ pending.old.room }
+    requires short { (width ≤ longest_side) × (height ≤ longest_side) }
+    ensures through { IsThrough records.now width height result }
+    ensures by_height { AreByHeightExceptNoted frame.now records.now pending.new.notes by_height.new.items }
+    ensures follows { list_follows result ≡ true
+        → AreByHeightFor frame.now records.now width by_height.new.items }
+    ensures capacity { by_height.old.capacity ≤ by_height.new.capacity }
+    ensures room { pending.new.room ≡ pending.old.room }
+{
+    if follows(pending, width) {
+        return Walked::NotThrough;
+    }
+    let walked = walk_if_few(records, by_height, pending, width, height);
+    if let Walked::NotThrough = walked {
+        settle_counted(frame, records, by_height, pending, width);
+    }
+    walked
+}
+
+/// Goes through all shelves where there are few, and few free items to look at. Never inlined, so that a search after which
+/// nothing changed costs no call.
+#[inline(never)]
+fn walk_if_few(
+    records: &Records,
+    by_height: &ShelvesByHeight,
+    pending: &mut PendingShelves,
+    width: u32,
+    height: u32,
+) -> Walked
+    requires linked { IsLinked records.now (walked_lists records.now) }
+    requires short { height ≤ longest_side }
+    ensures through { IsThrough records.now width height result }
+    ensures notes { pending.new.notes ≡ pending.old.notes }
+    ensures room { pending.new.room ≡ pending.old.room }
+{
+    if !are_few(records, by_height, pending) {
+        return Walked::NotThrough;
+    }
+    let walked = walk_shelves(records, width, height, WALKED_ITEMS);
+    if let Walked::NotThrough = walked {
+        pending.rest_from_walks();
+    }
+    walked
+}
+
+/// Makes the list by height follow what was noted, for this search of something so wide. Never inlined, so that going through
+/// all shelves stays short.
+#[inline(never)]
+fn settle_counted(
+    frame: &Frame,
+    records: &Records,
+    by_height: &mut ShelvesByHeight,
+    pending: &mut PendingShelves,
+    width: u32,
+)
+    requires kept { AreKept frame.now records.now }
+    requires by_height { AreByHeightExceptNoted frame.now records.now pending.old.notes by_height.old.items }
+    requires room { length records.now.shelves ≤ by_height.old.capacity }
+    requires room_to_note { length records.now.shelves ≤ pending.old.room }
+    requires short { width ≤ longest_side }
+    ensures by_height { AreByHeightExceptNoted frame.now records.now pending.new.notes by_height.new.items }
+    ensures follows { AreByHeightFor frame.now records.now width by_height.new.items }
+    ensures capacity { by_height.old.capacity ≤ by_height.new.capacity }
+    ensures room { pending.new.room ≡ pending.old.room }
+{
+    settle_for(frame, records, by_height, pending, width);
+    pending.count_search();
+}
