@@ -131,6 +131,21 @@ def beside_low_ones(_program):
     return filling, later
 
 
+def beside_gaps(shelves, gaps):
+    """Low shelves with so many narrow gaps each, an empty shelf that splits and merges, and a size that fits no gap."""
+
+    def make(_program):
+        filling = [f"atlas 660 {shelves * 16 + 87} 1 1 1 h"] + ["a 44 9"] * (15 * shelves)
+        filling += [f"r {15 * shelf + 2 * gap}" for shelf in range(shelves) for gap in range(gaps)]
+        later = []
+        for _ in range(ROUNDS // 6):
+            first = len(filling) - 1 + len(later)
+            later += ["a 38 56", "a 6 2", "a 50 9", f"r {first + 2}", f"r {first}", f"r {first + 1}"]
+        return filling, later
+
+    return make
+
+
 def first_ones_empty(shelves, empty):
     """Shelves of one item each, of two heights, of which the first go two at a time, and one behind them that splits and
     merges, meanwhile and after that.
@@ -223,9 +238,12 @@ ROWS = {
     "32000 such shelves": Row(half_empty(16, 2000), before=9120, most=600),
     "the same item alone: its shelf splits and merges": Row(same_item(0), 285, before=772),
     "the same item beside another": Row(same_item(1), 208, before=301),
-    # Counted with plain geometry types, as the next one.
+    # Counted with plain geometry types, as the next two.
     "30 columns, the same item": Row(same_in_columns, 488),
     "low items of which half went, beside a shelf that splits and merges": Row(beside_low_ones, 304),
+    "9 low shelves with two narrow gaps each, beside one that splits and merges": Row(
+        beside_gaps(9, 2), 418, before=683
+    ),
     "65535 columns, the same item": Row(in_columns(65535), 182, before=363),
     "8000 full shelves: the first goes and comes": Row(full_shelves(lambda _: 0), 181, before=347),
     "8000 full shelves: any goes and comes": Row(full_shelves(lambda chooser: chooser.randrange(8000)), 72703),
