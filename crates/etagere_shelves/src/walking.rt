@@ -73,7 +73,7 @@ fn walk_if_few(
     if !are_few(records, by_height, pending) {
         return Walked::NotThrough;
     }
-    let walked = walk_shelves(records, width, height, WALKED_ITEMS);
+    let walked = walk_shelves(records, width, height, height, WALKED_ITEMS);
     if let Walked::NotThrough = walked {
         pending.rest_from_walks();
     }

@@ -3,6 +3,7 @@ pub mod BestByHeight
 pub mod EarliestChosen
 pub mod EarliestShelves
 pub mod EmptyShelves
+pub mod GoodOffers
 pub mod LeastOffers
 pub mod PassedShelves
 pub mod SearchableShelves

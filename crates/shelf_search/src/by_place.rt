@@ -1,8 +1,8 @@
 //! A search through all shelves in the order of their places, of which nothing need be known but their records.
 //!
 //! Definitions: `Searching`. A free list is gone through only where its shelf would rank lower than what was found, and the
-//! first shelf ends the search that is just as tall as asked and has room. It is given up where it would go through more free
-//! items than it may.
+//! first shelf ends the search that has room and than which none ranks lower. It is given up where it would go through more
+//! free items than it may.
 
 ghost use Rattle.std.specs.Prelude.{◌≡◌, ◌≤◌, ◌*◌, ◌+◌, ◌<◌, IfSome, None, Option, length};
 ghost use Rattle.etagere_base.specs.Frames.{longest_side};
@@ -10,6 +10,7 @@ ghost use Rattle.etagere_base.specs.Lists.{times};
 ghost use Rattle.etagere_links.specs.Edits.{link_at};
 ghost use Rattle.etagere_links.specs.Links.{no_link};
 ghost use Rattle.shelf_records.specs.RecordLists.{IsLinked, shelf_walk, walked_lists};
+ghost use Rattle.shelf_model.specs.Choice.{bad_fit_rank};
 ghost use Rattle.shelf_records.specs.Records.{shelf_chain};
 ghost use Rattle.shelf_search.specs.Private.Opening as opening;
 ghost use Rattle.shelf_search.specs.Private.Searching as searching;
@@ -17,9 +18,12 @@ ghost use Rattle.shelf_search.specs.declared.by_place.Looked.TheVariants.{Unknow
 ghost use Rattle.shelf_search.specs.declared.by_place.Walked.TheVariants.{NotThrough};
 ghost use Rattle.shelf_search.specs.declared.choosing.Candidate.{Candidate};
 
-use crate::choosing::{Candidate, NO_NUMBER, Searched, rank_of};
+use crate::choosing::{BAD_FIT_RANK, Candidate, NO_NUMBER, Searched, rank_of};
 use etagere_links::Link;
 use shelf_records::{LinkedShelf, Records};
+
+/// A search for bad fits goes through no more free items.
+const WALKED_ITEMS: u32 = 64;
 
 /// What going through all shelves came to.
 #[derive(Clone, Copy)]
@@ -40,11 +44,13 @@ enum Looked {
     Unknown,
 }
 
-/// Goes through all shelves for the first of least rank, and through no more than so many items of their free lists.
+/// Goes through all shelves for the first of least rank, where none that has room ranks below the least rank, and through
+/// no more than so many items of their free lists.
 #[inline(always)]
-pub fn walk_shelves(records: &Records, width: u32, height: u32, most: u32) -> Walked
+pub fn walk_shelves(records: &Records, width: u32, height: u32, least: u32, most: u32) -> Walked
     requires linked { IsLinked records.now (walked_lists records.now) }
     requires short { height ≤ longest_side }
+    requires least { searching.RanksFrom records.now width height least }
     ensures through { searching.IsThrough records.now width height result }
     ensures long { result ≡ NotThrough → most < length records.now.shelves * length records.now.items }
 {
@@ -53,18 +59,23 @@ pub fn walk_shelves(records: &Records, width: u32, height: u32, most: u32) -> Wa
     let mut left = most;
     let mut shelf = usize::from(records.first_shelf().bits());
     while shelf < NO_NUMBER {
+        let next = usize::from(next_link(records.shelves(), shelf).bits());
         match look_at(records, width, height, shelf, limit, &mut left) {
             Looked::Lower(candidate) => {
-                if candidate.rank <= height {
+                if candidate.rank <= least {
                     return Walked::Through(Some(candidate));
                 }
                 limit = candidate.rank;
                 best = Some(candidate);
+                shelf = next;
             }
-            Looked::NotLower => {}
+            Looked::NotLower => {
+                // A way back of its own, so that a shelf that is passed costs no copies of what was found.
+                shelf = next;
+                continue;
+            }
             Looked::Unknown => return Walked::NotThrough,
         }
-        shelf = usize::from(next_link(records.shelves(), shelf).bits());
     }
     Walked::Through(best)
 }
@@ -77,10 +88,21 @@ pub(crate) fn first_of_least_rank(records: &Records, width: u32, height: u32) ->
     requires short { height ≤ longest_side }
     ensures { result ≡ searching.best_candidate records.now width height }
 {
-    match walk_shelves(records, width, height, u32::MAX) {
+    match walk_shelves(records, width, height, height, u32::MAX) {
         Walked::Through(best) => best,
         Walked::NotThrough => None,
     }
+}
+
+/// What the first shelf with room offers, where none is a good fit. Never inlined, since it is rarely asked for.
+#[inline(never)]
+pub(crate) fn walk_bad_fits(records: &Records, width: u32, height: u32) -> Walked
+    requires linked { IsLinked records.now (walked_lists records.now) }
+    requires short { height ≤ longest_side }
+    requires bad { searching.RanksFrom records.now width height bad_fit_rank }
+    ensures through { searching.IsThrough records.now width height result }
+{
+    walk_shelves(records, width, height, BAD_FIT_RANK, WALKED_ITEMS)
 }
 
 /// What a shelf offers, where it ranks below the limit, which is the rank of what was found. Of its free list no more items

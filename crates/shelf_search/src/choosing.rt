@@ -26,7 +26,7 @@ ghost use Rattle.shelf_search.specs.Private.Searching as searching;
 ghost use Rattle.shelf_search.specs.Private.Searching.{AreTooTall, IsFirstGood};
 ghost use Rattle.shelf_model.specs.State as state;
 
-use crate::by_place::Walked;
+use crate::by_place::{Walked, walk_bad_fits};
 use etagere_base::{Frame, Sides, Size, asked, step};
 use shelf_heights::by_height::{BoundedShelf, ShelvesByHeight};
 use shelf_heights::heights::{chain_order_of, first_as_tall};
@@ -37,7 +37,16 @@ use shelf_records::{LinkedShelf, Records};
 pub const MOST_ITEMS: u32 = 65535;
 
 /// The rank of a bad fit, which is above each height.
-const BAD_FIT_RANK: u32 = 65536;
+pub(crate) const BAD_FIT_RANK: u32 = 65536;
+
+/// More shelves than these aren't gone through for a bad fit.
+const WALKED: usize = 160;
+
+/// Fewer heights aren't many.
+const FEWEST_HEIGHTS: usize = 4;
+
+/// Shelves are of many heights where no two of about so many are as tall that stand equally far apart in the list.
+const MOST_HEIGHTS: usize = 8;
 
 /// A shelf is split where more than this would be left of its height.
 const SHELF_SLACK: u32 = 8;
@@ -216,6 +225,8 @@ fn best_candidate(
     requires column { (1 ≤ column_width) × (column_width ≤ longest_side) }
     requires wide { 1 ≤ width }
     requires short { height ≤ longest_side }
+    requires best { searching.best_candidate records.now width height
+        ≡ searching.first_by_height records.now width height (numbers_by_height by_height.old.items) }
     ensures value { result
         ≡ searching.first_by_height records.now width height (numbers_by_height by_height.old.items) }
     ensures numbers { numbers_by_height by_height.new.items ≡ numbers_by_height by_height.old.items }
@@ -256,6 +267,9 @@ fn first_of_rest(
     requires tall { AreTooTall records.now.shelves height (drop rest (numbers_by_height by_height.old.items)) }
     requires wide { 1 ≤ width }
     requires short { height ≤ longest_side }
+    requires best { searching.best_candidate records.now width height
+        ≡ searching.first_by_height records.now width height
+        (drop rest (numbers_by_height by_height.old.items)) }
     ensures value { result
         ≡ searching.first_by_height records.now width height
         (drop rest (numbers_by_height by_height.old.items)) }
@@ -267,7 +281,35 @@ fn first_of_rest(
     if empty.is_some() {
         return empty;
     }
+    if are_of_many_heights(records.shelves(), by_height, rest) {
+        if let Walked::Through(best) = walk_bad_fits(records, width, height) {
+            return best;
+        }
+    }
     first_placed(records, by_height, rest, width, height)
+}
+
+/// Whether shelves are few enough to go through all, and those from this position on differ so much in height that it is
+/// less work: to look at the first of each height takes as much as to pass several shelves.
+fn are_of_many_heights(shelves: &[LinkedShelf], by_height: &ShelvesByHeight, rest: usize) -> bool
+    requires order { AreInOrder shelves.now by_height.now.items }
+    requires rest { rest ≤ length by_height.now.items }
+{
+    let count = by_height.len() - rest;
+    if count < FEWEST_HEIGHTS || by_height.len() > WALKED {
+        return false;
+    }
+    let mut last = 0;
+    let mut index = rest;
+    while index < by_height.len() {
+        let own = own_height(shelves, by_height.shelf(index));
+        if own == last {
+            return false;
+        }
+        last = own;
+        index += count / MOST_HEIGHTS + 1;
+    }
+    true
 }
 
 /// The first good fit from this position on, where all shelves are tall enough. Where there is none before the first shelf

@@ -12,39 +12,18 @@ use Rattle.shelf_model.specs.Choice.{bad_fit_rank}
 use Rattle.shelf_model.specs.Listing.{RiseFrom}
 use Rattle.shelf_heights.specs.Private.ByHeight.{AreByHeightFor, order_of, chain_order, numbers_by_height}
 use Rattle.shelf_records.specs.Private.Kept.{AreKept}
-use Rattle.shelf_search.specs.Private.Searching.{best_candidate, earlier, earliest, first_by_height, first_offer, good_offer, offered, rank_of}
+use Rattle.shelf_search.specs.Private.Searching.{best_candidate, earlier, earliest, first_by_height, first_offer, good_offer, offered}
 use Rattle.shelf_search.specs.declared.choosing.Candidate.{Candidate}
 use Rattle.shelf_heights.specs.declared.by_height.BoundedShelf.{BoundedShelf}
+use Rattle.shelf_search.proofs.ByHeight.GoodOffers.{bad-is, good-is, none-good}
 use Rattle.shelf_search.proofs.ByHeight.LeastOffers.{IsLeast, IsOffer, IsOutcome, least-first, least-later, lowest-outcome, none-less, offer-is, outcome-among, outcome-same, weight}
 use Rattle.shelf_search.proofs.ByHeight.SearchableShelves.{left_out-searchable}
 use Rattle.shelf_search.proofs.ByHeight.SearchedOnes.{offered-low}
 use Rattle.shelf_heights.proofs.ByHeight.OrdersRise.{LiesWithin, kept-within, orders-rise}
 use Rattle.shelf_heights.proofs.ByHeight.RisingNumbers.{of-each, rise-low}
 use Rattle.shelf_records.proofs.Recorded.Members.{Each-member}
-use Rattle.shelf_search.proofs.Searched.SearchSteps.{offers-parts}
 
 module _ (frame : Frame) (records : Records) (width height : ℕ) where
-  -- a good offer is an offer of a rank below that of a bad fit
-  good-is : (shelf : ℕ) (candidate : Candidate) → good_offer records width height shelf ≡ Some candidate → (offered records width height shelf ≡ Some candidate) × (candidate.rank < bad_fit_rank)
-  good-is shelf candidate good = by_test (nat_lt (rank_of records.shelves height shelf) bad_fit_rank) refl good
-    where
-      by_test : (b : Bool) → nat_lt (rank_of records.shelves height shelf) bad_fit_rank ≡ b → cond b (offered records width height shelf) None ≡ Some candidate
-          → (offered records width height shelf ≡ Some candidate) × (candidate.rank < bad_fit_rank)
-      by_test true e is =
-          let below : rank_of records.shelves height shelf < bad_fit_rank = grind (arith, nat_tests) in
-          (is, omega (arith, below, (offers-parts records width height shelf candidate is).rank))
-      by_test false e is = absurd (cc)
-
-  -- where there is no good offer, an offer has the rank of a bad fit
-  bad-is : (shelf : ℕ) (candidate : Candidate) → good_offer records width height shelf ≡ None → offered records width height shelf ≡ Some candidate → bad_fit_rank ≤ candidate.rank
-  bad-is shelf candidate none offer = by_test (nat_lt (rank_of records.shelves height shelf) bad_fit_rank) refl none
-    where
-      by_test : (b : Bool) → nat_lt (rank_of records.shelves height shelf) bad_fit_rank ≡ b → cond b (offered records width height shelf) None ≡ None → bad_fit_rank ≤ candidate.rank
-      by_test true e is = absurd (cc)
-      by_test false e is =
-          let above : bad_fit_rank ≤ rank_of records.shelves height shelf = grind (arith, nat_tests) in
-          omega (arith, above, (offers-parts records width height shelf candidate offer).rank)
-
   -- the first good offer of shelves in their order weighs least
   first-good : (from : ℕ) (shelves : List ℕ) (candidate : Candidate) → AllByRecursion (LiesWithin frame records.shelves) shelves → RiseFrom from (map (order_of records.shelves) shelves)
       → first_offer (good_offer records width height) shelves ≡ Some candidate → IsLeast frame records width height shelves candidate × (candidate.rank < bad_fit_rank)
@@ -59,12 +38,12 @@ module _ (frame : Frame) (records : Records) (width height : ℕ) where
           let later = rest is in
           let here : IsOffer records.shelves candidate.shelf candidate = offer-is frame records width height candidate.shelf candidate (Each-member (LiesWithin frame records.shelves) shelves candidate.shelf within.1 later.0.stands) later.0.offer in (
             least-later frame records width height shelf shelves candidate
-                (λ other offers. omega (arith, later.1, here.in_chain, bad-is shelf other good offers)) later.0,
+                (λ other offers. omega (arith, later.1, here.in_chain, bad-is records width height shelf other good offers)) later.0,
             later.1,
           )
       by_offer (Some own) good is rest =
           let same : own ≡ candidate = cc in
-          let offer = good-is shelf candidate (good ∙ ap Some same) in
+          let offer = good-is records width height shelf candidate (good ∙ ap Some same) in
           let here : IsOffer records.shelves shelf candidate = offer-is frame records width height shelf candidate within.0 offer.0 in
           let weighs : weight records.shelves candidate ≡ order_of records.shelves shelf = omega (arith, here.good offer.1, ap (chain_order records.shelves) here.own) in (
             least-first frame records width height shelf shelves candidate here.own offer.0
@@ -73,17 +52,6 @@ module _ (frame : Frame) (records : Records) (width height : ℕ) where
                 omega (arith, weighs, there.above, rise-low (order_of records.shelves) (order_of records.shelves shelf + 1) shelves rise.1 k stands)),
             offer.1,
           )
-
-  -- where the first good offer is none, none is good
-  none-good : (shelves : List ℕ) → first_offer (good_offer records width height) shelves ≡ None → (k : ℕ) → 1 ≤ times k shelves → good_offer records width height k ≡ None
-  none-good [] none = λ k stands. absurd (omega (arith, stands))
-  none-good (shelf ∷ shelves) none = by_offer (good_offer records width height shelf) refl none (none-good shelves)
-    where
-      by_offer : (o : Option Candidate) → good_offer records width height shelf ≡ o → option_map_or Some o (first_offer (good_offer records width height) shelves) ≡ None
-          → (first_offer (good_offer records width height) shelves ≡ None → (k : ℕ) → 1 ≤ times k shelves → good_offer records width height k ≡ None)
-          → (k : ℕ) → 1 ≤ times k (shelf ∷ shelves) → good_offer records width height k ≡ None
-      by_offer None good is rest = of-each (λ k. good_offer records width height k ≡ None) shelf shelves good (rest is)
-      by_offer (Some own) good is rest = absurd (cc)
 
   -- each offer of a shelf has the rank of a bad fit
   abbrev OffersBad : ℕ → Type 0
@@ -137,7 +105,7 @@ module _ (frame : Frame) (records : Records) (width height : ℕ) where
           earliest-outcome shelves
           (λ k stands candidate offer.
           let here : IsOffer records.shelves k candidate = offer-is frame records width height k candidate (Each-member (LiesWithin frame records.shelves) shelves k within stands) offer in
-          omega (arith, here.most, bad-is k candidate (none-good shelves first k stands) offer)) within
+          omega (arith, here.most, bad-is records width height k candidate (none-good records width height shelves first k stands) offer)) within
       by_first (Some candidate) first = (first-good from shelves candidate within rise first).0
 
 -- a fact of each number of one list is one of each of another that has the same numbers

@@ -3,7 +3,8 @@ use Rattle.std.proofs.Common.{◌≡◌, ℕ, ◌+◌, ◌<◌, ◌≤◌, Bool,
 use Rattle.std.proofs.lemmas.Bool.Decides.{nat_tests}
 use Rattle.std.proofs.lemmas.List.{length-append}
 use Rattle.std.specs.Prelude.{◌&&◌, ◌==◌}
-use Rattle.etagere_base.specs.Lists.{total}
+use Rattle.etagere_base.specs.Lists.{times, total}
+use Rattle.etagere_base.proofs.TimesLemmas.{times-here}
 use Rattle.shelf_records.specs.declared.records.LinkedItem.{LinkedItem}
 use Rattle.shelf_records.specs.RecordLists.{Records}
 use Rattle.shelf_records.specs.AtlasRecords.{height_of, is_empty_at, width_of}
@@ -83,12 +84,12 @@ lowest-more offers (m ∷ ns) n = ap (better (offers m)) (lowest-more offers ns 
             ap (λ t. Some (cond t b a)) f ∙ sym (ap (λ t. Some (cond t c a)) ca)
 
 -- what was found is the lowest of all where nothing ranks lower
-pub lowest-settled : (offers : ℕ → Option Candidate) (candidate : Candidate) → ((n : ℕ) (other : Candidate) → offers n ≡ Some other → candidate.rank ≤ other.rank)
-    → (rest passed : List ℕ) → lowest (map offers passed) ≡ Some candidate → lowest (map offers (passed ++ rest)) ≡ Some candidate
-lowest-settled offers candidate least [] passed found = ap (λ (ns : List ℕ). lowest (map offers ns)) (append-nil passed) ∙ found
-lowest-settled offers candidate least (n ∷ rest) passed found =
+pub lowest-settled : (offers : ℕ → Option Candidate) (candidate : Candidate) (rest passed : List ℕ) → ((n : ℕ) (other : Candidate) → 1 ≤ times n rest → offers n ≡ Some other → candidate.rank ≤ other.rank)
+    → lowest (map offers passed) ≡ Some candidate → lowest (map offers (passed ++ rest)) ≡ Some candidate
+lowest-settled offers candidate [] passed least found = ap (λ (ns : List ℕ). lowest (map offers ns)) (append-nil passed) ∙ found
+lowest-settled offers candidate (n ∷ rest) passed least found =
     ap (λ (ns : List ℕ). lowest (map offers ns)) (sym (append_assoc passed (n ∷ []) rest))
-    ∙ lowest-settled offers candidate least rest (passed ++ n ∷ []) (lowest-more offers passed n ∙ ap (λ (o : Option Candidate). better o (offers n)) found ∙ stays (offers n) refl)
+    ∙ lowest-settled offers candidate rest (passed ++ n ∷ []) (λ m other stands. least m other (omega (arith, stands))) (lowest-more offers passed n ∙ ap (λ (o : Option Candidate). better o (offers n)) found ∙ stays (offers n) refl)
   where
     lower-not : (other : Candidate) (b : Bool) → nat_lt other.rank candidate.rank ≡ b → candidate.rank ≤ other.rank → Some (cond b other candidate) ≡ Some candidate
     lower-not other true e low =
@@ -98,7 +99,7 @@ lowest-settled offers candidate least (n ∷ rest) passed found =
 
     stays : (o : Option Candidate) → offers n ≡ o → better (Some candidate) o ≡ Some candidate
     stays None e = refl
-    stays (Some other) e = lower-not other (nat_lt other.rank candidate.rank) refl (least n other e)
+    stays (Some other) e = lower-not other (nat_lt other.rank candidate.rank) refl (least n other (omega (arith, times-here n rest)) e)
 
 -- one more free item
 pub free-more : (items : List LinkedItem) (passed : List ℕ) (n count widest : ℕ) → count ≡ length passed + 1 → widest ≡ max (widest_of items passed) (width_of items n)

@@ -8,7 +8,7 @@ use Rattle.etagere_base.specs.Lists.{times}
 use Rattle.etagere_links.specs.Links.{link_of, no_link}
 use Rattle.etagere_base.specs.declared.frames.Frame.{Frame}
 use Rattle.etagere_base.specs.declared.sides.Sides.{Sides}
-use Rattle.etagere_base.proofs.TimesLemmas.{find-stands}
+use Rattle.etagere_base.proofs.TimesLemmas.{find-stands, times-append}
 use Rattle.shelf_records.specs.declared.records.LinkedItem.{LinkedItem}
 use Rattle.shelf_records.specs.declared.records.LinkedShelf.{LinkedShelf}
 use Rattle.shelf_records.specs.RecordLists.{IsLinked, Records, first_free_of, free_walk, shelf_walk, walked_lists}
@@ -16,7 +16,7 @@ use Rattle.shelf_records.specs.Records.{free_list}
 use Rattle.etagere_links.proofs.ListEnds.{times-here}
 use Rattle.shelf_records.specs.AtlasRecords.{height_of, is_empty_at, item_at}
 use Rattle.shelf_search.specs.Private.Opening.{searched, widest_of}
-use Rattle.shelf_search.specs.Private.Searching.{best_candidate, better, chosen_at, first_wide, lower, lowest, limit_of, offered, placement_at, rank_of}
+use Rattle.shelf_search.specs.Private.Searching.{best_candidate, better, chosen_at, first_wide, lower, lowest, limit_of, offered, placement_at, rank_of, RanksFrom}
 use Rattle.shelf_model.specs.Choice.{shelf_height}
 use Rattle.shelf_search.specs.declared.choosing.Candidate.{Candidate}
 use Rattle.shelf_search.specs.declared.choosing.Searched.{Searched}
@@ -294,10 +294,17 @@ rank-low records width height shelf candidate short offer =
     by_test true tall = tall
     by_test false tall = omega (arith, short)
 
+-- what shelves offer ranks at least at the height that is asked for
+pub ranks-height : (records : Records) (width height : ℕ) → height ≤ 65535 → RanksFrom records width height height
+ranks-height records width height short = λ shelf offer _ is. rank-low records width height shelf offer short is
+
 -- what ranks so low is the lowest of all shelves, whatever comes behind them
-pub least-of-all : (records : Records) (width height shelf : ℕ) (passed others : List ℕ) (candidate : Candidate) → height ≤ 65535 → Some candidate ≡ lowest (map (offered records width height) (passed ++ shelf ∷ []))
-    → passed ++ shelf ∷ others ≡ (shelf_walk records).met → candidate.rank ≤ height → Some candidate ≡ best_candidate records width height
-least-of-all records width height shelf passed others candidate short holds whole low =
+pub least-of-all : (records : Records) (width height least shelf : ℕ) (passed others : List ℕ) (candidate : Candidate) → RanksFrom records width height least → Some candidate ≡ lowest (map (offered records width height) (passed ++ shelf ∷ []))
+    → passed ++ shelf ∷ others ≡ (shelf_walk records).met → candidate.rank ≤ least → Some candidate ≡ best_candidate records width height
+least-of-all records width height least shelf passed others candidate ranks holds whole low =
     sym
     (ap (λ (ns : List ℕ). lowest (map (offered records width height) ns)) (sym (append_assoc passed (shelf ∷ []) others ∙ whole))
-    ∙ lowest-settled (offered records width height) candidate (λ n other offer. omega (arith, low, rank-low records width height n other short offer)) others (passed ++ shelf ∷ []) (sym holds))
+    ∙ lowest-settled (offered records width height) candidate others (passed ++ shelf ∷ []) (λ n other stands offer. omega (arith, low, ranks n other (among n stands) offer)) (sym holds))
+  where
+    among : (n : ℕ) → 1 ≤ times n others → 1 ≤ times n (shelf_walk records).met
+    among n stands = omega (arith, stands, ap (times n) whole, times-append n passed (shelf ∷ others))

@@ -3,6 +3,7 @@
 use Rattle.std.specs.Prelude.{◌≡◌, ℕ, ◌+◌, ◌-◌, ◌/◌, ◌^◌, ◌≤◌, Bool, false, true, ⊤, ◌&&◌, ◌||◌, Option, None, Some, option_map, List, [], ◌∷◌, drop, find, length, map, nat_le, nat_lt, take, if◌then◌else◌}
 use Rattle.std.specs.Option.{option_map_or}
 use Rattle.std.specs.List.{AllByRecursion}
+use Rattle.etagere_base.specs.Lists.{times}
 use Rattle.etagere_base.specs.declared.frames.Frame.{Frame}
 use Rattle.etagere_base.specs.declared.sides.Sides.{Sides}
 use Rattle.shelf_records.specs.declared.records.LinkedShelf.{LinkedShelf}
@@ -69,6 +70,12 @@ lowest (candidate ∷ candidates) = better candidate (lowest candidates)
 abbrev pub best_candidate : Records → ℕ → ℕ → Option Candidate
 best_candidate records width height =
     lowest (map (offered records width height) (shelf_walk records).met)
+
+-- what a shelf of the walk offers ranks at least so high
+abbrev pub RanksFrom : Records → ℕ → ℕ → ℕ → Type 0
+RanksFrom records width height least =
+    (shelf : ℕ) (offer : Candidate) → 1 ≤ times shelf (shelf_walk records).met
+    → offered records width height shelf ≡ Some offer → least ≤ offer.rank
 
 -- where all shelves were gone through, that came to the first of least rank
 abbrev pub IsThrough : Records → ℕ → ℕ → Walked → Type 0

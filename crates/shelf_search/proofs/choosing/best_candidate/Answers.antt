@@ -1,4 +1,4 @@
-use Rattle.std.proofs.Common.{◌≤◌, ◌<◌, List, Some, ap, arith, drop, length, map, subst, sym, take, ◌∙◌, ℕ}
+use Rattle.std.proofs.Common.{◌≡◌, ◌≤◌, ◌<◌, List, Some, ap, arith, drop, length, map, subst, sym, take, ◌∙◌, ℕ}
 use Rattle.std.proofs.lemmas.List.{length-map}
 use Rattle.std.specs.List.{AllByRecursion}
 use Rattle.std.specs.Option.{option_map_or}
@@ -10,6 +10,7 @@ use Rattle.shelf_heights.specs.declared.by_height.BoundedShelf.{BoundedShelf}
 use Rattle.shelf_search.proofs.ByHeight.PassedShelves.{rest-same}
 use Rattle.shelf_search.proofs.ByHeight.Searches.{found-from, in-order, same-size, tall-from}
 use Rattle.shelf_search.proofs.choosing.best_candidate.Goals as goal
+use Rattle.shelf_search.proofs.choosing.best_candidate.Goals.{In-Rest}
 
 -- those that are tall enough begin there, however many shelves were looked at for it
 begins : (shelves : List LinkedShelf) (by_height : List BoundedShelf) (order index : ℕ) → index ≤ length by_height
@@ -58,14 +59,22 @@ returns-in-Found-clause-value c =
     (rw c.first_as_tall-start.ensures.same at c.in-Found.ensures.value))
     ∙ found-from c.args.records.now c.args.width c.args.height c.first_as_tall-start.result 0 c.args.by_height.now.items start
 
-pub returns-in-Rest-clause-value : goal.returns-in-Rest-clause-value
-returns-in-Rest-clause-value c =
+-- behind the shelves that were passed the same is found as among all
+found-in-rest : (c : In-Rest)
+    → first_by_height c.args.records.now c.args.width c.args.height (drop c.in-Rest.rest (numbers_by_height c.first_good.new.by_height.items))
+    ≡ first_by_height c.args.records.now c.args.width c.args.height (numbers_by_height c.args.by_height.now.items)
+found-in-rest c =
     let start : IsStart c.args.records.now.shelves c.args.by_height.now.items (order_at c.args.height 0) c.first_as_tall-start.result 0 =
     begins c.args.records.now.shelves c.args.by_height.now.items (order_at c.args.height 0) c.first_as_tall-start.result
     c.first_as_tall-start.ensures.within (rw c.shelves.ensures at c.first_as_tall-start.ensures.before) (rw c.shelves.ensures at c.first_as_tall-start.ensures.after) in
-    c.first_of_rest.ensures.value
-    ∙ ap (λ (ns : List ℕ). first_by_height c.args.records.now c.args.width c.args.height (drop c.in-Rest.rest ns))
+    ap (λ (ns : List ℕ). first_by_height c.args.records.now c.args.width c.args.height (drop c.in-Rest.rest ns))
     (c.first_good.ensures.numbers ∙ ap (λ (value : ListByHeight). numbers_by_height value.items) c.first_as_tall-start.ensures.same)
     ∙ rest-same c.args.records.now c.args.width c.args.height c.first_as_tall-start.result c.in-Rest.rest (numbers_by_height c.args.by_height.now.items)
     (rw c.first_as_tall-start.ensures.same at c.in-Rest.ensures.value)
     ∙ found-from c.args.records.now c.args.width c.args.height c.first_as_tall-start.result 0 c.args.by_height.now.items start
+
+pub first_of_rest-requires-clause-best : goal.first_of_rest-requires-clause-best
+first_of_rest-requires-clause-best c = c.requires.best ∙ sym (found-in-rest (goal.at.first_of_rest-requires-clause-best c).In-Rest)
+
+pub returns-in-Rest-clause-value : goal.returns-in-Rest-clause-value
+returns-in-Rest-clause-value c = c.first_of_rest.ensures.value ∙ found-in-rest (goal.at.returns-in-Rest-clause-value c).In-Rest

@@ -23,6 +23,10 @@ best_candidate-requires-clause-column c =
 pub best_candidate-requires-clause-linked : goal.best_candidate-requires-clause-linked
 best_candidate-requires-clause-linked c = (witnesses c.requires.kept).linked
 
+pub best_candidate-requires-clause-best : goal.best_candidate-requires-clause-best
+best_candidate-requires-clause-best c =
+    best-by-height c.args.frame.now c.args.records.now c.args.by_height.now.items c.args.width c.args.height c.requires.wide c.requires.kept (c.requires.by_height (ap list_follows c.in-NotThrough.is))
+
 pub returns-in-NotThrough-clause-value : goal.returns-in-NotThrough-clause-value
 returns-in-NotThrough-clause-value c =
     c.best_candidate.ensures.value
