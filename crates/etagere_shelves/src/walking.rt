@@ -19,7 +19,7 @@ use shelf_search::by_place::{Walked, walk_shelves};
 use shelf_store::settling::{are_few, follows, settle_for};
 
 /// To go through more free items than this is more work than to make the list by height follow.
-const WALKED_ITEMS: u32 = 96;
+const WALKED_ITEMS: u32 = 128;
 
 /// Goes through all shelves for something so wide, in a shelf so high, where that is less work than to make the list by
 /// height follow what was noted; else makes it follow. Shelves that have no room for it may stay out of the list.
@@ -74,8 +74,9 @@ fn walk_if_few(
         return Walked::NotThrough;
     }
     let walked = walk_shelves(records, width, height, height, WALKED_ITEMS);
-    if let Walked::NotThrough = walked {
-        pending.rest_from_walks();
+    match walked {
+        Walked::Through(_) => pending.count_walk(),
+        Walked::NotThrough => pending.rest_from_walks(),
     }
     walked
 }

@@ -18,8 +18,14 @@ use std::marker::Model;
 /// No more searches than this are counted.
 pub const MOST_SEARCHES: u32 = 16;
 
-/// So many searches count as the last of them once going through all shelves was given up.
-const RESTED_SEARCHES: u32 = 6;
+/// So many searches count as the last of them once going through all shelves was given up, where that is rare.
+const RESTED_BRIEFLY: u32 = 2;
+
+/// So many do where it was given up before, and few were gone through to the end since.
+const RESTED_LONG: u32 = 64;
+
+/// It is rare where shelves were gone through to the end as often as this since.
+const RARELY_GIVEN_UP: u32 = 6;
 
 /// Where fewer shelves are listed, none is parked.
 const LISTED_TO_PARK: usize = 64;
@@ -88,6 +94,8 @@ pub struct PendingShelves {
     searches: u32,
     /// How many more searches count as the last of these. Nothing rests on it.
     rested: u32,
+    /// How often all shelves were gone through since that was given up. Nothing rests on it.
+    walks: u32,
     /// What was asked for of late. Nothing rests on it.
     watch: Watch,
 }
@@ -136,6 +144,7 @@ impl PendingShelves {
             narrow_below: 0,
             searches: MOST_SEARCHES,
             rested: 0,
+            walks: RARELY_GIVEN_UP,
             watch: UNWATCHED,
         })
     }
@@ -175,6 +184,7 @@ impl PendingShelves {
             narrow_below: self.narrow_below,
             searches: self.searches,
             rested: self.rested,
+            walks: self.walks,
             watch: self.watch,
         };
         pending.reserve(room)?;
@@ -215,12 +225,26 @@ impl PendingShelves {
         searches
     }
 
-    /// Has some searches count as the last that are counted, since going through all shelves was given up.
+    /// Counts that all shelves were gone through.
+    pub fn count_walk(&mut self)
+        ensures notes { self.new.notes ≡ self.old.notes }
+        ensures room { self.new.room ≡ self.old.room }
+    {
+        self.walks = self.walks.wrapping_add(1);
+    }
+
+    /// Has some searches count as the last that are counted, since going through all shelves was given up: few where that is
+    /// rare.
     pub fn rest_from_walks(&mut self)
         ensures notes { self.new.notes ≡ self.old.notes }
         ensures room { self.new.room ≡ self.old.room }
     {
-        self.rested = RESTED_SEARCHES;
+        self.rested = if self.walks < RARELY_GIVEN_UP {
+            RESTED_LONG
+        } else {
+            RESTED_BRIEFLY
+        };
+        self.walks = 0;
     }
 
     /// The number of one of them, in the order in which they changed.

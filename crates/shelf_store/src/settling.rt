@@ -34,14 +34,24 @@ const FEW: usize = 4;
 const MANY: usize = 32;
 
 /// To go through so many listed shelves in the first searches after one has changed is less work than to make the list
-/// follow: in as many searches as half of those that have changed.
-const WALKED_AT_FIRST: usize = 80;
+/// follow: in as many searches as half of those that have changed, and in so many at least.
+const WALKED_AT_FIRST: usize = 96;
+
+/// In so many searches after one has changed that many are gone through, however few have.
+const FIRST_SEARCHES: u32 = 3;
 
 /// So many are gone through in further searches, unless there are many of these.
 const WALKED: usize = 28;
 
-/// More than so many are gone through only where one has moved: else the list soon follows.
+/// More than so many are gone through only where one has moved of late, unless several splits or merges were noted: else the
+/// list soon follows.
 const WALKED_IN_PLACE: usize = 24;
+
+/// One split, and the merge that undoes it, change no more shelves.
+const CHANGED_BY_ONE: usize = 2;
+
+/// So many of those that have changed last are looked at for that.
+const LAST_CHANGED: usize = 12;
 
 /// Where more have changed than this, shelves aren't gone through: each may be one that the list hasn't.
 const WALKED_CHANGES: usize = 64;
@@ -88,24 +98,39 @@ pub fn settle_for(
     }
 }
 
-/// Whether shelves are so few that all are gone through in this search: none is parked, and to make the list follow those
-/// that have changed would be more work.
+/// Whether shelves are so few that all are gone through in this search: to make the list follow those that have changed would
+/// be more work. Where some are parked, all records count.
 pub fn are_few(records: &Records, by_height: &ShelvesByHeight, pending: &mut PendingShelves) -> bool
     ensures notes { pending.new.notes ≡ pending.old.notes }
     ensures room { pending.new.room ≡ pending.old.room }
 {
-    if by_height.len() > WALKED_AT_FIRST || pending.len() > WALKED_CHANGES || pending.has_parked() {
+    if by_height.len() > WALKED_AT_FIRST
+        || pending.len() > WALKED_CHANGES
+        || pending.has_parked() && records.shelves().len() > WALKED_AT_FIRST
+    {
         return false;
     }
     let searches = pending.count_search();
     searches < MOST_SEARCHES
-        && (by_height.len() <= WALKED || 2 * searches as usize <= pending.len())
-        && (by_height.len() <= WALKED_IN_PLACE || have_moved(records, pending))
+        && (by_height.len() <= WALKED
+            || searches < FIRST_SEARCHES
+            || 2 * searches as usize <= pending.len())
+        && (by_height.len() <= walked_in_place(pending.len()) || have_moved(records, pending))
 }
 
-/// Whether any shelf that has changed isn't listed where its height puts it: a merge may have undone a split.
+/// How many are gone through although none has moved of late, where so many have changed: to make the list follow one split or
+/// merge is less work.
+fn walked_in_place(changed: usize) -> usize {
+    if changed <= CHANGED_BY_ONE {
+        WALKED_IN_PLACE
+    } else {
+        2 * WALKED_IN_PLACE
+    }
+}
+
+/// Whether one of the shelves that have changed last isn't listed where its height puts it: a merge may have undone a split.
 fn have_moved(records: &Records, pending: &PendingShelves) -> bool {
-    for index in 0..pending.len() {
+    for index in pending.len().saturating_sub(LAST_CHANGED)..pending.len() {
         if has_moved(records.shelves(), pending, pending.noted_at(index)) {
             return true;
         }
