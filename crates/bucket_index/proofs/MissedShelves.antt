@@ -1,5 +1,5 @@
 -- Where it is known that no shelf has a place for some sides: what a search finds then, and what stays known.
-use Rattle.std.proofs.Common.{◌≡◌, ℕ, ◌<◌, ◌≤◌, Bool, true, false, cond, Option, None, Some, List, map, length, refl, ap, sym, ◌∙◌, arith, ◌==◌}
+use Rattle.std.proofs.Common.{◌≡◌, ℕ, zero, suc, ◌<◌, ◌≤◌, Bool, true, false, cond, Option, None, Some, List, [], ◌∷◌, ◌++◌, map, length, refl, ap, sym, ◌∙◌, arith, ◌==◌}
 use Rattle.std.proofs.lemmas.Bool.Decides.{nat_tests}
 use Rattle.std.proofs.lemmas.Bool.{eqb-true}
 use Rattle.std.proofs.lemmas.Option.{slice_get-map}
@@ -12,50 +12,37 @@ use Rattle.etagere_links.proofs.RecordChanges.{get-changed_by, get-changed_by-ot
 use Rattle.bucketed_records.specs.declared.records.KeptShelf.{KeptShelf}
 use Rattle.bucketed_records.specs.declared.records.LinkedBucketShelf.{LinkedBucketShelf}
 use Rattle.bucket_index.specs.declared.missed.Missed.{Missed}
-use Rattle.bucket_index.specs.Private.Missed.{AreWithout, IsMissed, IsMissedBeside, IsMissedBy, IsMissedWhere, IsWithout}
+use Rattle.bucket_index.specs.declared.missed.TwoSizes.{TwoSizes}
+use Rattle.bucket_index.specs.Private.Missed.{AreMissedBy, AreWithout, IsMissed, IsMissedBeside, IsMissedBy, IsMissedWhere, IsWithout}
 use Rattle.bucket_index.specs.Private.Searching.{kept_waste}
 use Rattle.bucket_index.proofs.FoundShelves.{before-end}
+use Rattle.bucket_index.proofs.KnownBlocks.{AreSome}
 use Rattle.bucket_index.proofs.PassedShelves.{least-past}
 
--- a shelf that has no place has none either where those are left out that waste too much
-pub adding-none : (adds : Bool) (sides : Sides) (kept : KeptShelf) → IsWithout sides kept → kept_waste adds sides kept ≡ None
-adding-none adds sides kept none = by_tests (nat_le sides.across kept.shelf.height) (nat_le sides.along kept.shelf.bucket_width) (nat_le sides.along kept.widest_room) (adds && nat_lt sides.across (kept.shelf.height - sides.across)) none
-  where
-    wasted : ℕ
-    wasted = kept.shelf.height - sides.across
-
-    by_tests : (tall wide roomy wastes : Bool) → cond ((tall && (wide && true)) && roomy) (Some wasted) None ≡ None → cond ((tall && (wide && not wastes)) && roomy) (Some wasted) None ≡ None
-    by_tests false wide roomy wastes h = refl
-    by_tests true false roomy wastes h = refl
-    by_tests true true false true h = refl
-    by_tests true true false false h = refl
-    by_tests true true true true h = refl
-    by_tests true true true false h = absurd (cc)
-
 -- none is found where no shelf has a place
-pub none-found : (adds : Bool) (sides : Sides) (shelves : List KeptShelf) → AreWithout sides shelves → None ≡ first_least (map (kept_waste adds sides) shelves)
+pub none-found : (adds : Bool) (sides : Sides) (shelves : List KeptShelf) → AreWithout adds sides shelves → None ≡ first_least (map (kept_waste adds sides) shelves)
 none-found adds sides shelves without =
     before-end (kept_waste adds sides) shelves None (length shelves) (omega arith)
-    (least-past adds sides shelves None 0 (length shelves) refl (omega arith) (λ number kept low high there. adding-none adds sides kept (without number kept tt there)))
+    (least-past adds sides shelves None 0 (length shelves) refl (omega arith) (λ number kept low high there. without number kept tt there))
 
--- no shelf has a place where none is found, and none is left out that wastes too much
-pub all-without : (sides : Sides) (shelves : List KeptShelf) → first_least (map (kept_waste false sides) shelves) ≡ None → AreWithout sides shelves
-all-without sides shelves none number kept such there = by_waste (kept_waste false sides kept) refl
+-- no shelf has a place where none is found
+pub all-without : (adds : Bool) (sides : Sides) (shelves : List KeptShelf) → first_least (map (kept_waste adds sides) shelves) ≡ None → AreWithout adds sides shelves
+all-without adds sides shelves none number kept such there = by_waste (kept_waste adds sides kept) refl
   where
-    by_waste : (o : Option ℕ) → kept_waste false sides kept ≡ o → kept_waste false sides kept ≡ None
+    by_waste : (o : Option ℕ) → kept_waste adds sides kept ≡ o → kept_waste adds sides kept ≡ None
     by_waste None e = e
     by_waste (Some rank) e =
-        absurd (first_least-none (map (kept_waste false sides) shelves) none number rank (slice_get-map (kept_waste false sides) shelves number ∙ ap (option_map (kept_waste false sides)) there ∙ ap (λ (o : Option ℕ). Some o) e))
+        absurd (first_least-none (map (kept_waste adds sides) shelves) none number rank (slice_get-map (kept_waste adds sides) shelves number ∙ ap (option_map (kept_waste adds sides)) there ∙ ap (λ (o : Option ℕ). Some o) e))
 
 -- one number is not another
 apart : (k n : ℕ) → k ≡ n → (k == n) ≡ false → ⊥
 apart k n same h = grind arith
 
 -- a shelf that has no place has none with less room
-pub narrower-without : (sides : Sides) (one other : KeptShelf) → other.shelf ≡ one.shelf → other.widest_room ≤ one.widest_room → IsWithout sides one → IsWithout sides other
-narrower-without sides one other shelf less without =
-    ap (λ (s : LinkedBucketShelf). let kept : KeptShelf = record { shelf = s; live_items = other.live_items; widest_room = other.widest_room } in kept_waste false sides kept) shelf
-    ∙ by_tests (nat_le sides.across one.shelf.height && (nat_le sides.along one.shelf.bucket_width && true)) (nat_le sides.along one.widest_room) (nat_le sides.along other.widest_room) wider without
+pub narrower-without : (adds : Bool) (sides : Sides) (one other : KeptShelf) → other.shelf ≡ one.shelf → other.widest_room ≤ one.widest_room → IsWithout adds sides one → IsWithout adds sides other
+narrower-without adds sides one other shelf less without =
+    ap (λ (s : LinkedBucketShelf). let kept : KeptShelf = record { shelf = s; live_items = other.live_items; widest_room = other.widest_room } in kept_waste adds sides kept) shelf
+    ∙ by_tests (nat_le sides.across one.shelf.height && (nat_le sides.along one.shelf.bucket_width && not (adds && nat_lt sides.across (one.shelf.height - sides.across)))) (nat_le sides.along one.widest_room) (nat_le sides.along other.widest_room) wider without
   where
     wasted : ℕ
     wasted = one.shelf.height - sides.across
@@ -69,45 +56,93 @@ narrower-without sides one other shelf less without =
     by_tests true true true more h = absurd (cc)
     by_tests true false true more h = let wide = more refl in absurd (cc)
 
+-- what holds of a size holds of it where there may be none
+some-mapped : {P Q : Sides → Type 0} (o : Option Sides) → ((sides : Sides) → P sides → Q sides) → IfSome o P → IfSome o Q
+some-mapped None f h = h
+some-mapped (Some sides) f h = f sides h
+
 -- sides stay missed by shelves of such numbers where one changed that has no place for them where it had none
 pub missed-changed : (IsSuch : ℕ → Type 0) (shelf : ℕ) (change : KeptShelf → KeptShelf) (missed : Missed) (shelves : List KeptShelf)
-    → ((sides : Sides) (kept : KeptShelf) → 0 < sides.across → slice_get shelves shelf ≡ Some kept → IsWithout sides kept → IsWithout sides (change kept)) → IsMissedWhere IsSuch missed shelves
+    → ((sides : Sides) (kept : KeptShelf) → 0 < sides.across → slice_get shelves shelf ≡ Some kept → IsWithout missed.adds sides kept → IsWithout missed.adds sides (change kept)) → IsMissedWhere IsSuch missed shelves
     → IsMissedWhere IsSuch missed (changed_by (Some shelf) change shelves)
-missed-changed IsSuch shelf change missed shelves keeps is = by_sides missed.sides is
+missed-changed IsSuch shelf change missed shelves keeps is = by_sizes missed.sizes is
   where
-    changed : (sides : Sides) (number : ℕ) (kept : KeptShelf) → 0 < sides.across → ((one : KeptShelf) → slice_get shelves number ≡ Some one → IsWithout sides one)
-        → slice_get (changed_by (Some shelf) change shelves) number ≡ Some kept → IsWithout sides kept
+    changed : (sides : Sides) (number : ℕ) (kept : KeptShelf) → 0 < sides.across → ((one : KeptShelf) → slice_get shelves number ≡ Some one → IsWithout missed.adds sides one)
+        → slice_get (changed_by (Some shelf) change shelves) number ≡ Some kept → IsWithout missed.adds sides kept
     changed sides number kept some before there = by_number (number == shelf) refl
       where
-        own : number ≡ shelf → (o : Option KeptShelf) → slice_get shelves number ≡ o → option_map change o ≡ Some kept → IsWithout sides kept
+        own : number ≡ shelf → (o : Option KeptShelf) → slice_get shelves number ≡ o → option_map change o ≡ Some kept → IsWithout missed.adds sides kept
         own same None e h = absurd (cc)
         own same (Some one) e h =
             let is : change one ≡ kept = cc in
-            ap (kept_waste false sides) (sym is) ∙ keeps sides one some (ap (slice_get shelves) (sym same) ∙ e) (before one e)
+            ap (kept_waste missed.adds sides) (sym is) ∙ keeps sides one some (ap (slice_get shelves) (sym same) ∙ e) (before one e)
 
-        by_number : (t : Bool) → (number == shelf) ≡ t → IsWithout sides kept
+        by_number : (t : Bool) → (number == shelf) ≡ t → IsWithout missed.adds sides kept
         by_number true e =
             own (eqb-true number shelf e) (slice_get shelves number) refl
             (sym (get-changed_by change shelves (Some shelf) number (ap (λ (n : ℕ). Some n) (sym (eqb-true number shelf e)))) ∙ there)
         by_number false e =
             before kept (sym (get-changed_by-other change shelves (Some shelf) number (λ (h : Some shelf ≡ Some number). let same : number ≡ shelf = cc in absurd (apart number shelf same e))) ∙ there)
 
-    by_sides : (o : Option Sides) → IfSome o (λ sides. IsMissedBy IsSuch missed.except sides shelves) → IfSome o (λ sides. IsMissedBy IsSuch missed.except sides (changed_by (Some shelf) change shelves))
-    by_sides None h = h
-    by_sides (Some sides) h = record {
+    of_size : (sides : Sides) → IsMissedBy IsSuch missed.adds missed.except sides shelves → IsMissedBy IsSuch missed.adds missed.except sides (changed_by (Some shelf) change shelves)
+    of_size sides h = record {
       some = h.some;
       without = λ number kept such other there. changed sides number kept h.some (λ one at. h.without number one such other at) there;
     }
 
+    by_sizes : (o : Option TwoSizes) → IfSome o (λ sizes. AreMissedBy IsSuch missed.adds missed.except sizes shelves) → IfSome o (λ sizes. AreMissedBy IsSuch missed.adds missed.except sizes (changed_by (Some shelf) change shelves))
+    by_sizes None h = h
+    by_sizes (Some sizes) h = (of_size sizes.last h.0, some-mapped sizes.before of_size h.1)
+
 -- nothing is said of a shelf that changed
 pub missed-beside : (shelf : ℕ) (change : KeptShelf → KeptShelf) (missed : Missed) (shelves : List KeptShelf) → IsMissed missed shelves → IsMissedBeside shelf missed (changed_by (Some shelf) change shelves)
-missed-beside shelf change missed shelves is = by_sides missed.sides is
+missed-beside shelf change missed shelves is = by_sizes missed.sizes is
   where
-    by_sides : (o : Option Sides) → IfSome o (λ sides. IsMissedBy (λ number. Unit {0}) missed.except sides shelves)
-        → IfSome o (λ sides. IsMissedBy (λ number. number ≡ shelf → ⊥) missed.except sides (changed_by (Some shelf) change shelves))
-    by_sides None h = h
-    by_sides (Some sides) h = record {
+    of_size : (sides : Sides) → IsMissedBy (λ number. Unit {0}) missed.adds missed.except sides shelves → IsMissedBy (λ number. number ≡ shelf → ⊥) missed.adds missed.except sides (changed_by (Some shelf) change shelves)
+    of_size sides h = record {
       some = h.some;
       without = λ number kept such other there.
           h.without number kept tt other (sym (get-changed_by-other change shelves (Some shelf) number (λ (e : Some shelf ≡ Some number). let same : number ≡ shelf = cc in absurd (such same))) ∙ there);
     }
+
+    by_sizes : (o : Option TwoSizes) → IfSome o (λ sizes. AreMissedBy (λ number. Unit {0}) missed.adds missed.except sizes shelves)
+        → IfSome o (λ sizes. AreMissedBy (λ number. number ≡ shelf → ⊥) missed.adds missed.except sizes (changed_by (Some shelf) change shelves))
+    by_sizes None h = h
+    by_sizes (Some sizes) h = (of_size sizes.last h.0, some-mapped sizes.before of_size h.1)
+
+-- nothing is said of a shelf that was added
+pub missed-pushed : (one : KeptShelf) (missed : Missed) (shelves all : List KeptShelf) (pushes : Bool) → pushes ≡ true → all ≡ cond pushes (shelves ++ one ∷ []) shelves → IsMissed missed shelves
+    → IsMissedBeside (length shelves) missed all
+missed-pushed one missed shelves all pushes well pushed is = by_sizes missed.sizes is
+  where
+    read : (xs : List KeptShelf) (number : ℕ) (kept : KeptShelf) → (number ≡ length xs → ⊥) → slice_get (xs ++ one ∷ []) number ≡ Some kept → slice_get xs number ≡ Some kept
+    read [] zero kept other at = absurd (other refl)
+    read [] (suc number) kept other at = absurd (cc)
+    read (x ∷ xs) zero kept other at = at
+    read (x ∷ xs) (suc number) kept other at = read xs number kept (λ same. other (ap suc same)) at
+
+    added : all ≡ shelves ++ one ∷ []
+    added = pushed ∙ ap (λ (t : Bool). cond t (shelves ++ one ∷ []) shelves) well
+
+    of_size : (sides : Sides) → IsMissedBy (λ number. Unit {0}) missed.adds missed.except sides shelves → IsMissedBy (λ number. number ≡ length shelves → ⊥) missed.adds missed.except sides all
+    of_size sides h = record {
+      some = h.some;
+      without = λ number kept such other there. h.without number kept tt other (read shelves number kept such (ap (λ (xs : List KeptShelf). slice_get xs number) (sym added) ∙ there));
+    }
+
+    by_sizes : (o : Option TwoSizes) → IfSome o (λ sizes. AreMissedBy (λ number. Unit {0}) missed.adds missed.except sizes shelves)
+        → IfSome o (λ sizes. AreMissedBy (λ number. number ≡ length shelves → ⊥) missed.adds missed.except sizes all)
+    by_sizes None h = h
+    by_sizes (Some sizes) h = (of_size sizes.last h.0, some-mapped sizes.before of_size h.1)
+
+-- what is missed by shelves is missed by some of them
+pub missed-some : (one : ℕ) (missed : Missed) (all shelves : List KeptShelf) → AreSome all shelves → IsMissedBeside one missed all → IsMissedBeside one missed shelves
+missed-some one missed all shelves some is = by_sizes missed.sizes is
+  where
+    of_size : (sides : Sides) → IsMissedBy (λ number. number ≡ one → ⊥) missed.adds missed.except sides all → IsMissedBy (λ number. number ≡ one → ⊥) missed.adds missed.except sides shelves
+    of_size sides h = record { some = h.some; without = λ number kept such other there. h.without number kept such other (some number kept there) }
+
+    by_sizes : (o : Option TwoSizes) → IfSome o (λ sizes. AreMissedBy (λ number. number ≡ one → ⊥) missed.adds missed.except sizes all)
+        → IfSome o (λ sizes. AreMissedBy (λ number. number ≡ one → ⊥) missed.adds missed.except sizes shelves)
+    by_sizes None h = h
+    by_sizes (Some sizes) h = (of_size sizes.last h.0, some-mapped sizes.before of_size h.1)

@@ -356,7 +356,7 @@ pub(crate) fn waste_below(limit: u32, sides: &Sides, kept: &KeptShelf) -> Option
 }
 
 /// A shelf has to waste less height than this to be chosen, where this was found before it.
-fn limit_beside(adds: bool, sides: &Sides, best: &Option<FoundShelf>) -> u32
+pub(crate) fn limit_beside(adds: bool, sides: &Sides, best: &Option<FoundShelf>) -> u32
     ensures { result ≡ spec.limit_beside adds sides.now best.now }
 {
     let limit = if adds {
@@ -413,12 +413,12 @@ fn least_unless_missed(
     ensures within { IfSome result (λ least. least.number < length shelves.now) }
     ensures missed { IsMissed missed.new shelves.now }
 {
-    if missed.covers(sides, shelves) {
+    if missed.covers(adds, sides, shelves) {
         return None;
     }
     let best = least_by_blocks(adds, sides, shelves, blocks, heights);
     if best.is_none() {
-        missed.learn(adds, sides);
+        missed.learn(adds, sides, shelves);
     }
     best
 }

@@ -3,7 +3,7 @@
 //! A small block has 8 records, a middle one 8 small ones, and a large one 8 of those.
 //!
 //! Definitions: `Private/Spans`. Of a block nothing need be known; then a search looks at each record. Rows of a few
-//! buckets are never gone over for it.
+//! buckets are never gone over for it, and longer ones only once searches passed many of them.
 
 ghost use Rattle.std.specs.Prelude.{◌≡◌, ◌+◌, ◌<◌, ◌≤◌, IfSome, IsTrue, Some, List, length, max, true};
 ghost use Rattle.etagere_links.specs.Edits.{changed_by};
@@ -40,6 +40,10 @@ const MIDDLE: usize = 8;
 /// How many stand in a large one.
 const LARGE: usize = 64;
 
+/// Once searches passed so many records of long rows, as many as there can be, spans are worth what following each change
+/// takes.
+const ENOUGH_PASSED: u32 = MOST_BUCKETS;
+
 /// Records of one block through which the links lead, from the first one on.
 #[derive(Clone, Copy)]
 pub struct Span {
@@ -67,6 +71,8 @@ pub struct Others {
 #[derive(Clone, Copy)]
 pub struct Spans {
     pub are_learned: bool,
+    /// How many records of long rows searches passed of which nothing was known.
+    pub passed: u32,
     /// Those of the record that was widened last, so that it narrows again without a search.
     pub others: Others,
     pub small: [Span; MOST_SMALL],
@@ -422,6 +428,7 @@ impl Spans {
         let none = no_span();
         Spans {
             are_learned: true,
+            passed: 0,
             others: no_others(),
             small: [none; MOST_SMALL],
             middle: [none; MOST_MIDDLE],
@@ -654,8 +661,21 @@ impl Spans {
         }
     }
 
+    /// Knows spans of the records to which the links lead from this one on, of which a search passed so many, unless too few
+    /// were passed so far: where searches seldom go far, following each change would take more than they do.
+    pub fn learn_passed(&mut self, buckets: &[LinkedBucket], first: Link, passed: u32)
+        requires { spec.AreSpans self.old buckets.now }
+        ensures { spec.AreSpans self.new buckets.now }
+    {
+        self.passed = self.passed.saturating_add(passed);
+        if self.passed >= ENOUGH_PASSED {
+            self.learn(buckets, first);
+        }
+    }
+
     /// Knows spans of the records to which the links lead from this one on.
-    pub fn learn(&mut self, buckets: &[LinkedBucket], first: Link)
+    #[inline(never)]
+    fn learn(&mut self, buckets: &[LinkedBucket], first: Link)
         requires { spec.AreSpans self.old buckets.now }
         ensures { spec.AreSpans self.new buckets.now }
     {

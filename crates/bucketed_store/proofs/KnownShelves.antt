@@ -205,7 +205,7 @@ missed-merged group missed shelves is = by_test (group.others == 2)
 
     flat : (number : ℕ) (others : List KeptShelf) → Beside others → Beside (changed_by (Some number) (flattened across) others)
     flat number others =
-        missed-changed (λ n. n ≡ group.first → ⊥) number (flattened across) missed others (λ sides kept some there none. waste-flat false sides (flattened across kept) some)
+        missed-changed (λ n. n ≡ group.first → ⊥) number (flattened across) missed others (λ sides kept some there none. waste-flat missed.adds sides (flattened across kept) some)
 
     next : List KeptShelf
     next = changed_by (Some (group.first + 1)) (flattened across) (changed_by (Some group.first) (to_height height) shelves)

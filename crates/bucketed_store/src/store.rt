@@ -14,6 +14,7 @@ ghost use Rattle.bucketed_records.specs.Private.Store.{record_room, shelf_record
 ghost use Rattle.bucketed_records.specs.Restoring as restoring;
 ghost use Rattle.bucket_index.specs.Private.Blocks.{AreKnown};
 ghost use Rattle.bucket_index.specs.Private.Heights.{AreBelow};
+ghost use Rattle.bucket_index.specs.Private.Missed.{IsMissed};
 ghost use Rattle.bucket_index.specs.Private.Rest.{IsRest};
 ghost use Rattle.bucket_index.specs.Private.Rooms.{AreCounted};
 ghost use Rattle.bucket_index.specs.Private.Searching as searching;
@@ -237,6 +238,7 @@ impl Store {
                 &mut self.blocks,
                 &mut self.rooms,
                 &mut self.heights,
+                &mut self.missed,
                 filler,
             );
         }
@@ -249,10 +251,10 @@ impl Store {
             &mut self.blocks,
             &mut self.rooms,
             &mut self.heights,
+            &mut self.missed,
             &news.asked,
         );
         self.rest.forget();
-        self.missed.forget();
         Ok(())
     }
 
@@ -535,7 +537,7 @@ impl Store {
         );
         self.blocks.follow_dropped(&self.shelves, shelf);
         self.rest.forget();
-        self.missed.forget();
+        self.missed.follow(&self.shelves, shelf);
         forget_where_none(&self.shelves, &mut self.spans, &mut self.heights);
         Returned {
             area,
@@ -751,12 +753,14 @@ fn add_shelf(
     blocks: &mut Blocks,
     rooms: &mut Rooms,
     heights: &mut Heights,
+    missed: &mut Missed,
     new: &NewShelf,
 )
     requires known { AreKnown blocks.old shelves.old.items }
     requires spans { AreSpans spans.old buckets.old.items }
     requires rooms { AreCounted rooms.old buckets.old.items }
     requires below { AreBelow heights.old shelves.old.items }
+    requires missed { IsMissed missed.old shelves.old.items }
     requires frame { IsBucketedFrame frame.now }
     requires new { spec.IsNewShelf frame.now new.now }
     requires short { spec.IsShort frame.now shelves.old.items }
@@ -800,12 +804,14 @@ fn add_shelf(
     ensures spans { AreSpans spans.new buckets.new.items }
     ensures rooms { AreCounted rooms.new buckets.new.items }
     ensures below { AreBelow heights.new shelves.new.items }
+    ensures missed { IsMissed missed.new shelves.new.items }
 {
+    let number = shelves.len();
     let width = width_of_share(frame, new.count) as u16;
     let x = (new.column * frame.column_width) as u16;
     let y = next_across(shelves, x);
     let row = NewBuckets {
-        shelf: shelves.len() as u16,
+        shelf: number as u16,
         width,
         x,
     };
@@ -829,6 +835,7 @@ fn add_shelf(
         .unwrap();
     blocks.add_last(shelves);
     heights.add_last(shelves);
+    missed.follow(shelves, number);
 }
 
 /// Returns the only live item of a shelf to the bucket of a number, and has spans and rooms follow where they are known.
@@ -947,14 +954,54 @@ fn place_at(buckets: &[LinkedBucket], number: usize) -> u32
     }
 }
 
-/// Whether a search along the buckets of a shelf goes far over buckets of which nothing is known: up to
-/// the one that was found, or up to the end where the shelf may not keep its widest bucket.
-fn goes_far(
+/// A shelf with more buckets is long.
+const LONG: u32 = 127;
+
+/// A search along a long shelf goes far if it passes more buckets.
+const FAR: u32 = 96;
+
+/// Of a shelf with more buckets spans are learned even while it is filled.
+const LONGEST: u32 = 256;
+
+/// How many buckets this wide lie between two places.
+fn buckets_between(from: u32, to: u32, width: u16) -> u32 {
+    if width == 0 {
+        return 0;
+    }
+    to.saturating_sub(from) / u32::from(width)
+}
+
+/// How many buckets of which nothing is known a search along those of a shelf passed, where it went far: up to the one that
+/// was found, or up to the end where the shelf may not keep its widest bucket.
+fn passed_far(
     shelves: &[KeptShelf],
     buckets: &[LinkedBucket],
     spans: &Spans,
     found: &FoundBucket,
     keeps: bool,
+) -> Option<u32>
+    requires { found.now.shelf < length shelves.now }
+{
+    let shelf = &shelves[found.shelf].shelf;
+    let first = shelf.first_bucket.number()?;
+    let end = if keeps {
+        place_at(buckets, found.bucket)
+    } else {
+        u32::from(shelf.x)
+    };
+    let passed = buckets_between(end, place_at(buckets, first), shelf.bucket_width);
+    if passed <= FAR || spans.knows(shelf.first_bucket) && spans.knows_block(found.bucket) {
+        return None;
+    }
+    Some(passed)
+}
+
+/// Whether spans of a shelf may serve: items come back to it, or it has very many buckets.
+fn may_serve(
+    shelves: &[KeptShelf],
+    buckets: &[LinkedBucket],
+    rest: &Rest,
+    found: &FoundBucket,
 ) -> bool
     requires { found.now.shelf < length shelves.now }
 {
@@ -963,27 +1010,37 @@ fn goes_far(
         return false;
     };
     let begin = place_at(buckets, first);
-    (!keeps || is_far(place_at(buckets, found.bucket), begin, shelf.bucket_width))
-        && !(spans.knows(shelf.first_bucket) && spans.knows_block(found.bucket))
-        && is_far(u32::from(shelf.x), begin, shelf.bucket_width)
+    rest.first.bits() == shelf.first_bucket.bits()
+        || LONGEST <= buckets_between(u32::from(shelf.x), begin, shelf.bucket_width)
 }
 
-/// A shelf with more buckets is long.
-const LONG: u32 = 256;
-
-/// Beyond so many buckets of a long shelf a search is worth spans.
-const FAR: u32 = 192;
-
-/// Whether more buckets this wide than a search is worth lie between two places.
-fn is_far(from: u32, to: u32, width: u16) -> bool {
-    u32::from(width) < to.saturating_sub(from) / FAR
+/// Learns spans of the buckets of a shelf along which a search passed so many, where searches go far often enough. It is
+/// seldom called.
+#[inline(never)]
+fn learn_passed(
+    shelves: &[KeptShelf],
+    buckets: &[LinkedBucket],
+    spans: &mut Spans,
+    rest: &Rest,
+    found: &FoundBucket,
+    passed: u32,
+)
+    requires shelf { found.now.shelf < length shelves.now }
+    requires spans { AreSpans spans.old buckets.now }
+    ensures { AreSpans spans.new buckets.now }
+{
+    if may_serve(shelves, buckets, rest, found) {
+        spans.learn_passed(buckets, first_bucket(shelves, found.shelf), passed);
+    }
 }
 
-/// Learns spans of the buckets of a shelf, where a search along them goes far.
+/// The same after a search that passed many, where a shelf may be long.
+#[inline(always)]
 fn learn_row(
     shelves: &[KeptShelf],
     buckets: &[LinkedBucket],
     spans: &mut Spans,
+    rest: &Rest,
     found: &FoundBucket,
     keeps: bool,
     may_be_long: bool,
@@ -992,8 +1049,11 @@ fn learn_row(
     requires spans { AreSpans spans.old buckets.now }
     ensures { AreSpans spans.new buckets.now }
 {
-    if may_be_long && goes_far(shelves, buckets, spans, found, keeps) {
-        spans.learn(buckets, first_bucket(shelves, found.shelf));
+    if !may_be_long {
+        return;
+    }
+    if let Some(passed) = passed_far(shelves, buckets, spans, found, keeps) {
+        learn_passed(shelves, buckets, spans, rest, found, passed);
     }
 }
 
@@ -1146,7 +1206,7 @@ fn give_from(
         }
     }
     let keeps = keeps_widest(shelves, buckets, spans, found, room);
-    learn_row(shelves, buckets, spans, found, keeps, may_be_long);
+    learn_row(shelves, buckets, spans, rest, found, keeps, may_be_long);
     let widest = widest_after(shelves, buckets, spans, rest, found, keeps);
     count_given(shelves, found.shelf, widest);
 }

@@ -1,35 +1,53 @@
 -- What is known of sides for which no shelf has a place.
-use Rattle.std.specs.Prelude.{ℕ, ◌≡◌, ◌<◌, false, None, Some, IfSome, List, slice_get}
+use Rattle.std.specs.Prelude.{ℕ, ◌≡◌, ◌<◌, Bool, None, Some, IfSome, List, slice_get}
 use Rattle.etagere_base.specs.declared.sides.Sides.{Sides}
 use Rattle.bucketed_records.specs.declared.records.KeptShelf.{KeptShelf}
 use Rattle.bucket_index.specs.declared.missed.Missed.{Missed}
+use Rattle.bucket_index.specs.declared.missed.TwoSizes.{TwoSizes}
 use Rattle.bucket_index.specs.Private.Searching.{kept_waste}
 
--- a shelf has no place for these sides, however much that may waste
-abbrev pub IsWithout : Sides → KeptShelf → Type 0
-IsWithout sides kept = kept_waste false sides kept ≡ None
+-- a shelf has no place for these sides, or wastes too much where shelves can be added
+abbrev pub IsWithout : Bool → Sides → KeptShelf → Type 0
+IsWithout adds sides kept = kept_waste adds sides kept ≡ None
 
 -- none of the shelves of such a number has a place for these sides
-abbrev pub AreWithoutWhere : (ℕ → Type 0) → Sides → List KeptShelf → Type 0
-AreWithoutWhere IsSuch sides shelves =
+abbrev pub AreWithoutWhere : (ℕ → Type 0) → Bool → Sides → List KeptShelf → Type 0
+AreWithoutWhere IsSuch adds sides shelves =
     (number : ℕ) (kept : KeptShelf) → IsSuch number → slice_get shelves number ≡ Some kept
-    → IsWithout sides kept
+    → IsWithout adds sides kept
 
 -- the same of each shelf
-abbrev pub AreWithout : Sides → List KeptShelf → Type 0
+abbrev pub AreWithout : Bool → Sides → List KeptShelf → Type 0
 AreWithout = AreWithoutWhere (λ number. Unit {0})
 
 -- none of the shelves of such a number has a place for the sides that were missed, but for the one
 -- of which nothing is said
-pub record IsMissedBy (IsSuch : ℕ → Type 0) (except : ℕ) (sides : Sides) (shelves : List KeptShelf) : Type 0 where
+pub record IsMissedBy (IsSuch : ℕ → Type 0) (adds : Bool) (except : ℕ) (sides : Sides) (shelves : List KeptShelf) : Type 0 where
   pub some : 0 < sides.across
   pub without : (number : ℕ) (kept : KeptShelf) → IsSuch number → (number ≡ except → ⊥)
-      → slice_get shelves number ≡ Some kept → IsWithout sides kept
+      → slice_get shelves number ≡ Some kept → IsWithout adds sides kept
 
--- the same where sides were missed
+-- the same of all but that one
+abbrev pub IsMissedSize : Bool → ℕ → Sides → List KeptShelf → Type 0
+IsMissedSize = IsMissedBy (λ number. Unit {0})
+
+-- the same of both sizes that were missed
+abbrev pub AreMissedBy : (ℕ → Type 0) → Bool → ℕ → TwoSizes → List KeptShelf → Type 0
+AreMissedBy IsSuch adds except sizes shelves =
+    IsMissedBy IsSuch adds except sizes.last shelves
+    × IfSome sizes.before (λ before. IsMissedBy IsSuch adds except before shelves)
+
+-- the same of all but that one, and beside one more
+abbrev pub AreMissed : Bool → ℕ → TwoSizes → List KeptShelf → Type 0
+AreMissed = AreMissedBy (λ number. Unit {0})
+
+abbrev pub AreMissedBeside : ℕ → Bool → ℕ → TwoSizes → List KeptShelf → Type 0
+AreMissedBeside one = AreMissedBy (λ number. number ≡ one → ⊥)
+
+-- the same where sizes were missed
 abbrev pub IsMissedWhere : (ℕ → Type 0) → Missed → List KeptShelf → Type 0
 IsMissedWhere IsSuch missed shelves =
-    IfSome missed.sides (λ sides. IsMissedBy IsSuch missed.except sides shelves)
+    IfSome missed.sizes (λ sizes. AreMissedBy IsSuch missed.adds missed.except sizes shelves)
 
 -- the same of each shelf
 abbrev pub IsMissed : Missed → List KeptShelf → Type 0

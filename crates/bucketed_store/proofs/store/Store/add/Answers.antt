@@ -77,7 +77,7 @@ add_shelf-requires-2-clause-spans c =
     ]
 
 pub invariant_of-self-2 : goal.invariant_of-self-2
-invariant_of-self-2 c = (c.add_shelf-2.ensures.known, c.add_shelf-2.ensures.spans, c.forget.ensures _, c.add_shelf-2.ensures.rooms, c.add_shelf-2.ensures.below, c.forget-2.ensures _)
+invariant_of-self-2 c = (c.add_shelf-2.ensures.known, c.add_shelf-2.ensures.spans, c.forget.ensures _, c.add_shelf-2.ensures.rooms, c.add_shelf-2.ensures.below, c.add_shelf-2.ensures.missed)
 
 pub add_shelf-requires-clause-below : goal.add_shelf-requires-clause-below
 add_shelf-requires-clause-below c = subst (AreBelow c.self.inside.heights) (sym c.reserve.ensures.items) c.self.invariant.4
@@ -97,4 +97,14 @@ add_shelf-requires-2-clause-rooms c =
     elim c.match-news.branch [
       | in-Some w ↦ subst (λ (inside : Inside). AreCounted inside.rooms inside.buckets.items) (sym w.self-inside-is) w.add_shelf.ensures.rooms
       | in_default w ↦ subst (λ (inside : Inside). AreCounted inside.rooms inside.buckets.items) (sym w.self-inside-is) (subst (AreCounted c.self.inside.rooms) (sym c.in_ok-reserve_records.ensures.same) c.self.invariant.3)
+    ]
+
+pub add_shelf-requires-clause-missed : goal.add_shelf-requires-clause-missed
+add_shelf-requires-clause-missed c = subst (IsMissed c.self.inside.missed) (sym c.reserve.ensures.items) c.self.invariant.5
+
+pub add_shelf-requires-2-clause-missed : goal.add_shelf-requires-2-clause-missed
+add_shelf-requires-2-clause-missed c =
+    elim c.match-news.branch [
+      | in-Some w ↦ subst (λ (inside : Inside). IsMissed inside.missed inside.shelves.items) (sym w.self-inside-is) w.add_shelf.ensures.missed
+      | in_default w ↦ subst (λ (inside : Inside). IsMissed inside.missed inside.shelves.items) (sym w.self-inside-is) (subst (IsMissed c.self.inside.missed) (sym c.reserve.ensures.items) c.self.invariant.5)
     ]

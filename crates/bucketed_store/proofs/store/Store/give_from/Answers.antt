@@ -108,7 +108,7 @@ invariant_of-self c =
       subst (AreBelow inside.heights) (sym (items ∙ given))
           (below-kept shelf (given_from (widest_from most_buckets inside.buckets.items (first_bucket_of inside.shelves.items shelf))) inside.heights inside.shelves.items (λ x _. refl) c.self.invariant.4),
       subst (IsMissed inside.missed) (sym (items ∙ given))
-          (missed-changed (λ number. Unit {0}) shelf (given_from (widest_from most_buckets inside.buckets.items (first_bucket_of inside.shelves.items shelf))) inside.missed inside.shelves.items (λ sides kept some there none. narrower-without sides kept (given_from (widest_from most_buckets inside.buckets.items (first_bucket_of inside.shelves.items shelf)) kept) refl (less kept there) none) c.self.invariant.5),
+          (missed-changed (λ number. Unit {0}) shelf (given_from (widest_from most_buckets inside.buckets.items (first_bucket_of inside.shelves.items shelf))) inside.missed inside.shelves.items (λ sides kept some there none. narrower-without inside.missed.adds sides kept (given_from (widest_from most_buckets inside.buckets.items (first_bucket_of inside.shelves.items shelf)) kept) refl (less kept there) none) c.self.invariant.5),
     )
 
 pub give_from-requires-clause-bucket : goal.give_from-requires-clause-bucket

@@ -51,5 +51,5 @@ invariant_of-self c =
           (counted-same inside.rooms inside.buckets.items (changed_by (Some number) lessened_record inside.buckets.items) c.self.invariant.3 (λ slot. tally-kept slot number lessened_record inside.buckets.items (λ b. refl))),
       subst (AreBelow inside.heights) (sym shelves) (below-kept shelf change inside.heights inside.shelves.items (λ x _. refl) c.self.invariant.4),
       subst (IsMissed inside.missed) (sym shelves)
-          (missed-changed (λ n. Unit {0}) shelf change inside.missed inside.shelves.items (λ sides kept some there none. narrower-without sides kept (change kept) refl (omega arith) none) c.self.invariant.5),
+          (missed-changed (λ n. Unit {0}) shelf change inside.missed inside.shelves.items (λ sides kept some there none. narrower-without inside.missed.adds sides kept (change kept) refl (omega arith) none) c.self.invariant.5),
     )

@@ -19,7 +19,7 @@ use Rattle.bucket_index.proofs.TallestShelves.{below-kept, below-some}
 use Rattle.bucketed_model.specs.State.{most_buckets}
 use Rattle.bucket_index.specs.Private.Searching.{widest_from}
 use Rattle.bucket_index.specs.Private.Spans.{AreSpans, AreSpansExcept}
-use Rattle.bucket_index.proofs.MissedShelves.{missed-beside}
+use Rattle.bucket_index.proofs.MissedShelves.{missed-beside, missed-some}
 use Rattle.bucket_index.proofs.RestOfRows.{known-beside}
 use Rattle.bucket_index.proofs.KnownBlocks.{AreSome, followed-stays, known-at, known-others}
 use Rattle.bucket_index.proofs.KnownSpans.{spans-changed-room}
@@ -200,6 +200,31 @@ follow_dropped-requires c =
     subst (AreOthersKnown c.shelf_number-shelf.result inside.blocks) (sym c.deref-10.ensures.value)
     (others-some c.shelf_number-shelf.result inside.blocks (with_items inside.shelves c.return_item.new.shelves).items c.drop_idle_end-dropped.new.shelves.items some known)
 
+pub follow-requires-2 : goal.follow-requires-2
+follow-requires-2 c =
+    let inside = c.self.inside in
+    let number = c.args.number in
+    let shelf : c.shelf_number-shelf.result ≡ shelf_of inside.buckets.items number =
+    c.shelf_number-shelf.ensures ∙ ap (λ (bs : List LinkedBucket). shelf_of bs number) c.deref-5.ensures.value in
+    let change = returned_kept (nat_le (live_of inside.buckets.items number) 1) in
+    let items : (with_items inside.shelves c.return_item.new.shelves).items ≡ c.return_item.new.shelves =
+    with_items_is inside.shelves c.return_item.new.shelves (omega (arith, c.return_item.auto.shelves, c.deref_mut.ensures.len)) in
+    let returned : c.return_item.new.shelves ≡ changed_by (Some c.shelf_number-shelf.result) change inside.shelves.items =
+    c.return_item.ensures.shelves
+    ∙ ap (λ (bs : List LinkedBucket). changed_by (Some (shelf_of bs number)) (returned_kept (nat_le (live_of bs number) 1)) c.deref_mut.result.now) c.deref_mut-2.ensures.value
+    ∙ ap (λ (xs : List KeptShelf). changed_by (Some (shelf_of inside.buckets.items number)) change xs) c.deref_mut.ensures.value
+    ∙ ap (λ (n : ℕ). changed_by (Some n) change inside.shelves.items) (sym shelf) in
+    let left = ap (λ (done : Dropping). done.stored.shelves) c.drop_idle_end-dropped.ensures.dropped in
+    let some : AreSome (with_items inside.shelves c.return_item.new.shelves).items c.drop_idle_end-dropped.new.shelves.items =
+    subst (AreSome (with_items inside.shelves c.return_item.new.shelves).items) (sym left)
+    (some-dropped (vec_len (with_items inside.shelves c.return_item.new.shelves))
+    (dropping_of (with_items inside.shelves c.return_item.new.shelves).items c.deref_mut-3.result.now inside.unused 0)) in
+    let missed : IsMissedBeside c.shelf_number-shelf.result inside.missed (with_items inside.shelves c.return_item.new.shelves).items =
+    subst (IsMissedBeside c.shelf_number-shelf.result inside.missed) (sym (items ∙ returned))
+    (missed-beside c.shelf_number-shelf.result change inside.missed inside.shelves.items c.self.invariant.5) in
+    subst (IsMissedBeside c.shelf_number-shelf.result inside.missed) (sym c.deref-11.ensures.value)
+    (missed-some c.shelf_number-shelf.result inside.missed (with_items inside.shelves c.return_item.new.shelves).items c.drop_idle_end-dropped.new.shelves.items some missed)
+
 pub invariant_of-self-2 : goal.invariant_of-self-2
 invariant_of-self-2 c =
     let inside = c.self.inside in
@@ -240,7 +265,7 @@ invariant_of-self-2 c =
           (below-some inside.heights (with_items inside.shelves c.return_item.new.shelves).items c.drop_idle_end-dropped.new.shelves.items
           (subst (AreSome (with_items inside.shelves c.return_item.new.shelves).items) (sym (ap (λ (done : Dropping). done.stored.shelves) c.drop_idle_end-dropped.ensures.dropped))
           (some-dropped (vec_len (with_items inside.shelves c.return_item.new.shelves)) (dropping_of (with_items inside.shelves c.return_item.new.shelves).items c.deref_mut-3.result.now inside.unused 0))) below),
-      c.forget-2.ensures _,
+      subst (IsMissed c.follow-2.new.self) c.deref-11.ensures.value c.follow-2.ensures,
     )
 
 -- nothing is dropped where the last shelf holds something
