@@ -198,6 +198,14 @@ def last_low_ones(shelves):
     return make
 
 
+def low_and_tall(_program):
+    """An item in an atlas whose 41 shelves have no room, are too low, or too tall: its shelf is added and dropped."""
+    filling = ["bucketed 102 4080 1 1 1 h"]
+    filling += [f"a 102 {32 if shelf % 16 == 8 else 8}" for shelf in range(41)]
+    filling += [f"r {shelf}" for shelf in range(41) if shelf % 16 != 8]
+    return filling, comes_and_goes(len(filling) - 1, "a 2 32")
+
+
 def shelves_too_tall(_program):
     """3000 items for which all shelves are too tall, so that each adds one."""
     return ["bucketed 61 32760 2 2 1 h"], ["a 23 1"] * 3000
@@ -245,6 +253,7 @@ ROWS = {
     # Counted likewise, as the next ones.
     "3000 shelves that are too low: the same item comes and goes": Row(too_low, 10673, most=MOST),
     "44 shelves that are too tall: eight more come and go": Row(last_low_ones(44), 551, before=690),
+    "41 low or full shelves: an item comes, and its shelf goes with it": Row(low_and_tall, 436, before=668),
     "3000 items that add a shelf each, since all are too tall": Row(shelves_too_tall, 24337, before=17944, most=MOST),
     "4000 empty shelves: a narrower item comes and goes": Row(empty_shelves, 94132, before=88714, most=MOST),
     "4094 empty shelves: each item has two of them merged": Row(merges, 154910, before=118894, most=MOST),

@@ -121,6 +121,34 @@ def same_in_columns(_program):
     return ["atlas 336 410 3 8 30 h"], comes_and_goes(0, "a 2 1")
 
 
+def bad_fits(heights, columns):
+    """Shelves with room of so many heights in each of some columns, and an item that comes and goes, for which all are too
+    tall.
+    """
+
+    def make(_program):
+        steps = [*range(32, 128, 16), *range(128, 512, 32), *range(512, 4096, 64)][:heights]
+        filling = [f"atlas {130 * columns} {sum(steps)} 1 1 {columns} h"]
+        filling += [f"a 100 {height}" for height in steps] * columns
+        return filling, comes_and_goes(len(filling) - 1, "a 20 8")
+
+    return make
+
+
+def columns_split(columns, splits):
+    """Empty columns, so many of which are split by an item each, and merge again."""
+
+    def make(_program):
+        later = []
+        for _ in range(ROUNDS // splits):
+            first = len(later)
+            later += ["a 64 40"] * splits
+            later += [f"r {first + split}" for split in range(splits)]
+        return [f"atlas {64 * columns} 64 1 1 {columns} h"], later
+
+    return make
+
+
 def beside_low_ones(_program):
     """Low items of which every other went, an empty shelf that splits and merges, and a size that is refused each time."""
     filling = ["atlas 660 151 1 1 1 h"] + ["a 11 9"] * 240 + [f"r {position}" for position in range(0, 240, 2)]
@@ -240,6 +268,8 @@ ROWS = {
     "the same item beside another": Row(same_item(1), 208, before=301),
     # Counted with plain geometry types, as the next two.
     "30 columns, the same item": Row(same_in_columns, 488),
+    "25 columns, of which four split and merge": Row(columns_split(25, 4), 440, before=586),
+    "two columns with shelves of 30 heights: a bad fit": Row(bad_fits(30, 2), 713, before=2469),
     "low items of which half went, beside a shelf that splits and merges": Row(beside_low_ones, 304),
     "9 low shelves with two narrow gaps each, beside one that splits and merges": Row(
         beside_gaps(9, 2), 418, before=683
