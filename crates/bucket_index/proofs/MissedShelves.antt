@@ -1,38 +1,73 @@
 -- Where it is known that no shelf has a place for some sides: what a search finds then, and what stays known.
-use Rattle.std.proofs.Common.{◌≡◌, ℕ, zero, suc, ◌<◌, ◌≤◌, Bool, true, false, cond, Option, None, Some, List, [], ◌∷◌, ◌++◌, map, length, refl, ap, sym, ◌∙◌, arith, ◌==◌}
+use Rattle.std.proofs.Common.{◌≡◌, ℕ, zero, suc, ◌<◌, ◌≤◌, Bool, true, false, cond, Option, None, Some, List, [], ◌∷◌, ◌++◌, get_or, map, take, length, refl, ap, sym, ◌∙◌, arith, ◌==◌}
 use Rattle.std.proofs.lemmas.Bool.Decides.{nat_tests}
 use Rattle.std.proofs.lemmas.Bool.{eqb-true}
-use Rattle.std.proofs.lemmas.Option.{slice_get-map}
-use Rattle.std.specs.Prelude.{IfSome, nat_le, nat_lt, not, option_map, slice_get, ◌&&◌, ◌-◌}
+use Rattle.std.proofs.lemmas.List.{take_all}
+use Rattle.std.proofs.lemmas.Option.{get_or_from_slice_get, slice_get-map, slice_get_within}
+use Rattle.std.specs.Prelude.{IfSome, is_some, nat_le, nat_lt, not, option_map, slice_get, ◌&&◌, ◌-◌}
 use Rattle.etagere_base.specs.declared.sides.Sides.{Sides}
-use Rattle.etagere_base.specs.Least.{first_least}
-use Rattle.etagere_base.proofs.Least.{first_least-none}
+use Rattle.etagere_base.specs.Least.{Found, better, first_least}
+use Rattle.etagere_base.proofs.Least.{best-more, first_least-none}
 use Rattle.etagere_links.specs.Edits.{changed_by}
 use Rattle.etagere_links.proofs.RecordChanges.{get-changed_by, get-changed_by-other}
 use Rattle.bucketed_records.specs.declared.records.KeptShelf.{KeptShelf}
 use Rattle.bucketed_records.specs.declared.records.LinkedBucketShelf.{LinkedBucketShelf}
 use Rattle.bucket_index.specs.declared.missed.Missed.{Missed}
 use Rattle.bucket_index.specs.declared.missed.TwoSizes.{TwoSizes}
-use Rattle.bucket_index.specs.Private.Missed.{AreMissedBy, AreWithout, IsMissed, IsMissedBeside, IsMissedBy, IsMissedWhere, IsWithout}
+use Rattle.bucket_index.specs.Private.Missed.{AreMissed, AreMissedBy, AreWithoutBefore, AreWithoutBut, IsMissed, IsMissedBeside, IsMissedBy, IsMissedSize, IsMissedWhere, IsWithout}
 use Rattle.bucket_index.specs.Private.Searching.{kept_waste}
-use Rattle.bucket_index.proofs.FoundShelves.{before-end}
 use Rattle.bucket_index.proofs.KnownBlocks.{AreSome}
+use Rattle.bucket_index.proofs.LimitedWaste.{at_rank}
 use Rattle.bucket_index.proofs.PassedShelves.{least-past}
 
--- none is found where no shelf has a place
-pub none-found : (adds : Bool) (sides : Sides) (shelves : List KeptShelf) → AreWithout adds sides shelves → None ≡ first_least (map (kept_waste adds sides) shelves)
-none-found adds sides shelves without =
-    before-end (kept_waste adds sides) shelves None (length shelves) (omega arith)
-    (least-past adds sides shelves None 0 (length shelves) refl (omega arith) (λ number kept low high there. without number kept tt there))
+-- nothing is there that isn't some
+pub none-is : {A : Type 0} (o : Option A) → is_some o ≡ false → o ≡ None
+none-is None h = refl
+none-is (Some x) h = absurd (cc)
 
--- no shelf has a place where none is found
-pub all-without : (adds : Bool) (sides : Sides) (shelves : List KeptShelf) → first_least (map (kept_waste adds sides) shelves) ≡ None → AreWithout adds sides shelves
-all-without adds sides shelves none number kept such there = by_waste (kept_waste adds sides kept) refl
+-- a shelf before a number is among the first
+get-take : (xs : List KeptShelf) (n k : ℕ) → k < n → slice_get (take n xs) k ≡ slice_get xs k
+get-take xs zero k low = absurd (omega (arith, low))
+get-take [] (suc n) k low = refl
+get-take (x ∷ xs) (suc n) zero low = refl
+get-take (x ∷ xs) (suc n) (suc k) low = get-take xs n k (omega (arith, low))
+
+-- no shelf before a number has a place where none is found there
+pub none-before : (adds : Bool) (sides : Sides) (shelves : List KeptShelf) (tail : ℕ) → None ≡ first_least (map (kept_waste adds sides) (take tail shelves)) → AreWithoutBefore tail adds sides shelves
+none-before adds sides shelves tail none number kept low there = by_waste (kept_waste adds sides kept) refl
   where
     by_waste : (o : Option ℕ) → kept_waste adds sides kept ≡ o → kept_waste adds sides kept ≡ None
     by_waste None e = e
     by_waste (Some rank) e =
-        absurd (first_least-none (map (kept_waste adds sides) shelves) none number rank (slice_get-map (kept_waste adds sides) shelves number ∙ ap (option_map (kept_waste adds sides)) there ∙ ap (λ (o : Option ℕ). Some o) e))
+        absurd (first_least-none (map (kept_waste adds sides) (take tail shelves)) (sym none) number rank
+        (slice_get-map (kept_waste adds sides) (take tail shelves) number ∙ ap (option_map (kept_waste adds sides)) (get-take shelves tail number low ∙ there) ∙ ap (λ (o : Option ℕ). Some o) e))
+
+-- where no shelf has a place, none before any number has
+pub all-without : (adds : Bool) (sides : Sides) (shelves : List KeptShelf) (tail : ℕ) → None ≡ first_least (map (kept_waste adds sides) shelves) → AreWithoutBefore tail adds sides shelves
+all-without adds sides shelves tail none number kept low there =
+    none-before adds sides shelves (length shelves) (none ∙ ap (λ (xs : List KeptShelf). first_least (map (kept_waste adds sides) xs)) (sym (take_all (length shelves) shelves (omega arith))))
+    number kept (slice_get_within shelves number kept there) there
+
+-- what the only shelf with a place wastes is the best before a number
+pub alone-best : (adds : Bool) (sides : Sides) (shelves : List KeptShelf) (one tail : ℕ) (kept : KeptShelf) → slice_get shelves one ≡ Some kept → one < tail → AreWithoutBut one tail adds sides shelves
+    → option_map (at_rank one) (kept_waste adds sides kept) ≡ first_least (map (kept_waste adds sides) (take tail shelves))
+alone-best adds sides shelves one tail kept there low without =
+    let rank = kept_waste adds sides in
+    let nothing : None ≡ first_least (map rank (take one shelves)) =
+    least-past adds sides shelves None 0 one refl (omega arith) (λ number other from below at. without number other (omega (arith, low, below)) (λ same. omega (arith, same, below)) at) in
+    let within : one < length shelves = slice_get_within shelves one kept there in
+    let read : get_or shelves one kept ≡ kept = get_or_from_slice_get shelves one kept kept there in
+    let here : option_map (at_rank one) (rank kept) ≡ first_least (map rank (take (suc one) shelves)) =
+    ap (λ (o : Option Found). better o (option_map (at_rank one) (rank kept))) nothing
+    ∙ ap (λ (x : KeptShelf). better (first_least (map rank (take one shelves))) (option_map (at_rank one) (rank x))) (sym read)
+    ∙ sym (best-more rank shelves one kept within) in
+    least-past adds sides shelves (option_map (at_rank one) (rank kept)) (suc one) tail here (omega (arith, low))
+    (λ number other from below at. without number other below (λ same. omega (arith, same, from)) at)
+
+-- nothing is found before a number where no shelf has a place there
+pub nothing-before : (adds : Bool) (sides : Sides) (shelves : List KeptShelf) (one tail : ℕ) → tail ≤ one → AreWithoutBut one tail adds sides shelves → None ≡ first_least (map (kept_waste adds sides) (take tail shelves))
+nothing-before adds sides shelves one tail past without =
+    least-past adds sides shelves None 0 tail refl (omega arith) (λ number other from below at. without number other below (λ same. omega (arith, same, below, past)) at)
 
 -- one number is not another
 apart : (k n : ℕ) → k ≡ n → (k == n) ≡ false → ⊥
@@ -84,13 +119,13 @@ missed-changed IsSuch shelf change missed shelves keeps is = by_sizes missed.siz
         by_number false e =
             before kept (sym (get-changed_by-other change shelves (Some shelf) number (λ (h : Some shelf ≡ Some number). let same : number ≡ shelf = cc in absurd (apart number shelf same e))) ∙ there)
 
-    of_size : (sides : Sides) → IsMissedBy IsSuch missed.adds missed.except sides shelves → IsMissedBy IsSuch missed.adds missed.except sides (changed_by (Some shelf) change shelves)
+    of_size : (sides : Sides) → IsMissedBy IsSuch missed.adds missed.except missed.tail sides shelves → IsMissedBy IsSuch missed.adds missed.except missed.tail sides (changed_by (Some shelf) change shelves)
     of_size sides h = record {
       some = h.some;
-      without = λ number kept such other there. changed sides number kept h.some (λ one at. h.without number one such other at) there;
+      without = λ number kept such low other there. changed sides number kept h.some (λ one at. h.without number one such low other at) there;
     }
 
-    by_sizes : (o : Option TwoSizes) → IfSome o (λ sizes. AreMissedBy IsSuch missed.adds missed.except sizes shelves) → IfSome o (λ sizes. AreMissedBy IsSuch missed.adds missed.except sizes (changed_by (Some shelf) change shelves))
+    by_sizes : (o : Option TwoSizes) → IfSome o (λ sizes. AreMissedBy IsSuch missed.adds missed.except missed.tail sizes shelves) → IfSome o (λ sizes. AreMissedBy IsSuch missed.adds missed.except missed.tail sizes (changed_by (Some shelf) change shelves))
     by_sizes None h = h
     by_sizes (Some sizes) h = (of_size sizes.last h.0, some-mapped sizes.before of_size h.1)
 
@@ -98,15 +133,15 @@ missed-changed IsSuch shelf change missed shelves keeps is = by_sizes missed.siz
 pub missed-beside : (shelf : ℕ) (change : KeptShelf → KeptShelf) (missed : Missed) (shelves : List KeptShelf) → IsMissed missed shelves → IsMissedBeside shelf missed (changed_by (Some shelf) change shelves)
 missed-beside shelf change missed shelves is = by_sizes missed.sizes is
   where
-    of_size : (sides : Sides) → IsMissedBy (λ number. Unit {0}) missed.adds missed.except sides shelves → IsMissedBy (λ number. number ≡ shelf → ⊥) missed.adds missed.except sides (changed_by (Some shelf) change shelves)
+    of_size : (sides : Sides) → IsMissedBy (λ number. Unit {0}) missed.adds missed.except missed.tail sides shelves → IsMissedBy (λ number. number ≡ shelf → ⊥) missed.adds missed.except missed.tail sides (changed_by (Some shelf) change shelves)
     of_size sides h = record {
       some = h.some;
-      without = λ number kept such other there.
-          h.without number kept tt other (sym (get-changed_by-other change shelves (Some shelf) number (λ (e : Some shelf ≡ Some number). let same : number ≡ shelf = cc in absurd (such same))) ∙ there);
+      without = λ number kept such low other there.
+          h.without number kept tt low other (sym (get-changed_by-other change shelves (Some shelf) number (λ (e : Some shelf ≡ Some number). let same : number ≡ shelf = cc in absurd (such same))) ∙ there);
     }
 
-    by_sizes : (o : Option TwoSizes) → IfSome o (λ sizes. AreMissedBy (λ number. Unit {0}) missed.adds missed.except sizes shelves)
-        → IfSome o (λ sizes. AreMissedBy (λ number. number ≡ shelf → ⊥) missed.adds missed.except sizes (changed_by (Some shelf) change shelves))
+    by_sizes : (o : Option TwoSizes) → IfSome o (λ sizes. AreMissedBy (λ number. Unit {0}) missed.adds missed.except missed.tail sizes shelves)
+        → IfSome o (λ sizes. AreMissedBy (λ number. number ≡ shelf → ⊥) missed.adds missed.except missed.tail sizes (changed_by (Some shelf) change shelves))
     by_sizes None h = h
     by_sizes (Some sizes) h = (of_size sizes.last h.0, some-mapped sizes.before of_size h.1)
 
@@ -124,14 +159,14 @@ missed-pushed one missed shelves all pushes well pushed is = by_sizes missed.siz
     added : all ≡ shelves ++ one ∷ []
     added = pushed ∙ ap (λ (t : Bool). cond t (shelves ++ one ∷ []) shelves) well
 
-    of_size : (sides : Sides) → IsMissedBy (λ number. Unit {0}) missed.adds missed.except sides shelves → IsMissedBy (λ number. number ≡ length shelves → ⊥) missed.adds missed.except sides all
+    of_size : (sides : Sides) → IsMissedBy (λ number. Unit {0}) missed.adds missed.except missed.tail sides shelves → IsMissedBy (λ number. number ≡ length shelves → ⊥) missed.adds missed.except missed.tail sides all
     of_size sides h = record {
       some = h.some;
-      without = λ number kept such other there. h.without number kept tt other (read shelves number kept such (ap (λ (xs : List KeptShelf). slice_get xs number) (sym added) ∙ there));
+      without = λ number kept such low other there. h.without number kept tt low other (read shelves number kept such (ap (λ (xs : List KeptShelf). slice_get xs number) (sym added) ∙ there));
     }
 
-    by_sizes : (o : Option TwoSizes) → IfSome o (λ sizes. AreMissedBy (λ number. Unit {0}) missed.adds missed.except sizes shelves)
-        → IfSome o (λ sizes. AreMissedBy (λ number. number ≡ length shelves → ⊥) missed.adds missed.except sizes all)
+    by_sizes : (o : Option TwoSizes) → IfSome o (λ sizes. AreMissedBy (λ number. Unit {0}) missed.adds missed.except missed.tail sizes shelves)
+        → IfSome o (λ sizes. AreMissedBy (λ number. number ≡ length shelves → ⊥) missed.adds missed.except missed.tail sizes all)
     by_sizes None h = h
     by_sizes (Some sizes) h = (of_size sizes.last h.0, some-mapped sizes.before of_size h.1)
 
@@ -139,10 +174,17 @@ missed-pushed one missed shelves all pushes well pushed is = by_sizes missed.siz
 pub missed-some : (one : ℕ) (missed : Missed) (all shelves : List KeptShelf) → AreSome all shelves → IsMissedBeside one missed all → IsMissedBeside one missed shelves
 missed-some one missed all shelves some is = by_sizes missed.sizes is
   where
-    of_size : (sides : Sides) → IsMissedBy (λ number. number ≡ one → ⊥) missed.adds missed.except sides all → IsMissedBy (λ number. number ≡ one → ⊥) missed.adds missed.except sides shelves
-    of_size sides h = record { some = h.some; without = λ number kept such other there. h.without number kept such other (some number kept there) }
+    of_size : (sides : Sides) → IsMissedBy (λ number. number ≡ one → ⊥) missed.adds missed.except missed.tail sides all → IsMissedBy (λ number. number ≡ one → ⊥) missed.adds missed.except missed.tail sides shelves
+    of_size sides h = record { some = h.some; without = λ number kept such low other there. h.without number kept such low other (some number kept there) }
 
-    by_sizes : (o : Option TwoSizes) → IfSome o (λ sizes. AreMissedBy (λ number. number ≡ one → ⊥) missed.adds missed.except sizes all)
-        → IfSome o (λ sizes. AreMissedBy (λ number. number ≡ one → ⊥) missed.adds missed.except sizes shelves)
+    by_sizes : (o : Option TwoSizes) → IfSome o (λ sizes. AreMissedBy (λ number. number ≡ one → ⊥) missed.adds missed.except missed.tail sizes all)
+        → IfSome o (λ sizes. AreMissedBy (λ number. number ≡ one → ⊥) missed.adds missed.except missed.tail sizes shelves)
     by_sizes None h = h
     by_sizes (Some sizes) h = (of_size sizes.last h.0, some-mapped sizes.before of_size h.1)
+
+-- what is missed before a number is missed before a lower one
+pub sizes-before : (adds : Bool) (except tail lower : ℕ) (sizes : TwoSizes) (shelves : List KeptShelf) → lower ≤ tail → AreMissed adds except tail sizes shelves → AreMissed adds except lower sizes shelves
+sizes-before adds except tail lower sizes shelves less is = (of_size sizes.last is.0, some-mapped sizes.before of_size is.1)
+  where
+    of_size : (sides : Sides) → IsMissedSize adds except tail sides shelves → IsMissedSize adds except lower sides shelves
+    of_size sides h = record { some = h.some; without = λ number kept such low other there. h.without number kept such (omega (arith, low, less)) other there }

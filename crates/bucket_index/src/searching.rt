@@ -3,14 +3,14 @@
 //! Definitions: `Searching`, and `Picking` for what it means. No bucket is looked at of a shelf that one
 //! comparison tells has none that is wanted.
 
-ghost use Rattle.std.specs.Prelude.{◌≡◌, ◌+◌, ◌^◌, ◌<◌, ◌≤◌, IfSome, IsTrue, length, map, max, min, take, drop, true};
+ghost use Rattle.std.specs.Prelude.{◌≡◌, ◌+◌, ◌^◌, ◌<◌, ◌≤◌, IfSome, IsTrue, None, length, map, max, min, take, drop, true};
 ghost use Rattle.etagere_base.specs.Least.{first_least};
 ghost use Rattle.etagere_links.specs.Links.{no_link};
 ghost use Rattle.bucketed_model.specs.Picking.{or_else};
 ghost use Rattle.bucketed_model.specs.State.{most_buckets};
 ghost use Rattle.bucket_index.specs.Private.Blocks.{AreKnown, IsStep};
 ghost use Rattle.bucket_index.specs.Private.Heights.{AreBelow};
-ghost use Rattle.bucket_index.specs.Private.Missed.{IsMissed};
+ghost use Rattle.bucket_index.specs.Private.Missed.{AreWithoutBefore, AreWithoutBut, IsMissed};
 ghost use Rattle.bucket_index.specs.Private.Rest.{IsRest};
 ghost use Rattle.bucket_index.specs.Private.Rooms.{AreCounted};
 ghost use Rattle.bucket_index.specs.Private.Searching as spec;
@@ -18,7 +18,7 @@ ghost use Rattle.bucket_index.specs.Private.Spans.{AreSpans};
 
 use crate::blocks::Blocks;
 use crate::heights::Heights;
-use crate::missed::Missed;
+use crate::missed::{Missed, NEAR_END, NO_SHELF, is_short};
 use crate::rest::Rest;
 use crate::rooms::Rooms;
 use crate::spans::Spans;
@@ -394,7 +394,7 @@ fn least_waste(
     least_in(adds, sides, shelves, blocks.step(), 0, shelves.len(), None)
 }
 
-/// The same, where none is looked for that is known to be missed, and it is learned where there is none.
+/// The same, where few shelves are looked at if it is known that the others have no place, and it is learned where none has.
 #[inline(always)]
 fn least_unless_missed(
     adds: bool,
@@ -413,49 +413,158 @@ fn least_unless_missed(
     ensures within { IfSome result (λ least. least.number < length shelves.now) }
     ensures missed { IsMissed missed.new shelves.now }
 {
-    if missed.covers(adds, sides, shelves) {
-        return None;
+    if missed.covers(adds, sides) {
+        return least_where_missed(adds, sides, shelves, blocks, missed);
     }
-    let best = least_by_blocks(adds, sides, shelves, blocks, heights);
+    let best = least_by_blocks(adds, sides, shelves, blocks, heights, shelves.len());
     if best.is_none() {
-        missed.learn(adds, sides, shelves);
+        missed.learn(adds, sides, shelves, NO_SHELF);
+    } else if missed.leaves_out(adds) {
+        learn_before_tail(adds, sides, shelves, blocks, heights, missed);
     }
     best
 }
 
-/// The same, where blocks in which none has room are passed over, and behind one that was searched those in which none is as
-/// tall as is wanted.
+/// The same where these sides are missed by all shelves but those of which nothing is said.
+#[inline(always)]
+fn least_where_missed(
+    adds: bool,
+    sides: &Sides,
+    shelves: &[KeptShelf],
+    blocks: &Blocks,
+    missed: &mut Missed,
+) -> Option<FoundShelf>
+    requires across { 0 < sides.now.across }
+    requires known { AreKnown blocks.now shelves.now }
+    requires missed { IsMissed missed.old shelves.now }
+    requires without { AreWithoutBut missed.old.except missed.old.tail adds sides.now
+        shelves.now }
+    ensures least { result ≡ first_least (map (spec.kept_waste adds sides.now) shelves.now) }
+    ensures within { IfSome result (λ least. least.number < length shelves.now) }
+    ensures missed { IsMissed missed.new shelves.now }
+{
+    let tail = missed.tail.min(shelves.len());
+    let best = found_alone(adds, sides, shelves, missed.except, tail);
+    if tail >= shelves.len() {
+        return best;
+    }
+    least_in_tail(adds, sides, shelves, blocks.step(), missed, tail, best)
+}
+
+/// The same with the shelves at the end, where this was found before them. Where they became many and have no place either, it
+/// is learned anew.
+#[inline(never)]
+fn least_in_tail(
+    adds: bool,
+    sides: &Sides,
+    shelves: &[KeptShelf],
+    step: u32,
+    missed: &mut Missed,
+    tail: usize,
+    best: Option<FoundShelf>,
+) -> Option<FoundShelf>
+    requires across { 0 < sides.now.across }
+    requires step { IsStep step shelves.now }
+    requires missed { IsMissed missed.old shelves.now }
+    requires tail { tail ≤ length shelves.now }
+    requires best { best
+        ≡ first_least (map (spec.kept_waste adds sides.now) (take tail shelves.now)) }
+    ensures least { result ≡ first_least (map (spec.kept_waste adds sides.now) shelves.now) }
+    ensures within { IfSome result (λ least. least.number < length shelves.now) }
+    ensures missed { IsMissed missed.new shelves.now }
+{
+    let best = least_in(adds, sides, shelves, step, tail, shelves.len(), best);
+    if best.is_none() && !is_short(shelves, tail) {
+        missed.learn(adds, sides, shelves, NO_SHELF);
+    }
+    best
+}
+
+/// What is found before the shelf of one number, where none but that of another has a place there.
+#[inline(always)]
+fn found_alone(
+    adds: bool,
+    sides: &Sides,
+    shelves: &[KeptShelf],
+    number: usize,
+    end: usize,
+) -> Option<FoundShelf>
+    requires end { end ≤ length shelves.now }
+    requires without { AreWithoutBut number end adds sides.now shelves.now }
+    ensures { result
+        ≡ first_least (map (spec.kept_waste adds sides.now) (take end shelves.now)) }
+{
+    if number >= end {
+        return None;
+    }
+    let limit = limit_beside(adds, sides, &None);
+    let rank = waste_below(limit, sides, &shelves[number])?;
+    Some(FoundShelf { number, rank })
+}
+
+/// Learns that no shelf before the last few has a place for these sides, where that is so; else what is known is forgotten.
+#[inline(never)]
+fn learn_before_tail(
+    adds: bool,
+    sides: &Sides,
+    shelves: &[KeptShelf],
+    blocks: &Blocks,
+    heights: &Heights,
+    missed: &mut Missed,
+)
+    requires across { 0 < sides.now.across }
+    requires counted { blocks.now.are_counted ≡ true }
+    requires known { AreKnown blocks.now shelves.now }
+    requires below { AreBelow heights.now shelves.now }
+    requires missed { IsMissed missed.old shelves.now }
+    ensures { IsMissed missed.new shelves.now }
+{
+    let tail = shelves.len().saturating_sub(NEAR_END);
+    let best = least_by_blocks(adds, sides, shelves, blocks, heights, tail);
+    if best.is_none() {
+        missed.learn(adds, sides, shelves, tail);
+    } else {
+        missed.forget();
+    }
+}
+
+/// The same among all shelves, or so many first ones, where blocks in which none has room are passed over, and behind one that
+/// was searched those in which none is as tall as is wanted.
+#[inline(always)]
 fn least_by_blocks(
     adds: bool,
     sides: &Sides,
     shelves: &[KeptShelf],
     blocks: &Blocks,
     heights: &Heights,
+    count: usize,
 ) -> Option<FoundShelf>
     requires across { 0 < sides.now.across }
     requires counted { blocks.now.are_counted ≡ true }
     requires known { AreKnown blocks.now shelves.now }
     requires below { AreBelow heights.now shelves.now }
-    ensures least { result ≡ first_least (map (spec.kept_waste adds sides.now) shelves.now) }
-    ensures within { IfSome result (λ least. least.number < length shelves.now) }
+    requires count { count ≤ length shelves.now }
+    ensures least { length shelves.now ≡ count
+        → result ≡ first_least (map (spec.kept_waste adds sides.now) shelves.now) }
+    ensures without { None ≡ result → AreWithoutBefore count adds sides.now shelves.now }
 {
     let step = blocks.step();
     let mut best = None;
     let mut in_vain = false;
     let mut from = 0;
-    while from < shelves.len() {
+    while from < count {
         let behind = blocks.behind_narrow(from, sides.along);
         if from < behind {
             from = behind;
         } else {
-            let end = blocks.behind_wide(from, sides.along, in_vain);
+            let end = blocks.behind_wide(from, sides.along, in_vain).min(count);
             best = least_in(adds, sides, shelves, step, from, end, best);
             if is_least(step, &best) {
                 break;
             }
             in_vain = true;
             let limit = limit_beside(adds, sides, &best);
-            from = heights.behind_unfit(end, sides.across, limit, shelves.len());
+            from = heights.behind_unfit(end, sides.across, limit, count);
         }
     }
     best
