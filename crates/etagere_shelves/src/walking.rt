@@ -1,5 +1,5 @@
-//! Whether a search goes through all shelves or through the list by height, which is to follow what was noted first: what is
-//! less work.
+//! Whether a search goes through all shelves, or through the first ones, or through the list by height, which is to follow
+//! what was noted first: what is less work.
 //!
 //! Definitions: `Searching` of `shelf_search` for what going through all comes to, `Settling` of `shelf_store` for the list.
 
@@ -15,8 +15,8 @@ use etagere_base::Frame;
 use shelf_heights::by_height::ShelvesByHeight;
 use shelf_notes::pending::PendingShelves;
 use shelf_records::Records;
-use shelf_search::by_place::{Walked, walk_shelves};
-use shelf_store::settling::{are_few, follows, settle_for};
+use shelf_search::by_place::{Walked, look_at_first, walk_shelves};
+use shelf_store::settling::{ByPlace, by_place, follows, settle_for};
 
 /// To go through more free items than this is more work than to make the list by height follow.
 const WALKED_ITEMS: u32 = 128;
@@ -49,13 +49,13 @@ pub fn walk_or_settle(
     }
     let walked = walk_if_few(records, by_height, pending, width, height);
     if let Walked::NotThrough = walked {
-        settle_counted(frame, records, by_height, pending, width);
+        settle_for(frame, records, by_height, pending, width);
     }
     walked
 }
 
-/// Goes through all shelves where there are few, and few free items to look at. Never inlined, so that a search after which
-/// nothing changed costs no call.
+/// Goes through all shelves where there are few, and few free items to look at, or through the first of many. Never inlined,
+/// so that a search after which nothing changed costs no call.
 #[inline(never)]
 fn walk_if_few(
     records: &Records,
@@ -70,8 +70,10 @@ fn walk_if_few(
     ensures notes { pending.new.notes ≡ pending.old.notes }
     ensures room { pending.new.room ≡ pending.old.room }
 {
-    if !are_few(records, by_height, pending) {
-        return Walked::NotThrough;
+    match by_place(records, by_height, pending) {
+        ByPlace::All => {}
+        ByPlace::First => return look_first(records, pending, width, height),
+        ByPlace::NoShelves => return Walked::NotThrough,
     }
     let walked = walk_shelves(records, width, height, height, WALKED_ITEMS);
     match walked {
@@ -81,26 +83,18 @@ fn walk_if_few(
     walked
 }
 
-/// Makes the list by height follow what was noted, for this search of something so wide. Never inlined, so that going through
-/// all shelves stays short.
-#[inline(never)]
-fn settle_counted(
-    frame: &Frame,
-    records: &Records,
-    by_height: &mut ShelvesByHeight,
-    pending: &mut PendingShelves,
-    width: u32,
-)
-    requires kept { AreKept frame.now records.now }
-    requires by_height { AreByHeightExceptNoted frame.now records.now pending.old.notes by_height.old.items }
-    requires room { length records.now.shelves ≤ by_height.old.capacity }
-    requires room_to_note { length records.now.shelves ≤ pending.old.room }
-    requires short { width ≤ longest_side }
-    ensures by_height { AreByHeightExceptNoted frame.now records.now pending.new.notes by_height.new.items }
-    ensures follows { AreByHeightFor frame.now records.now width by_height.new.items }
-    ensures capacity { by_height.old.capacity ≤ by_height.new.capacity }
+/// Goes through the first of many shelves, for one of just the height.
+fn look_first(records: &Records, pending: &mut PendingShelves, width: u32, height: u32) -> Walked
+    requires linked { IsLinked records.now (walked_lists records.now) }
+    requires short { height ≤ longest_side }
+    ensures through { IsThrough records.now width height result }
+    ensures notes { pending.new.notes ≡ pending.old.notes }
     ensures room { pending.new.room ≡ pending.old.room }
 {
-    settle_for(frame, records, by_height, pending, width);
-    pending.count_search();
+    let walked = look_at_first(records, width, height);
+    match walked {
+        Walked::Through(_) => pending.count_look(),
+        Walked::NotThrough => pending.rest_from_looks(),
+    }
+    walked
 }

@@ -19,13 +19,16 @@ use std::marker::Model;
 pub const MOST_SEARCHES: u32 = 16;
 
 /// So many searches count as the last of them once going through all shelves was given up, where that is rare.
-const RESTED_BRIEFLY: u32 = 2;
+const RESTED_BRIEFLY: u32 = 1;
 
 /// So many do where it was given up before, and few were gone through to the end since.
-const RESTED_LONG: u32 = 64;
+const RESTED_LONG: u32 = 32;
 
 /// It is rare where shelves were gone through to the end as often as this since.
 const RARELY_GIVEN_UP: u32 = 6;
+
+/// So many searches do at most once a look at the first shelves was in vain.
+const RESTED_FROM_LOOKS: u32 = 64;
 
 /// Where fewer shelves are listed, none is parked.
 const LISTED_TO_PARK: usize = 64;
@@ -96,6 +99,8 @@ pub struct PendingShelves {
     rested: u32,
     /// How often all shelves were gone through since that was given up. Nothing rests on it.
     walks: u32,
+    /// How many searches do once the next look is in vain. Nothing rests on it.
+    in_vain: u32,
     /// What was asked for of late. Nothing rests on it.
     watch: Watch,
 }
@@ -145,6 +150,7 @@ impl PendingShelves {
             searches: MOST_SEARCHES,
             rested: 0,
             walks: RARELY_GIVEN_UP,
+            in_vain: 1,
             watch: UNWATCHED,
         })
     }
@@ -185,6 +191,7 @@ impl PendingShelves {
             searches: self.searches,
             rested: self.rested,
             walks: self.walks,
+            in_vain: self.in_vain,
             watch: self.watch,
         };
         pending.reserve(room)?;
@@ -245,6 +252,24 @@ impl PendingShelves {
             RESTED_BRIEFLY
         };
         self.walks = 0;
+    }
+
+    /// Counts that a look at the first shelves was enough: once one is in vain, fewer searches count as the last.
+    pub fn count_look(&mut self)
+        ensures notes { self.new.notes ≡ self.old.notes }
+        ensures room { self.new.room ≡ self.old.room }
+    {
+        self.in_vain = self.in_vain.max(2) - 1;
+    }
+
+    /// Has some searches count as the last that are counted, since a look at the first shelves was in vain: four times as many
+    /// as after the one before.
+    pub fn rest_from_looks(&mut self)
+        ensures notes { self.new.notes ≡ self.old.notes }
+        ensures room { self.new.room ≡ self.old.room }
+    {
+        self.rested = self.in_vain;
+        self.in_vain = 4 * self.in_vain.min(RESTED_FROM_LOOKS / 4);
     }
 
     /// The number of one of them, in the order in which they changed.

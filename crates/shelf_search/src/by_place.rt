@@ -1,4 +1,5 @@
-//! A search through all shelves in the order of their places, of which nothing need be known but their records.
+//! A search through all shelves in the order of their places, or a look at the first ones: of shelves nothing need be known
+//! but their records.
 //!
 //! Definitions: `Searching`. A free list is gone through only where its shelf would rank lower than what was found, and the
 //! first shelf ends the search that has room and than which none ranks lower. It is given up where it would go through more
@@ -24,6 +25,12 @@ use shelf_records::{LinkedShelf, Records};
 
 /// A search for bad fits goes through no more free items.
 const WALKED_ITEMS: u32 = 64;
+
+/// A look at the first shelves goes through so many.
+const FIRST_SHELVES: u32 = 16;
+
+/// And through no more free items.
+const FIRST_ITEMS: u32 = 16;
 
 /// What going through all shelves came to.
 #[derive(Clone, Copy)]
@@ -103,6 +110,36 @@ pub(crate) fn walk_bad_fits(records: &Records, width: u32, height: u32) -> Walke
     ensures through { searching.IsThrough records.now width height result }
 {
     walk_shelves(records, width, height, BAD_FIT_RANK, WALKED_ITEMS)
+}
+
+/// Goes through the first shelves up to one of just the height that has room: none ranks lower. Never inlined, since few
+/// searches do it.
+#[inline(never)]
+pub fn look_at_first(records: &Records, width: u32, height: u32) -> Walked
+    requires linked { IsLinked records.now (walked_lists records.now) }
+    requires short { height ≤ longest_side }
+    ensures through { searching.IsThrough records.now width height result }
+{
+    let limit = height + 1;
+    let mut left = FIRST_ITEMS;
+    let mut shelf = usize::from(records.first_shelf().bits());
+    for _step in 0..FIRST_SHELVES {
+        if shelf >= NO_NUMBER {
+            break;
+        }
+        let next = usize::from(next_link(records.shelves(), shelf).bits());
+        match look_at(records, width, height, shelf, limit, &mut left) {
+            Looked::Lower(candidate) => {
+                if candidate.rank <= height {
+                    return Walked::Through(Some(candidate));
+                }
+            }
+            Looked::NotLower => {}
+            Looked::Unknown => break,
+        }
+        shelf = next;
+    }
+    Walked::NotThrough
 }
 
 /// What a shelf offers, where it ranks below the limit, which is the rank of what was found. Of its free list no more items

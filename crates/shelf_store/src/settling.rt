@@ -69,7 +69,8 @@ pub fn follows(pending: &PendingShelves, width: u32) -> bool
 }
 
 /// Makes the list follow what was noted, for a search of something so wide. Where a parked shelf may have room for it, all
-/// shelves are listed anew.
+/// shelves are listed anew. Never inlined, so that going through shelves by place stays short.
+#[inline(never)]
 pub fn settle_for(
     frame: &Frame,
     records: &Records,
@@ -98,24 +99,60 @@ pub fn settle_for(
     }
 }
 
-/// Whether shelves are so few that all are gone through in this search: to make the list follow those that have changed would
-/// be more work. Where some are parked, all records count.
-pub fn are_few(records: &Records, by_height: &ShelvesByHeight, pending: &mut PendingShelves) -> bool
+/// Which shelves a search goes through by place before the list by height follows those that have changed.
+#[derive(Clone, Copy)]
+pub enum ByPlace {
+    /// All, since they are few: to make the list follow would be more work.
+    All,
+    /// The first ones: where one of just the height has room, the list needn't follow.
+    First,
+    /// None.
+    NoShelves,
+}
+
+/// Which shelves this search goes through by place. It is counted as one since a shelf has changed.
+pub fn by_place(
+    records: &Records,
+    by_height: &ShelvesByHeight,
+    pending: &mut PendingShelves,
+) -> ByPlace
     ensures notes { pending.new.notes ≡ pending.old.notes }
     ensures room { pending.new.room ≡ pending.old.room }
 {
-    if by_height.len() > WALKED_AT_FIRST
-        || pending.len() > WALKED_CHANGES
+    let searches = pending.count_search();
+    if searches >= MOST_SEARCHES {
+        return ByPlace::NoShelves;
+    }
+    if records.shelves().len() <= WALKED_IN_PLACE {
+        return ByPlace::All;
+    }
+    let is_early = searches < FIRST_SEARCHES || 2 * searches as usize <= pending.len();
+    if by_height.len() <= WALKED_AT_FIRST {
+        if are_few(records, by_height, pending, is_early) {
+            return ByPlace::All;
+        }
+    } else if is_early {
+        return ByPlace::First;
+    }
+    ByPlace::NoShelves
+}
+
+/// Whether shelves are so few that all are gone through in a search, which may be one of the first since one has changed.
+/// Where some are parked, all records count.
+fn are_few(
+    records: &Records,
+    by_height: &ShelvesByHeight,
+    pending: &PendingShelves,
+    is_early: bool,
+) -> bool {
+    let changed = pending.len();
+    if changed > WALKED_CHANGES
         || pending.has_parked() && records.shelves().len() > WALKED_AT_FIRST
     {
         return false;
     }
-    let searches = pending.count_search();
-    searches < MOST_SEARCHES
-        && (by_height.len() <= WALKED
-            || searches < FIRST_SEARCHES
-            || 2 * searches as usize <= pending.len())
-        && (by_height.len() <= walked_in_place(pending.len()) || have_moved(records, pending))
+    (by_height.len() <= WALKED || is_early)
+        && (by_height.len() <= walked_in_place(changed) || have_moved(records, pending))
 }
 
 /// How many are gone through although none has moved of late, where so many have changed: to make the list follow one split or
