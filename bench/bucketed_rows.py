@@ -206,6 +206,38 @@ def low_and_tall(_program):
     return filling, comes_and_goes(len(filling) - 1, "a 2 32")
 
 
+def last_ones_go(shelves, some):
+    """Shelves of which most are too low and the others full, in four columns, and items of two heights: as many as some, each
+    in a shelf of its own at the end, come and go in any order.
+    """
+
+    def make(_program):
+        heights = [32 if shelf % 16 == 8 or shelf == shelves - 1 else 8 for shelf in range(shelves)]
+        side = (sum(heights) + some * 32 + 3) // 4 + 40
+        filling = [f"bucketed 408 {side} 1 1 4 h"] + [f"a 102 {height}" for height in heights]
+        filling += [f"r {shelf}" for shelf in range(shelves) if heights[shelf] == 8]
+        chooser, live, lines, count = random.Random(11), [], [], len(filling) - 1
+        for _ in range(ROUNDS):
+            if not live or len(live) < some and chooser.random() < 0.5:
+                live.append(count + len(lines))
+                lines.append(f"a 102 {chooser.choice((32, 24))}")
+            else:
+                lines.append(f"r {live.pop(chooser.randrange(len(live)))}")
+        return filling, lines
+
+    return make
+
+
+def first_two_go(_program):
+    """256 full shelves of a bucket each, of which the first two go, and two come."""
+    filling, holders, lines = ["bucketed 256 4096 1 1 1 h"] + ["a 256 16"] * 256, [0, 1], []
+    for _ in range(ROUNDS // 4):
+        lines += [f"r {position}" for position in holders]
+        holders = [256 + len(lines), 257 + len(lines)]
+        lines += ["a 256 16"] * 2
+    return filling, lines
+
+
 def shelves_too_tall(_program):
     """3000 items for which all shelves are too tall, so that each adds one."""
     return ["bucketed 61 32760 2 2 1 h"], ["a 23 1"] * 3000
@@ -254,6 +286,8 @@ ROWS = {
     "3000 shelves that are too low: the same item comes and goes": Row(too_low, 10673, most=MOST),
     "44 shelves that are too tall: eight more come and go": Row(last_low_ones(44), 551, before=690),
     "41 low or full shelves: an item comes, and its shelf goes with it": Row(low_and_tall, 436, before=668),
+    "40 low or full shelves in four columns: three more come and go": Row(last_ones_go(40, 3), 466, before=554),
+    "256 full shelves: the first two go, and two come": Row(first_two_go, 162),
     "3000 items that add a shelf each, since all are too tall": Row(shelves_too_tall, 24337, before=17944, most=MOST),
     "4000 empty shelves: a narrower item comes and goes": Row(empty_shelves, 94132, before=88714, most=MOST),
     "4094 empty shelves: each item has two of them merged": Row(merges, 154910, before=118894, most=MOST),

@@ -230,6 +230,42 @@ def full_shelves(choose):
     return make
 
 
+def drained_beside_first(shelves):
+    """Full shelves that go in any order, while after each an item comes to the first shelf, and one is refused."""
+
+    def make(_program):
+        positions = list(range(1, shelves + 1))
+        random.Random(1).shuffle(positions)
+        filling = [f"atlas 4096 {8 * (shelves + 1)} 1 1 1 h", "a 16 8"] + ["a 4096 8"] * shelves
+        return filling, [line for position in positions for line in (f"r {position}", "a 16 8", "a 4104 8")]
+
+    return make
+
+
+def gaps_filled(_program):
+    """200 shelves of four heights, of which every third went once two more were refused: an item of each height comes, and
+    they go in any order.
+    """
+    heights = (16, 24, 32, 48)
+    filling = ["atlas 256 6000 1 1 1 h"] + [f"a 256 {heights[shelf % 4]}" for shelf in range(202)]
+    filling += [f"r {shelf}" for shelf in range(0, 200, 3)]
+    chooser, lines, count = random.Random(3), [], len(filling) - 1
+    for _ in range(ROUNDS // 8):
+        holders = [count + len(lines) + number for number in range(4)]
+        lines += [f"a 256 {height}" for height in heights]
+        chooser.shuffle(holders)
+        lines += [f"r {position}" for position in holders]
+    return filling, lines
+
+
+def frames_of_sprites(_program):
+    """Frames of eight sprites in four columns, each ended by a clear."""
+    chooser, lines = random.Random(5), []
+    for _ in range(ROUNDS // 9):
+        lines += [f"a {chooser.randint(32, 256)} {chooser.randint(32, 256)}" for _ in range(8)] + ["c"]
+    return ["atlas 2048 2048 8 8 4 h"], lines
+
+
 ROWS = {
     "4096x4096, 25 to 32 pixels, half returned, then 8 to 14 come and go": Row(
         small_after_large(4096, (25, 32)), 1339, before=18576
@@ -274,6 +310,10 @@ ROWS = {
     "9 low shelves with two narrow gaps each, beside one that splits and merges": Row(
         beside_gaps(9, 2), 418, before=683
     ),
+    # Counted likewise, as the next two.
+    "150 full shelves go in any order, after each an item comes to the first": Row(drained_beside_first(150), 163, before=334),
+    "200 shelves of four heights with gaps that are filled and emptied": Row(gaps_filled, 230, before=567),
+    "eight sprites in four columns, and a clear": Row(frames_of_sprites, 402, before=510),
     "65535 columns, the same item": Row(in_columns(65535), 182, before=363),
     "8000 full shelves: the first goes and comes": Row(full_shelves(lambda _: 0), 181, before=347),
     "8000 full shelves: any goes and comes": Row(full_shelves(lambda chooser: chooser.randrange(8000)), 72703),
