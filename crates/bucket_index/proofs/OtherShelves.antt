@@ -9,7 +9,8 @@ use Rattle.bucketed_records.specs.Private.Store.{is_kept_idle}
 use Rattle.bucket_index.specs.declared.blocks.Block.{Block}
 use Rattle.bucket_index.specs.declared.blocks.Blocks.{Blocks}
 use Rattle.bucket_index.specs.declared.blocks.Others.{Others}
-use Rattle.bucket_index.specs.Private.Blocks.{AreCountedWhere, AreKnownIf, AreKnownOf, AreKnownWhere, AreOthers, IsBeside, IsBesideOf, IsFollowed, IsKnown, IsKnownOf, IsOwnKnown, IsOwnOf, IsPart, block_at, block_of, kept_others, lowered, no_others, no_shelves, raised, remembered, remembered_others, with_own, with_shelf}
+use Rattle.bucket_index.specs.declared.blocks.PutOff.{PutOff}
+use Rattle.bucket_index.specs.Private.Blocks.{AreCountedWhere, AreKnownIf, AreKnownOf, AreKnownWhere, AreOthers, IsBeside, IsBesideOf, IsFollowed, IsKnown, IsKnownOf, IsOwnKnown, IsOwnOf, IsPart, block_at, block_of, kept_others, lowered, no_others, no_shelves, putting_off, raised, remembered, remembered_others, with_own, with_shelf}
 use Rattle.bucket_index.proofs.KnownBlocks.{known-own, known-part, known-still, raise-known, read-changed, some-same}
 use Rattle.bucket_index.proofs.NestedBlocks.{nested-kept, nested-lowered, nested-none, nested-own, nested-raised, nested-remembered, own-nested, part-more, part-none}
 
@@ -232,6 +233,18 @@ pub known-late : (IsSuch : ℕ → Type 0) (late : Bool) (blocks : Blocks) (shel
 known-late IsSuch late blocks shelves known = record { counted = λ counts. all (known.counted counts); steps = known.steps }
   where
     all : AreCountedWhere IsSuch blocks shelves → AreCountedWhere IsSuch (record blocks { is_late = late }) shelves
+    all counted = record {
+      each = record { small = counted.each.small; middle = counted.each.middle; large = counted.each.large };
+      others = counted.others;
+      own = record { small = counted.own.small; middle = counted.own.middle; large = counted.own.large };
+      nested = counted.nested;
+    }
+
+-- these are known whichever block is left as it is
+pub known-put-off : (IsSuch : ℕ → Type 0) (put_off : PutOff) (blocks : Blocks) (shelves : List KeptShelf) → AreKnownIf IsSuch blocks shelves → AreKnownIf IsSuch (putting_off put_off blocks) shelves
+known-put-off IsSuch put_off blocks shelves known = record { counted = λ counts. all (known.counted counts); steps = known.steps }
+  where
+    all : AreCountedWhere IsSuch blocks shelves → AreCountedWhere IsSuch (putting_off put_off blocks) shelves
     all counted = record {
       each = record { small = counted.each.small; middle = counted.each.middle; large = counted.each.large };
       others = counted.others;

@@ -41,6 +41,9 @@ const MOST_LARGE: usize = 8;
 /// How many shelves there are at most.
 const MOST_SHELVES: usize = 4096;
 
+/// How many searches without a change go by before a block is lowered that was left as it is.
+const LEFT_SEARCHES: usize = 3;
+
 /// The height of each shelf is a multiple of it, but where the height of a column is none.
 const STEP: u16 = 8;
 
@@ -83,6 +86,63 @@ const NO_OTHERS: Others = Others {
     large: NO_SHELVES,
 };
 
+/// Which small block is left as it is though a shelf of it has less now, as one or two narrow and widen in turn: it may know
+/// too much for a while. And which shelves were lowered last.
+#[derive(Clone, Copy)]
+pub struct PutOff {
+    /// The number of the block; 512 where none is left.
+    pub block: usize,
+    /// How many searches there were since a shelf of it had less.
+    pub searches: usize,
+    /// The shelf that was lowered last, and the one before it; 4096 where none was.
+    pub last: usize,
+    pub before: usize,
+}
+
+/// No block is left, and no shelf was lowered.
+const NONE_PUT_OFF: PutOff = PutOff {
+    block: MOST_SMALL,
+    searches: 0,
+    last: MOST_SHELVES,
+    before: MOST_SHELVES,
+};
+
+impl PutOff {
+    /// Whether the small block of a shelf that has less now is left already, or none is and the shelf is one of the two that
+    /// were lowered last. Else it is the last of these.
+    fn comes_back(&mut self, shelf: usize) -> bool {
+        if self.block == shelf / SHELVES_OF_BLOCK {
+            return true;
+        }
+        if self.block == MOST_SMALL && (shelf == self.last || shelf == self.before) {
+            return true;
+        }
+        self.before = self.last;
+        self.last = shelf;
+        false
+    }
+
+    /// Leaves the small block of a shelf.
+    fn leave(&mut self, shelf: usize) {
+        self.block = shelf / SHELVES_OF_BLOCK;
+        self.searches = 0;
+    }
+
+    /// The number of the block that was left, once it has been so for some searches; it is left no more then.
+    fn due(&mut self) -> Option<usize> {
+        if self.block >= MOST_SMALL {
+            return None;
+        }
+        if self.searches < LEFT_SEARCHES {
+            self.searches += 1;
+            return None;
+        }
+        let block = self.block;
+        self.block = MOST_SMALL;
+        Some(block)
+    }
+}
+
 /// The blocks of the shelves of an atlas, in three sizes. Before there are more than a few shelves nothing is known of them.
 #[derive(Clone, Copy)]
 pub struct Blocks {
@@ -93,6 +153,8 @@ pub struct Blocks {
     pub others: Others,
     /// Whether the blocks of that shelf are yet to be lowered: before a search, or once another shelf changes.
     pub is_late: bool,
+    /// The small block that is left as it is, if one is.
+    pub put_off: PutOff,
     /// What is known of the small and middle blocks of so many first shelves is known of the larger ones around them too.
     pub nested: usize,
     pub small: [Block; MOST_SMALL],
@@ -346,6 +408,7 @@ impl Blocks {
             in_steps: true,
             others: NO_OTHERS,
             is_late: false,
+            put_off: NONE_PUT_OFF,
             nested: MOST_SHELVES,
             small: [NO_SHELVES; MOST_SMALL],
             middle: [NO_SHELVES; MOST_MIDDLE],
@@ -378,6 +441,7 @@ impl Blocks {
         }
         self.are_counted = false;
         self.in_steps = true;
+        self.put_off = NONE_PUT_OFF;
     }
 
     /// Knows how tall a shelf is that is to be added.
@@ -619,14 +683,49 @@ impl Blocks {
         set_block(&mut self.large, large, fresh_large);
     }
 
-    /// Lowers the blocks of the shelf that was raised last, where that was put off, so that a search passes over them.
+    /// Lowers the blocks of the shelf that was raised last, where that was put off, so that a search passes over them, and a
+    /// block that was left as it is, once some searches found it so.
     #[inline(always)]
     pub fn settle(&mut self, shelves: &[KeptShelf])
         requires { spec.AreKnown self.old shelves.now }
         ensures { spec.AreKnown self.new shelves.now }
     {
+        if self.is_late || self.put_off.block < MOST_SMALL {
+            self.settle_all(shelves);
+        }
+    }
+
+    /// The same where either was put off.
+    #[inline(never)]
+    fn settle_all(&mut self, shelves: &[KeptShelf])
+        requires { spec.AreKnown self.old shelves.now }
+        ensures { spec.AreKnown self.new shelves.now }
+    {
+        self.settle_late(shelves);
+        if let Some(block) = self.put_off.due() {
+            self.lower_block(shelves, block);
+        }
+    }
+
+    /// Lowers the blocks of the shelf that was raised last, where that was put off.
+    fn settle_late(&mut self, shelves: &[KeptShelf])
+        requires { spec.AreKnown self.old shelves.now }
+        ensures { spec.AreKnown self.new shelves.now }
+    {
         if self.is_late {
             self.settle_beside(shelves, shelves.len());
+        }
+    }
+
+    /// Knows the small block of a number anew.
+    fn lower_block(&mut self, shelves: &[KeptShelf], block: usize)
+        requires { spec.AreKnown self.old shelves.now }
+        ensures { spec.AreKnown self.new shelves.now }
+    {
+        let number = block.min(MOST_SMALL) * SHELVES_OF_BLOCK;
+        if self.are_counted && number < shelves.len() {
+            let fresh = counted(shelves, first_of_block(number));
+            self.recount(shelves, number, fresh);
         }
     }
 
@@ -851,6 +950,22 @@ impl Blocks {
         }
     }
 
+    /// Whether the small block of the shelf of a number, which had this room, is left as it is: it knows the shelf, which
+    /// narrows now and then.
+    fn leaves(&mut self, number: usize, room: u16, kept: &KeptShelf) -> bool
+        ensures known { IsTrue result → (kept.now.widest_room ≤ room) × (is_kept_idle kept.now ≡ false) }
+        ensures same { self.new ≡ spec.putting_off self.new.put_off self.old }
+    {
+        if !self.put_off.comes_back(number) {
+            return false;
+        }
+        if !stays_known(room, kept) || self.knows_others(number, kept.widest_room) {
+            return false;
+        }
+        self.put_off.leave(number);
+        true
+    }
+
     /// The same where no other shelf is yet to be lowered.
     #[inline(always)]
     fn follow_alone(&mut self, shelves: &[KeptShelf], number: usize, before: Block)
@@ -867,7 +982,9 @@ impl Blocks {
         let narrows = kept.widest_room < room
             && !may_give(&self.small, number / SHELVES_OF_BLOCK, wider);
         if narrows || before.has_idle && !kept.is_idle() {
-            self.lower(shelves, number);
+            if !self.leaves(number, room, kept) {
+                self.lower(shelves, number);
+            }
         } else if !stays_known(room, kept) {
             self.raise_beside(shelves, number, room);
         }

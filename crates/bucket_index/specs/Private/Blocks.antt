@@ -8,6 +8,7 @@ pub use Rattle.bucketed_records.specs.declared.records.KeptShelf.{KeptShelf}
 pub use Rattle.bucket_index.specs.declared.blocks.Block.{Block}
 use Rattle.bucket_index.specs.declared.blocks.Blocks.{Blocks}
 pub use Rattle.bucket_index.specs.declared.blocks.Others.{Others}
+use Rattle.bucket_index.specs.declared.blocks.PutOff.{PutOff}
 
 abbrev pub Shelves : Type 0
 Shelves = List KeptShelf
@@ -146,6 +147,10 @@ lowered number kept blocks =
           changed_by (Some (block_of 512 number)) (λ _. with_shelf kept blocks.others.large)
           blocks.large;
     }
+
+-- the same is known where a block is left as it is, or no longer
+abbrev pub putting_off : PutOff → Blocks → Blocks
+putting_off put_off blocks = record blocks { put_off = put_off }
 
 -- what is known where a shelf of this height is to be added
 abbrev pub expecting : ℕ → Blocks → Blocks
