@@ -10,9 +10,9 @@ use Rattle.bucket_index.specs.declared.blocks.Block.{Block}
 use Rattle.bucket_index.specs.declared.blocks.Blocks.{Blocks}
 use Rattle.bucket_index.specs.declared.blocks.Others.{Others}
 use Rattle.bucket_index.specs.declared.blocks.PutOff.{PutOff}
-use Rattle.bucket_index.specs.Private.Blocks.{AreCountedWhere, AreKnownIf, AreKnownOf, AreKnownWhere, AreOthers, IsBeside, IsBesideOf, IsFollowed, IsKnown, IsKnownOf, IsOwnKnown, IsOwnOf, IsPart, block_at, block_of, kept_others, lowered, no_others, no_shelves, putting_off, raised, remembered, remembered_others, with_own, with_shelf}
-use Rattle.bucket_index.proofs.KnownBlocks.{known-own, known-part, known-still, raise-known, read-changed, some-same}
-use Rattle.bucket_index.proofs.NestedBlocks.{nested-kept, nested-lowered, nested-none, nested-own, nested-raised, nested-remembered, own-nested, part-more, part-none}
+use Rattle.bucket_index.specs.Private.Blocks.{AreCountedWhere, AreKnown, AreKnownIf, AreKnownOf, AreKnownWhere, AreOthers, AreOthersKnown, IsFollowedUpTo, height_at, IsBeside, IsBesideOf, IsFollowed, IsKnown, IsKnownOf, IsOwnKnown, IsOwnOf, IsPart, block_at, block_of, kept_others, lowered, no_others, no_shelves, putting_off, raised, remembered, remembered_others, with_own, with_shelf}
+use Rattle.bucket_index.proofs.KnownBlocks.{height-read, known-own, known-part, known-still, known-with, raise-known, read-changed, some-same}
+use Rattle.bucket_index.proofs.NestedBlocks.{nested-kept, nested-lowered, nested-own, nested-raised, nested-remembered, own-nested, part-more, part-none}
 
 -- a block that was counted with a shelf knows it
 part-shelf : (kept : KeptShelf) (block : Block) → IsPart (with_shelf kept no_shelves) (with_shelf kept block)
@@ -112,18 +112,6 @@ raise-unkept k one blocks shelves long wide few here none counted = record {
         read-changed (with_shelf one) bs (block_of size k) (block_of size blocks.others.number) block at
         (λ z stood same is. subst (IsPart blocks.others.own) (sym is) (part-more one blocks.others.own z (known z (ap (slice_get bs) same ∙ stood))))
         (λ apart stood. known block stood)
-
--- the same where that is forgotten
-pub raise-without : (k : ℕ) (one : KeptShelf) (blocks : Blocks) (shelves : List KeptShelf) → length blocks.small ≡ 512 → length blocks.middle ≡ 64 → length blocks.large ≡ 8 → slice_get shelves k ≡ Some one
-    → AreCountedWhere (λ n. n ≡ k → ⊥) blocks shelves → AreCountedWhere (λ n. Unit {0}) (raised k one (record blocks { others = no_others })) shelves
-raise-without k one blocks shelves long wide few here counted =
-    raise-unkept k one (record blocks { others = no_others }) shelves long wide few here (omega arith)
-    (record {
-      each = record { small = counted.each.small; middle = counted.each.middle; large = counted.each.large };
-      others = λ some. absurd (omega (arith, some));
-      own = record { small = λ block at. part-none block; middle = λ block at. part-none block; large = λ block at. part-none block };
-      nested = nested-none blocks.nested blocks.small blocks.middle blocks.large blocks.others counted.nested;
-    })
 
 -- all are known where the blocks of a shelf are kept as they stand, whose small one knows it
 pub kept-counted : (k room : ℕ) (blocks : Blocks) (shelves : List KeptShelf) → length blocks.small ≡ 512 → length blocks.middle ≡ 64 → length blocks.large ≡ 8 → k < blocks.nested
@@ -251,3 +239,9 @@ known-put-off IsSuch put_off blocks shelves known = record { counted = λ counts
       own = record { small = counted.own.small; middle = counted.own.middle; large = counted.own.large };
       nested = counted.nested;
     }
+
+-- all are known where a shelf that changed has no more room than it had, and holds something live
+pub known-narrower : (number room : ℕ) (one : KeptShelf) (blocks : Blocks) (shelves : List KeptShelf) → slice_get shelves number ≡ Some one → (one.widest_room ≤ room) × (is_kept_idle one ≡ false)
+    → IsFollowedUpTo number (height_at shelves number) room blocks → AreOthersKnown number blocks shelves → AreKnown blocks shelves
+known-narrower number room one blocks shelves there is before others =
+    known-with number one blocks shelves there (before one (height-read shelves number one there) is.0 is.1) others

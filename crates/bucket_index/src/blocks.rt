@@ -86,45 +86,47 @@ const NO_OTHERS: Others = Others {
     large: NO_SHELVES,
 };
 
-/// Which small block is left as it is though a shelf of it has less now, as one or two narrow and widen in turn: it may know
-/// too much for a while. And which shelves were lowered last.
+/// Which small block is left as it is though a shelf of it has less now, as some of its shelves narrow and widen in turn: it
+/// may know too much for a while. And which one was lowered of late.
 #[derive(Clone, Copy)]
 pub struct PutOff {
     /// The number of the block; 512 where none is left.
     pub block: usize,
     /// How many searches there were since a shelf of it had less.
     pub searches: usize,
-    /// The shelf that was lowered last, and the one before it; 4096 where none was.
+    /// The block that was lowered last; 512 where none was.
     pub last: usize,
-    pub before: usize,
+    /// How often it was lowered again since.
+    pub times: usize,
 }
 
-/// No block is left, and no shelf was lowered.
+/// No block is left, and none was lowered.
 const NONE_PUT_OFF: PutOff = PutOff {
     block: MOST_SMALL,
     searches: 0,
-    last: MOST_SHELVES,
-    before: MOST_SHELVES,
+    last: MOST_SMALL,
+    times: 0,
 };
 
 impl PutOff {
-    /// Whether the small block of a shelf that has less now is left already, or none is and the shelf is one of the two that
-    /// were lowered last. Else it is the last of these.
-    fn comes_back(&mut self, shelf: usize) -> bool {
-        if self.block == shelf / SHELVES_OF_BLOCK {
-            return true;
+    /// Whether no block is left, and one of which a shelf has less now was lowered more often in turn than it has shelves. Else
+    /// it is the last that was lowered.
+    fn comes_back(&mut self, block: usize) -> bool {
+        if block != self.last {
+            self.last = block;
+            self.times = 0;
+            return false;
         }
-        if self.block == MOST_SMALL && (shelf == self.last || shelf == self.before) {
-            return true;
+        if self.times < SHELVES_OF_BLOCK {
+            self.times += 1;
+            return false;
         }
-        self.before = self.last;
-        self.last = shelf;
-        false
+        self.block == MOST_SMALL
     }
 
-    /// Leaves the small block of a shelf.
-    fn leave(&mut self, shelf: usize) {
-        self.block = shelf / SHELVES_OF_BLOCK;
+    /// Leaves a block.
+    fn leave(&mut self, block: usize) {
+        self.block = block;
         self.searches = 0;
     }
 
@@ -339,6 +341,18 @@ fn set_block(blocks: &mut [Block], number: usize, fresh: Block)
     }
 }
 
+/// Whether the height of each shelf is a multiple of eight.
+fn are_in_steps(shelves: &[KeptShelf]) -> bool
+    ensures { IsTrue result → spec.AreInSteps shelves.now }
+{
+    for number in 0..shelves.len() {
+        if shelves[number].shelf.height % STEP != 0 {
+            return false;
+        }
+    }
+    true
+}
+
 /// Knows nothing of the blocks up to the one of a number.
 fn forget_first(blocks: &mut [Block], last: usize) {
     for number in 0..blocks.len() {
@@ -441,7 +455,27 @@ impl Blocks {
         }
         self.are_counted = false;
         self.in_steps = true;
-        self.put_off = NONE_PUT_OFF;
+        self.put_off.block = MOST_SMALL;
+    }
+
+    /// Knows these shelves in place of others. Of few nothing but how tall they are.
+    pub fn know_all(&mut self, shelves: &[KeptShelf])
+        ensures { spec.AreKnown self.new shelves.now }
+    {
+        if FEW_SHELVES < shelves.len() {
+            self.know_many(shelves);
+        } else {
+            self.are_counted = false;
+            self.in_steps = are_in_steps(shelves);
+        }
+    }
+
+    /// The same where there are many.
+    #[inline(never)]
+    fn know_many(&mut self, shelves: &[KeptShelf])
+        ensures { spec.AreKnown self.new shelves.now }
+    {
+        *self = Blocks::of(shelves);
     }
 
     /// Knows how tall a shelf is that is to be added.
@@ -575,7 +609,7 @@ impl Blocks {
         requires others { spec.AreOthersKnown number self.old shelves.now }
         ensures { spec.AreKnown self.new shelves.now }
     {
-        self.others = NO_OTHERS;
+        self.others.number = MOST_SHELVES;
         self.raise(number, &shelves[number]);
     }
 
@@ -674,7 +708,7 @@ impl Blocks {
         let small = number / SHELVES_OF_BLOCK;
         let middle = number / SHELVES_OF_MIDDLE;
         let large = number / SHELVES_OF_LARGE;
-        self.others = NO_OTHERS;
+        self.others.number = MOST_SHELVES;
         self.is_late = false;
         set_block(&mut self.small, small, fresh);
         let fresh_middle = gathered(&self.small, middle * PARTS_OF_BLOCK);
@@ -925,6 +959,21 @@ impl Blocks {
         requires others { spec.AreOthersKnown number self.old shelves.now }
         ensures { spec.AreKnown self.new shelves.now }
     {
+        if !self.leaves_again(number, before.widest_room, &shelves[number]) {
+            self.follow_any(shelves, number, before);
+        }
+    }
+
+    /// The same where its small block isn't left as it is.
+    #[inline(never)]
+    fn follow_any(&mut self, shelves: &[KeptShelf], number: usize, before: Block)
+        requires counted { self.old.are_counted ≡ true }
+        requires within { number < length shelves.now }
+        requires before { spec.IsFollowedUpTo number (spec.height_at shelves.now number)
+            before.widest_room self.old }
+        requires others { spec.AreOthersKnown number self.old shelves.now }
+        ensures { spec.AreKnown self.new shelves.now }
+    {
         if self.is_late {
             self.follow_late(shelves, number, before);
         } else {
@@ -950,19 +999,37 @@ impl Blocks {
         }
     }
 
-    /// Whether the small block of the shelf of a number, which had this room, is left as it is: it knows the shelf, which
-    /// narrows now and then.
+    /// Whether the small block of the shelf of a number, which had this room, is left as it is: it knows the shelf, and shelves
+    /// of it narrow now and then.
     fn leaves(&mut self, number: usize, room: u16, kept: &KeptShelf) -> bool
         ensures known { IsTrue result → (kept.now.widest_room ≤ room) × (is_kept_idle kept.now ≡ false) }
         ensures same { self.new ≡ spec.putting_off self.new.put_off self.old }
     {
-        if !self.put_off.comes_back(number) {
+        let block = number / SHELVES_OF_BLOCK;
+        if !self.put_off.comes_back(block) {
             return false;
         }
-        if !stays_known(room, kept) || self.knows_others(number, kept.widest_room) {
+        if !stays_known(room, kept) || number == self.others.number {
             return false;
         }
-        self.put_off.leave(number);
+        self.put_off.leave(block);
+        true
+    }
+
+    /// The same where it is left already.
+    #[inline(always)]
+    fn leaves_again(&mut self, number: usize, room: u16, kept: &KeptShelf) -> bool
+        ensures known { IsTrue result → (kept.now.widest_room ≤ room) × (is_kept_idle kept.now ≡ false) }
+        ensures same { IsFalse result → self.new ≡ self.old }
+        ensures left { IsTrue result → self.new ≡ spec.putting_off self.new.put_off self.old }
+    {
+        if self.put_off.block != number / SHELVES_OF_BLOCK || number == self.others.number {
+            return false;
+        }
+        if !stays_known(room, kept) {
+            return false;
+        }
+        self.put_off.searches = 0;
         true
     }
 

@@ -104,6 +104,17 @@ impl Heights {
         heights
     }
 
+    /// Knows these shelves in place of others.
+    pub fn know_all(&mut self, shelves: &[KeptShelf])
+        ensures { spec.AreBelow self.new shelves.now }
+    {
+        if FEW_SHELVES < shelves.len() {
+            self.learn(shelves);
+        } else {
+            self.are_known = false;
+        }
+    }
+
     /// Knows nothing any more.
     pub fn forget(&mut self)
         ensures { self.new.are_known ≡ false }

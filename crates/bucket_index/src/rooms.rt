@@ -16,10 +16,16 @@ const SLOTS: usize = 512;
 /// No more records than this are counted.
 const FEW_RECORDS: usize = 64;
 
+/// Where so many items in turn got just the room that was found, and one for each eight records, nothing is counted any more:
+/// that has told nothing of late.
+const EXACT_IN_TURN: usize = 32;
+
 /// How many records can give a width of each slot. What is counted as 65535 may be more.
 #[derive(Clone, Copy)]
 pub struct Rooms {
     pub are_counted: bool,
+    /// How many items in turn got just the room that was found, since they are counted.
+    pub exact: usize,
     pub counts: [u16; SLOTS],
 }
 
@@ -84,6 +90,7 @@ impl Rooms {
     {
         Rooms {
             are_counted: false,
+            exact: 0,
             counts: [0; SLOTS],
         }
     }
@@ -94,6 +101,7 @@ impl Rooms {
     {
         let mut rooms = Rooms {
             are_counted: true,
+            exact: 0,
             counts: [0; SLOTS],
         };
         for number in 0..buckets.len() {
@@ -111,7 +119,8 @@ impl Rooms {
     }
 
     /// Counts all of these records, unless they are few or counted, where one of them gives an item this wide and has other
-    /// room: then an exact one was looked for in the other ones of so many shelves.
+    /// room: then an exact one was looked for in the other ones of so many shelves. Where many have just the room in turn,
+    /// what was counted is forgotten.
     #[inline(always)]
     pub fn count_unless_exact(
         &mut self,
@@ -124,8 +133,26 @@ impl Rooms {
         ensures { spec.AreCounted self.new buckets.now }
     {
         let are_many = buckets.len() > FEW_RECORDS && shelves > 1;
-        if u32::from(room) != width && are_many && !self.are_counted {
+        let is_exact = u32::from(room) == width;
+        if self.are_counted {
+            self.count_exact(is_exact, buckets.len());
+        } else if !is_exact && are_many {
             self.count(buckets);
+        }
+    }
+
+    /// Counts that a search of so many records found just the room, or that one didn't. Where many did in turn, what was counted
+    /// is forgotten.
+    fn count_exact(&mut self, is_exact: bool, records: usize)
+        ensures { (buckets : List LinkedBucket) → spec.AreCounted self.old buckets
+            → spec.AreCounted self.new buckets }
+    {
+        if !is_exact {
+            self.exact = 0;
+        } else if self.exact < EXACT_IN_TURN + records / 8 {
+            self.exact += 1;
+        } else {
+            self.are_counted = false;
         }
     }
 

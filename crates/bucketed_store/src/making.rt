@@ -212,7 +212,7 @@ fn push_buckets(buckets: &mut Vec<LinkedBucket>, first: Link, new: &NewBuckets, 
 }
 
 /// Makes so many buckets from left to right, each in front of the one before, and answers the link to the last. Never
-/// inlined: mostly the unused records serve for all.
+/// inlined: where the unused records don't serve for all, mostly none is left.
 #[inline(never)]
 fn make_rest(
     buckets: &mut Vec<LinkedBucket>,
@@ -242,9 +242,6 @@ fn make_rest(
     ensures capacity { vec_capacity buckets.old ≤ vec_capacity buckets.new }
     ensures spans { AreSpans spans.new buckets.new.items }
 {
-    if unused.number().is_none() {
-        return push_buckets(buckets, first, new, count);
-    }
     let mut first = first;
     let mut left = *unused;
     let mut here = *new;
@@ -297,6 +294,9 @@ pub(crate) fn make_buckets(
     }
     if rest == 1 {
         return make_bucket(buckets, spans, unused, first, &here);
+    }
+    if unused.number().is_none() {
+        return push_buckets(buckets, first, &here, rest);
     }
     make_rest(buckets, spans, unused, first, &here, rest)
 }

@@ -611,8 +611,8 @@ impl Store {
             added,
             left,
         );
-        self.blocks = Blocks::of(&self.shelves);
-        self.heights = Heights::of(&self.shelves);
+        self.blocks.know_all(&self.shelves);
+        self.heights.know_all(&self.shelves);
         self.may_be_long = true;
         Ok(left - rest)
     }

@@ -32,6 +32,3 @@ loop-made-preserved c =
       capacity = omega (arith, c.loop-made.invariant.capacity, c.make_bucket-first.ensures.capacity);
       spans = c.make_bucket-first.ensures.spans;
     }
-
-pub returns-then-is_none-clause-spans : goal.returns-then-is_none-clause-spans
-returns-then-is_none-clause-spans c = c.push_buckets.ensures.spans c.args.spans.now c.requires.spans

@@ -1,8 +1,9 @@
 use Rattle.std.proofs.Common.{rules, ◌≡◌, ◌*◌, List, Some, length, arith, subst, ◌∙◌}
+use Rattle.std.proofs.lemmas.Option.{slice_get_within}
 use Rattle.etagere_links.proofs.RecordChanges.{length-changed_by}
-use Rattle.bucket_index.specs.Private.Blocks.{AreKnownOf, Block, block_of, no_others}
+use Rattle.bucket_index.specs.Private.Blocks.{AreKnownOf, Block, block_of}
 use Rattle.bucket_index.proofs.KnownBlocks.{AreGathered, gathered-large, gathered-middle, set-of}
-use Rattle.bucket_index.proofs.NestedBlocks.{nested-gathered, part-none}
+use Rattle.bucket_index.proofs.NestedBlocks.{nested-gathered}
 use Rattle.bucket_index.proofs.blocks.Blocks.count_anew.Goals as goal
 
 pub returns-clause-known : goal.returns-clause-known
@@ -23,6 +24,8 @@ returns-clause-known c =
     (gathered-middle number c.gathered-fresh_middle.result c.set_block.new.blocks old.middle shelves long_ wide small c.gathered-fresh_middle.ensures) counted.each.middle) in
     let wide_ : length c.set_block-2.new.blocks ≡ 64 =
     rw c.set_block-2.ensures (length-changed_by (λ (block : Block). c.gathered-fresh_middle.result) old.middle (Some (block_of 64 number)) ∙ wide) in
+    let few_ : length c.set_block-3.new.blocks ≡ 8 =
+    rw c.set_block-3.ensures (length-changed_by (λ (block : Block). c.gathered-fresh_large.result) old.large (Some (block_of 512 number)) ∙ few) in
     record {
       counted = λ _. record {
         each = record {
@@ -32,10 +35,14 @@ returns-clause-known c =
               (gathered-large number c.gathered-fresh_large.result c.set_block-2.new.blocks old.large shelves wide_ few middle c.gathered-fresh_large.ensures) counted.each.large);
         };
         others = λ some. absurd (omega (arith, some));
-        own = record { small = λ block at. part-none block; middle = λ block at. part-none block; large = λ block at. part-none block };
+        own = record {
+          small = λ block at. absurd (omega (arith, long_, slice_get_within c.set_block.new.blocks 512 block at));
+          middle = λ block at. absurd (omega (arith, wide_, slice_get_within c.set_block-2.new.blocks 64 block at));
+          large = λ block at. absurd (omega (arith, few_, slice_get_within c.set_block-3.new.blocks 8 block at));
+        };
         nested =
             rw (c.set_block-3.ensures, c.set_block-2.ensures, c.set_block.ensures)
-            (nested-gathered old.nested number c.args.fresh c.gathered-fresh_middle.result c.gathered-fresh_large.result old.small old.middle old.large no_others long wide few (λ some. omega (arith, some))
+            (nested-gathered old.nested number c.args.fresh c.gathered-fresh_middle.result c.gathered-fresh_large.result old.small old.middle old.large (record old.others { number = 4096 }) long wide few (λ some. omega (arith, some))
             (subst (λ (bs : List Block). AreGathered (block_of 64 number * 8) bs c.gathered-fresh_middle.result) c.set_block.ensures c.gathered-fresh_middle.ensures)
             (subst (λ (bs : List Block). AreGathered (block_of 512 number * 8) bs c.gathered-fresh_large.result) c.set_block-2.ensures c.gathered-fresh_large.ensures)
             (length-changed_by (λ (block : Block). c.args.fresh) old.small (Some (block_of 8 number)) ∙ long)

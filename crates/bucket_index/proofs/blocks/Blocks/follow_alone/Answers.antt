@@ -1,19 +1,9 @@
-use Rattle.std.proofs.Common.{◌≡◌, ◌≤◌, ℕ, List, Some, false, length, refl, subst, sym}
+use Rattle.std.proofs.Common.{◌≡◌, length, refl, subst, sym}
 use Rattle.std.proofs.lemmas.Option.{slice_get_read}
-use Rattle.std.specs.Prelude.{slice_get}
-use Rattle.bucketed_records.specs.declared.records.KeptShelf.{KeptShelf}
-use Rattle.bucketed_records.specs.Private.Store.{is_kept_idle}
 use Rattle.bucket_index.specs.declared.blocks.Blocks.{Blocks}
-use Rattle.bucket_index.specs.Private.Blocks.{AreKnown, AreOthersKnown, IsFollowedUpTo, height_at}
-use Rattle.bucket_index.proofs.KnownBlocks.{height-read, known-with}
-use Rattle.bucket_index.proofs.OtherShelves.{known-put-off}
+use Rattle.bucket_index.specs.Private.Blocks.{AreKnown, AreOthersKnown}
+use Rattle.bucket_index.proofs.OtherShelves.{known-narrower, known-put-off}
 use Rattle.bucket_index.proofs.blocks.Blocks.follow_alone.Goals as goal
-
--- all are known where a shelf that changed has no more room than it had, and holds something live
-known-narrower : (number room : ℕ) (one : KeptShelf) (blocks : Blocks) (shelves : List KeptShelf) → slice_get shelves number ≡ Some one → (one.widest_room ≤ room) × (is_kept_idle one ≡ false)
-    → IsFollowedUpTo number (height_at shelves number) room blocks → AreOthersKnown number blocks shelves → AreKnown blocks shelves
-known-narrower number room one blocks shelves there is before others =
-    known-with number one blocks shelves there (before one (height-read shelves number one there) is.0 is.1) others
 
 pub lower-requires-clause-others : goal.lower-requires-clause-others
 lower-requires-clause-others c =

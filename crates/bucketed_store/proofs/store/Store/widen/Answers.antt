@@ -12,7 +12,7 @@ pub overflow_sub-result : goal.overflow_sub-result
 overflow_sub-result c = omega (arith, c.left_after-rest.ensures, left-le c.args.added c.args.left c.deref.result.now)
 
 pub invariant_of-self-2 : goal.invariant_of-self-2
-invariant_of-self-2 c = (subst (AreKnown c.of-self-inside.result) c.deref-2.ensures.value c.of-self-inside.ensures, c.widen_shelves.ensures.spans, c.forget.ensures _, c.forget-2.ensures _, subst (AreBelow c.of-self-inside-2.result) c.deref-3.ensures.value c.of-self-inside-2.ensures, c.forget-3.ensures _)
+invariant_of-self-2 c = (subst (AreKnown c.know_all.new.self) c.deref-2.ensures.value c.know_all.ensures, c.widen_shelves.ensures.spans, c.forget.ensures _, c.forget-2.ensures _, subst (AreBelow c.know_all-2.new.self) c.deref-3.ensures.value c.know_all-2.ensures, c.forget-3.ensures _)
 
 pub invariant_of-self : goal.invariant_of-self
 invariant_of-self c = (c.self.invariant.0, subst (AreSpans c.self.inside.spans) (sym c.reserve_records.ensures.same) c.self.invariant.1, c.forget.ensures _, c.forget-2.ensures _, c.self.invariant.4, c.forget-3.ensures _)
