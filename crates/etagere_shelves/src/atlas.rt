@@ -244,9 +244,10 @@ impl AtlasAllocator {
     /// Before that the list by height follows the shelves that were split or merged since the last search: each goes where
     /// it belongs by binary search, and an end of the list moves; many are sorted anew. In the first searches after a
     /// change all shelves are gone through instead where no more than some dozen are listed, along no more than 128 free
-    /// items; of more than 96 the first 16, where one of just the height was among these of late. Those whose free items
-    /// are all narrower than what was asked for of late stay out of a long list; where some do, what is as narrow has all
-    /// shelves sorted anew, the more rarely the more often it came.
+    /// items; of more than 96 the first 16, and four more for each that has changed, where more than eight have or one of
+    /// just the height was among these of late. Those whose free items are all narrower than what was asked for of late
+    /// stay out of a long list; where some do, what is as narrow has all shelves sorted anew, the more rarely the more
+    /// often it came.
     #[inline(always)]
     pub fn allocate(&mut self, size: Size) -> Result<Option<Allocation>, AllocError>
         ensures placed { IfOk result

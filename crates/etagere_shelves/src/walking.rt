@@ -72,7 +72,7 @@ fn walk_if_few(
 {
     match by_place(records, by_height, pending) {
         ByPlace::All => {}
-        ByPlace::First => return look_first(records, pending, width, height),
+        ByPlace::First(most) => return look_first(records, pending, width, height, most),
         ByPlace::NoShelves => return Walked::NotThrough,
     }
     let walked = walk_shelves(records, width, height, height, WALKED_ITEMS);
@@ -83,15 +83,21 @@ fn walk_if_few(
     walked
 }
 
-/// Goes through the first of many shelves, for one of just the height.
-fn look_first(records: &Records, pending: &mut PendingShelves, width: u32, height: u32) -> Walked
+/// Goes through so many of the first shelves, for one of just the height.
+fn look_first(
+    records: &Records,
+    pending: &mut PendingShelves,
+    width: u32,
+    height: u32,
+    most: u32,
+) -> Walked
     requires linked { IsLinked records.now (walked_lists records.now) }
     requires short { height ≤ longest_side }
     ensures through { IsThrough records.now width height result }
     ensures notes { pending.new.notes ≡ pending.old.notes }
     ensures room { pending.new.room ≡ pending.old.room }
 {
-    let walked = look_at_first(records, width, height);
+    let walked = look_at_first(records, width, height, most);
     match walked {
         Walked::Through(_) => pending.count_look(),
         Walked::NotThrough => pending.rest_from_looks(),

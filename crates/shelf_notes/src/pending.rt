@@ -30,6 +30,9 @@ const RARELY_GIVEN_UP: u32 = 6;
 /// So many searches do at most once a look at the first shelves was in vain.
 const RESTED_FROM_LOOKS: u32 = 64;
 
+/// Where more have changed than this, the list has much to follow, and no search counts as the last.
+const RESTED_WITH: usize = 8;
+
 /// Where fewer shelves are listed, none is parked.
 const LISTED_TO_PARK: usize = 64;
 
@@ -223,7 +226,7 @@ impl PendingShelves {
         ensures notes { self.new.notes ≡ self.old.notes }
         ensures room { self.new.room ≡ self.old.room }
     {
-        if self.rested > 0 {
+        if self.rested > 0 && self.noted.len() <= RESTED_WITH {
             self.rested -= 1;
             self.searches = MOST_SEARCHES;
         }

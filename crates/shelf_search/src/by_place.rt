@@ -26,12 +26,6 @@ use shelf_records::{LinkedShelf, Records};
 /// A search for bad fits goes through no more free items.
 const WALKED_ITEMS: u32 = 64;
 
-/// A look at the first shelves goes through so many.
-const FIRST_SHELVES: u32 = 16;
-
-/// And through no more free items.
-const FIRST_ITEMS: u32 = 16;
-
 /// What going through all shelves came to.
 #[derive(Clone, Copy)]
 pub enum Walked {
@@ -112,18 +106,18 @@ pub(crate) fn walk_bad_fits(records: &Records, width: u32, height: u32) -> Walke
     walk_shelves(records, width, height, BAD_FIT_RANK, WALKED_ITEMS)
 }
 
-/// Goes through the first shelves up to one of just the height that has room: none ranks lower. Never inlined, since few
-/// searches do it.
+/// Goes through so many first shelves, up to one of just the height that has room: none ranks lower. It is given up where
+/// that would go through more free items. Never inlined, since few searches do it.
 #[inline(never)]
-pub fn look_at_first(records: &Records, width: u32, height: u32) -> Walked
+pub fn look_at_first(records: &Records, width: u32, height: u32, most: u32) -> Walked
     requires linked { IsLinked records.now (walked_lists records.now) }
     requires short { height ≤ longest_side }
     ensures through { searching.IsThrough records.now width height result }
 {
     let limit = height + 1;
-    let mut left = FIRST_ITEMS;
+    let mut left = most;
     let mut shelf = usize::from(records.first_shelf().bits());
-    for _step in 0..FIRST_SHELVES {
+    for _step in 0..most {
         if shelf >= NO_NUMBER {
             break;
         }

@@ -56,6 +56,15 @@ const LAST_CHANGED: usize = 12;
 /// Where more have changed than this, shelves aren't gone through: each may be one that the list hasn't.
 const WALKED_CHANGES: usize = 64;
 
+/// Where more shelves are listed than are gone through, so many first ones are looked at, and some more for each that has
+/// changed.
+const LOOKED_AT: usize = 16;
+
+const LOOKED_AT_FOR_ONE: usize = 4;
+
+/// Of no more that have changed.
+const MOST_LOOKED_AT: usize = 65535;
+
 /// Where what is asked for is narrower than this part of a column, no shelves are parked: few are so full.
 const PARKED_PART: u32 = 8;
 
@@ -104,8 +113,8 @@ pub fn settle_for(
 pub enum ByPlace {
     /// All, since they are few: to make the list follow would be more work.
     All,
-    /// The first ones: where one of just the height has room, the list needn't follow.
-    First,
+    /// So many first ones: where one of just the height has room, the list needn't follow.
+    First(u32),
     /// None.
     NoShelves,
 }
@@ -132,9 +141,14 @@ pub fn by_place(
             return ByPlace::All;
         }
     } else if is_early {
-        return ByPlace::First;
+        return ByPlace::First(looked_at(pending.len()));
     }
     ByPlace::NoShelves
+}
+
+/// How many first shelves are looked at where so many have changed: that is less work than to make the list follow these.
+fn looked_at(changed: usize) -> u32 {
+    (LOOKED_AT + LOOKED_AT_FOR_ONE * changed.min(MOST_LOOKED_AT)) as u32
 }
 
 /// Whether shelves are so few that all are gone through in a search, which may be one of the first since one has changed.
