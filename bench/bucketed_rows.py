@@ -228,14 +228,24 @@ def last_ones_go(shelves, some):
     return make
 
 
-def first_two_go(_program):
-    """256 full shelves of a bucket each, of which the first two go, and two come."""
-    filling, holders, lines = ["bucketed 256 4096 1 1 1 h"] + ["a 256 16"] * 256, [0, 1], []
-    for _ in range(ROUNDS // 4):
-        lines += [f"r {position}" for position in holders]
-        holders = [256 + len(lines), 257 + len(lines)]
-        lines += ["a 256 16"] * 2
-    return filling, lines
+def first_ones_go(shelves, some, width=256):
+    """Shelves of a bucket each, that have an item of this width, of which some of the first go, and as many full ones come."""
+
+    def make(_program):
+        filling, holders, lines = [f"bucketed 256 {16 * shelves} 1 1 1 h"] + [f"a {width} 16"] * shelves, range(some), []
+        for _ in range(ROUNDS // 4):
+            lines += [f"r {position}" for position in holders]
+            holders = range(shelves + len(lines), shelves + len(lines) + some)
+            lines += ["a 256 16"] * some
+        return filling, lines
+
+    return make
+
+
+def grown(_program):
+    """An atlas with three items grows by a pixel each time."""
+    sizes = [f"g {101 + times} {66 + times}" for times in range(ROUNDS)]
+    return ["bucketed 100 65 2 2 1 h", "a 30 20", "a 25 18", "a 30 30"], sizes
 
 
 def shelves_too_tall(_program):
@@ -287,7 +297,9 @@ ROWS = {
     "44 shelves that are too tall: eight more come and go": Row(last_low_ones(44), 551, before=690),
     "41 low or full shelves: an item comes, and its shelf goes with it": Row(low_and_tall, 436, before=668),
     "40 low or full shelves in four columns: three more come and go": Row(last_ones_go(40, 3), 466, before=554),
-    "256 full shelves: the first two go, and two come": Row(first_two_go, 162),
+    "256 full shelves: the first two go, and two come": Row(first_ones_go(256, 2), 162, before=361),
+    "65 shelves with a little room: the first three go, and three come": Row(first_ones_go(65, 3, 192), 177, before=388),
+    "three items: a grow": Row(grown, 128, before=6127),
     "3000 items that add a shelf each, since all are too tall": Row(shelves_too_tall, 24337, before=17944, most=MOST),
     "4000 empty shelves: a narrower item comes and goes": Row(empty_shelves, 94132, before=88714, most=MOST),
     "4094 empty shelves: each item has two of them merged": Row(merges, 154910, before=118894, most=MOST),

@@ -242,6 +242,23 @@ def drained_beside_first(shelves):
     return make
 
 
+def drained_by_many(shelves, some, per_shelf=1):
+    """Shelves in two columns, full of so many items each, that go in any order, and after some of them an item comes."""
+
+    def make(_program):
+        width = 128 // per_shelf
+        items = 2 * shelves * per_shelf
+        positions = list(range(items))
+        random.Random(1).shuffle(positions)
+        filling = [f"atlas 256 {8 * shelves} 1 1 2 h"] + [f"a {width} 8"] * items
+        lines = []
+        for at in range(0, items - some, some):
+            lines += [f"r {position}" for position in positions[at : at + some]] + [f"a {width} 8"]
+        return filling, lines
+
+    return make
+
+
 def gaps_filled(_program):
     """200 shelves of four heights, of which every third went once two more were refused: an item of each height comes, and
     they go in any order.
@@ -312,6 +329,8 @@ ROWS = {
     ),
     # Counted likewise, as the next two.
     "150 full shelves go in any order, after each an item comes to the first": Row(drained_beside_first(150), 163, before=334),
+    "2000 full shelves go in any order, after each 100 an item comes": Row(drained_by_many(1000, 100), 144, before=2251),
+    "250 shelves of four items, after each 12 that go one comes": Row(drained_by_many(125, 12, 4), 159, before=363),
     "200 shelves of four heights with gaps that are filled and emptied": Row(gaps_filled, 230, before=567),
     "eight sprites in four columns, and a clear": Row(frames_of_sprites, 402, before=510),
     "65535 columns, the same item": Row(in_columns(65535), 182, before=363),
