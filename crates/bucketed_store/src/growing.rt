@@ -31,6 +31,9 @@ fn share(added: u32, width: u16, left: u32) -> u32
 pub(crate) fn left_after(shelves: &[KeptShelf], added: u32, left: u32) -> u32
     ensures { result ≡ spec.left_after added left shelves.now }
 {
+    if added == 0 {
+        return left;
+    }
     let mut left = left;
     for kept in shelves {
         left -= share(added, kept.shelf.bucket_width, left);

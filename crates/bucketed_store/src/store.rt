@@ -597,10 +597,13 @@ impl Store {
             (grows.shelves_widened
             (length self.old.shelves) 0 place added left self.old).buckets) }
     {
+        let rest = left_after(&self.shelves, added, left);
+        if rest == left {
+            return Ok(0);
+        }
         self.rest.forget();
         self.rooms.forget();
         self.missed.forget();
-        let rest = left_after(&self.shelves, added, left);
         reserve_records(&mut self.buckets, MOST_BUCKETS - rest)?;
         widen_shelves(
             &mut self.shelves,

@@ -12,7 +12,7 @@ left-le added left [] = omega arith
 left-le added left (x ∷ xs) = omega (arith, left-le added (left - share added x.shelf.bucket_width left) xs)
 
 -- what a shelf and those behind it leave
-left-next : (added left n : ℕ) (xs : List KeptShelf) → n < length xs
+pub left-next : (added left n : ℕ) (xs : List KeptShelf) → n < length xs
     → left_after added left (drop n xs) ≡ left_after added (left - share added (width_of xs n) left) (drop (suc n) xs)
 left-next added left n [] within = absurd (omega (arith, within))
 left-next added left zero (x ∷ xs) within = refl
