@@ -141,7 +141,8 @@ fn an_atlas_is_not_made() {
 #[test]
 fn nothing_is_allocated() {
     let mut refusals = 0;
-    for count in 0..9 {
+    // A new atlas has room for the records of 16 items.
+    for count in 12..18 {
         let make = || {
             let mut atlas = AtlasAllocator::new(size2(64, 64));
             for _ in 0..count {
@@ -151,7 +152,7 @@ fn nothing_is_allocated() {
         };
         refusals += refusing(
             make,
-            |atlas| atlas.try_allocate(size2(10, 30)),
+            |atlas| atlas.try_allocate(size2(10, 10)),
             |atlas, answer, refused| {
                 assert_eq!(answer.err(), refused.then_some(AllocError));
                 assert_eq!(atlas.iter().count(), count + usize::from(!refused));
@@ -170,11 +171,11 @@ fn nothing_is_allocated() {
 
 #[test]
 fn nothing_grows() {
-    let wide = size2(4096, 64);
+    let wide = size2(4096, 128);
     let mut of_atlas = 0;
-    for count in 1..5 {
+    for count in 8..12 {
         let make = || {
-            let mut atlas = AtlasAllocator::new(size2(64, 64));
+            let mut atlas = AtlasAllocator::new(size2(64, 128));
             (0..count).for_each(|_| assert!(atlas.allocate(size2(64, 8)).is_some()));
             atlas
         };

@@ -21,8 +21,8 @@ use shelf_heights::heights::bounded;
 use shelf_records::{Chain, LinkedItem, LinkedShelf, Records, next_of};
 use std::alloc::{AllocError, Global};
 
-/// A new atlas has room for so many shelves by height, and for notes and widths of them, so that the first few take no
-/// memory there.
+/// A new atlas has room for so many shelves and items, and for entries, notes and widths of the shelves, so that the first few
+/// take no memory.
 pub(crate) const FIRST_ROOM: usize = 16;
 
 /// The generation of a record that was just made.
@@ -33,8 +33,9 @@ pub fn fresh_records(alloc: Global, frame: &Frame) -> Result<Records, AllocError
     requires { IsFrame longest_side frame.now }
     ensures { IfOk result (λ records. records ≡ spec.fresh_records frame.now) }
 {
-    let mut shelves = Vec::with_capacity(alloc, frame.columns as usize)?;
-    let mut items = Vec::with_capacity(alloc, frame.columns as usize)?;
+    let room = (frame.columns as usize).max(FIRST_ROOM);
+    let mut shelves = Vec::with_capacity(alloc, room)?;
+    let mut items = Vec::with_capacity(alloc, room)?;
     for column in 0..frame.columns {
         shelves.push_reserved(fresh_shelf(frame, column));
         items.push_reserved(fresh_item(frame, column));

@@ -20,8 +20,8 @@ use shelf_records::{LinkedShelf, Records};
 use std::alloc::{AllocError, Global};
 
 /// Makes room for the shelves of so many records, and for notes and widths of them, of which those that are missing are to
-/// be made: an unused one has its room. Where there is none, it is made for a quarter more. The error comes only where some
-/// are missing and there was no memory.
+/// be made: an unused one has its room. Where there is none, it is made for a quarter more, and for some at least. The error
+/// comes only where some are missing and there was no memory.
 pub fn reserve_shelves(
     records: &Records,
     by_height: &mut ShelvesByHeight,
@@ -55,7 +55,12 @@ pub fn reserve_shelves(
     if room <= by_height.room() && room <= pending.room() {
         return Ok(());
     }
-    reserve_room(by_height, pending, seconds, room + room / 4)
+    reserve_room(
+        by_height,
+        pending,
+        seconds,
+        room + (room / 4).max(FIRST_ROOM),
+    )
 }
 
 /// Makes room for so many shelves, and for notes and widths of them. Never inlined, so that where no record is missing no
