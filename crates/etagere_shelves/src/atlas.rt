@@ -110,8 +110,8 @@ impl AtlasAllocator {
     /// An empty atlas of this size in pixels, with the default options.
     ///
     /// Returns the first fault; `Memory` only where there is no other and no memory. Takes memory for the records of
-    /// one shelf and its item, and for 16 entries in the list by height, each with a note and a width. Takes constant
-    /// time.
+    /// 16 shelves and 16 items, and for as many entries in the list by height, each with a note and a width. Takes
+    /// constant time.
     pub fn new(alloc: Global, size: Size) -> Result<AtlasAllocator, OptionsFault>
         ensures ok { IfOk result
             (λ atlas. atlas ≡ fresh (frames.atlas_frame size default_options)) }
@@ -129,8 +129,8 @@ impl AtlasAllocator {
     /// An empty atlas of this size in pixels.
     ///
     /// Returns the first fault; `Memory` only where there is no other and no memory. Takes memory for the records of a
-    /// shelf and its item in each column, and for the shelf's entry in the list by height with a note and a width, at
-    /// least 16 of these. Goes through the columns.
+    /// shelf and its item in each column, and for the shelf's entry in the list by height with a note and a width, for
+    /// 16 of each at least. Goes through the columns.
     pub fn with_options(
         alloc: Global,
         size: Size,
@@ -236,16 +236,17 @@ impl AtlasAllocator {
     /// `Err` comes only where the item or shelf must be split, too few records are unused for that, and there was no
     /// memory. After an `Err` or none nothing has changed. Memory is taken only for records that are made: of items,
     /// and of a shelf with its entry in the list by height, a note and a width, for which there is then room for a quarter
-    /// more. A split for which there are unused records takes none, nor does a size that needs no split.
+    /// more, and for 16 at least. A split for which there are unused records takes none, nor does a size that needs no split.
     ///
     /// Finds the first shelf that is tall enough where it did last time, or by binary search, and goes on by height; of
     /// each shelf that may have an item wide enough it searches the free list up to the first that is. Where all that fit
     /// are much too tall, it looks at the first such shelf of each height, and searches the free list of the earliest.
     /// Before that the list by height follows the shelves that were split or merged since the last search: each goes where
     /// it belongs by binary search, and an end of the list moves; many are sorted anew. In the first searches after a
-    /// change all shelves are gone through instead where no more than some dozen are listed, along no more than 128 free
-    /// items; of more than 96 the first 16, and four more for each that has changed, where more than eight have or one of
-    /// just the height was among these of late. Those whose free items are all narrower than what was asked for of late
+    /// change all shelves are gone through instead where no more than some dozen are listed, or a dozen for each that has
+    /// changed, along no more than 128 free items; of more than 96 the first 16, and eight more for each that has changed,
+    /// where more than two have or one of just the height was among these of late. Where all would be sorted anew, up to
+    /// three searches in turn go through all shelves instead, along no more than 1024 free items. Those whose free items are all narrower than what was asked for of late
     /// stay out of a long list; where some do, what is as narrow has all shelves sorted anew, the more rarely the more
     /// often it came.
     #[inline(always)]

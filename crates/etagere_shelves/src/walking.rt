@@ -15,8 +15,8 @@ use etagere_base::Frame;
 use shelf_heights::by_height::ShelvesByHeight;
 use shelf_notes::pending::PendingShelves;
 use shelf_records::Records;
-use shelf_search::by_place::{Walked, look_at_first, walk_shelves};
-use shelf_store::settling::{ByPlace, by_place, follows, settle_for};
+use shelf_search::by_place::{Walked, look_at_first, walk_many, walk_shelves};
+use shelf_store::settling::{ByPlace, by_place, follows, goes_far, settle_for};
 
 /// To go through more free items than this is more work than to make the list by height follow.
 const WALKED_ITEMS: u32 = 128;
@@ -72,7 +72,7 @@ fn walk_if_few(
 {
     match by_place(records, by_height, pending) {
         ByPlace::All => {}
-        ByPlace::First(most) => return look_first(records, pending, width, height, most),
+        ByPlace::First(most) => return look_first(records, by_height, pending, width, height, most),
         ByPlace::NoShelves => return Walked::NotThrough,
     }
     let walked = walk_shelves(records, width, height, height, WALKED_ITEMS);
@@ -83,9 +83,11 @@ fn walk_if_few(
     walked
 }
 
-/// Goes through so many of the first shelves, for one of just the height.
+/// Goes through so many of the first shelves, for one of just the height; through all where there is none, and all would be
+/// sorted anew, in some searches in turn.
 fn look_first(
     records: &Records,
+    by_height: &ShelvesByHeight,
     pending: &mut PendingShelves,
     width: u32,
     height: u32,
@@ -98,9 +100,13 @@ fn look_first(
     ensures room { pending.new.room ≡ pending.old.room }
 {
     let walked = look_at_first(records, width, height, most);
-    match walked {
-        Walked::Through(_) => pending.count_look(),
-        Walked::NotThrough => pending.rest_from_looks(),
+    if let Walked::Through(_) = walked {
+        pending.count_look();
+        return walked;
     }
+    if goes_far(by_height, pending) {
+        return walk_many(records, width, height);
+    }
+    pending.rest_from_looks();
     walked
 }

@@ -30,8 +30,11 @@ const RARELY_GIVEN_UP: u32 = 6;
 /// So many searches do at most once a look at the first shelves was in vain.
 const RESTED_FROM_LOOKS: u32 = 64;
 
+/// As many searches in turn may go far in place of having all shelves sorted.
+const FAR_IN_TURN: u32 = 3;
+
 /// Where more have changed than this, the list has much to follow, and no search counts as the last.
-const RESTED_WITH: usize = 8;
+const RESTED_WITH: usize = 2;
 
 /// Where fewer shelves are listed, none is parked.
 const LISTED_TO_PARK: usize = 64;
@@ -104,6 +107,8 @@ pub struct PendingShelves {
     walks: u32,
     /// How many searches do once the next look is in vain. Nothing rests on it.
     in_vain: u32,
+    /// How many searches in turn went far. Nothing rests on it.
+    far: u32,
     /// What was asked for of late. Nothing rests on it.
     watch: Watch,
 }
@@ -154,6 +159,7 @@ impl PendingShelves {
             rested: 0,
             walks: RARELY_GIVEN_UP,
             in_vain: 1,
+            far: 0,
             watch: UNWATCHED,
         })
     }
@@ -195,6 +201,7 @@ impl PendingShelves {
             rested: self.rested,
             walks: self.walks,
             in_vain: self.in_vain,
+            far: self.far,
             watch: self.watch,
         };
         pending.reserve(room)?;
@@ -273,6 +280,16 @@ impl PendingShelves {
     {
         self.rested = self.in_vain;
         self.in_vain = 4 * self.in_vain.min(RESTED_FROM_LOOKS / 4);
+    }
+
+    /// Whether a search may go far in place of having all shelves sorted: some in turn may, and the one after them may not.
+    pub fn goes_far(&mut self) -> bool
+        ensures notes { self.new.notes ≡ self.old.notes }
+        ensures room { self.new.room ≡ self.old.room }
+    {
+        let goes = self.far < FAR_IN_TURN;
+        self.far = if goes { self.far + 1 } else { 0 };
+        goes
     }
 
     /// The number of one of them, in the order in which they changed.

@@ -5,7 +5,7 @@
 //! first shelf ends the search that has room and than which none ranks lower. It is given up where it would go through more
 //! free items than it may.
 
-ghost use Rattle.std.specs.Prelude.{◌≡◌, ◌≤◌, ◌*◌, ◌+◌, ◌<◌, IfSome, None, Option, length};
+ghost use Rattle.std.specs.Prelude.{◌≡◌, ℕ, true, ◌≤◌, ◌*◌, ◌+◌, ◌<◌, IfSome, None, Option, length};
 ghost use Rattle.etagere_base.specs.Frames.{longest_side};
 ghost use Rattle.etagere_base.specs.Lists.{times};
 ghost use Rattle.etagere_links.specs.Edits.{link_at};
@@ -25,6 +25,9 @@ use shelf_records::{LinkedShelf, Records};
 
 /// A search for bad fits goes through no more free items.
 const WALKED_ITEMS: u32 = 64;
+
+/// Nor does a search that is made in place of sorting many shelves.
+const MANY_ITEMS: u32 = 1024;
 
 /// What going through all shelves came to.
 #[derive(Clone, Copy)]
@@ -106,6 +109,16 @@ pub(crate) fn walk_bad_fits(records: &Records, width: u32, height: u32) -> Walke
     walk_shelves(records, width, height, BAD_FIT_RANK, WALKED_ITEMS)
 }
 
+/// Goes through all shelves, although they are many. Never inlined, since few searches do it.
+#[inline(never)]
+pub fn walk_many(records: &Records, width: u32, height: u32) -> Walked
+    requires linked { IsLinked records.now (walked_lists records.now) }
+    requires short { height ≤ longest_side }
+    ensures through { searching.IsThrough records.now width height result }
+{
+    walk_shelves(records, width, height, height, MANY_ITEMS)
+}
+
 /// Goes through so many first shelves, up to one of just the height that has room: none ranks lower. It is given up where
 /// that would go through more free items. Never inlined, since few searches do it.
 #[inline(never)]
@@ -155,6 +168,9 @@ fn look_at(
     ensures few { left.old ≤ left.new + length records.now.items }
     ensures long { result ≡ Unknown → left.old < length records.now.items }
 {
+    if is_full(records, shelf) {
+        return Looked::NotLower;
+    }
     let own = u32::from(records.shelves()[shelf].height);
     if own < height || limit <= own {
         return Looked::NotLower;
@@ -168,6 +184,17 @@ fn look_at(
         Some(Searched::Widest(_)) => Looked::NotLower,
         None => Looked::Unknown,
     }
+}
+
+/// Whether no item of a shelf is free: then it offers nothing.
+fn is_full(records: &Records, shelf: usize) -> bool
+    requires linked { IsLinked records.now (walked_lists records.now) }
+    requires stands { 1 ≤ times shelf (shelf_walk records.now).met }
+    requires within { shelf < length records.now.shelves }
+    ensures { result ≡ true → (width height : ℕ)
+        → searching.offered records.now width height shelf ≡ None }
+{
+    usize::from(records.shelves()[shelf].first_unallocated.bits()) == NO_NUMBER
 }
 
 /// The first item of a shelf's free list that is wide enough, or the width of the widest; none where that takes more items

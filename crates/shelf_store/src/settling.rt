@@ -43,27 +43,29 @@ const FIRST_SEARCHES: u32 = 3;
 /// So many are gone through in further searches, unless there are many of these.
 const WALKED: usize = 28;
 
-/// More than so many are gone through only where one has moved of late, unless several splits or merges were noted: else the
+/// More than so many, or than so many for each that has changed, are gone through only where one has moved of late: else the
 /// list soon follows.
 const WALKED_IN_PLACE: usize = 24;
 
-/// One split, and the merge that undoes it, change no more shelves.
-const CHANGED_BY_ONE: usize = 2;
+const WALKED_FOR_ONE: usize = 12;
 
 /// So many of those that have changed last are looked at for that.
 const LAST_CHANGED: usize = 12;
 
-/// Where more have changed than this, shelves aren't gone through: each may be one that the list hasn't.
-const WALKED_CHANGES: usize = 64;
+/// Where more have changed than this, or some are parked, the list may lack many shelves: then no more records are gone
+/// through than these.
+const WALKED_CHANGES: usize = 96;
+
+const WALKED_RECORDS: usize = 112;
 
 /// Where more shelves are listed than are gone through, so many first ones are looked at, and some more for each that has
 /// changed.
 const LOOKED_AT: usize = 16;
 
-const LOOKED_AT_FOR_ONE: usize = 4;
+const LOOKED_AT_FOR_ONE: usize = 8;
 
-/// Of no more that have changed.
-const MOST_LOOKED_AT: usize = 65535;
+/// No more count as changed than there can be.
+const MOST_CHANGED: usize = 65535;
 
 /// Where what is asked for is narrower than this part of a column, no shelves are parked: few are so full.
 const PARKED_PART: u32 = 8;
@@ -146,13 +148,20 @@ pub fn by_place(
     ByPlace::NoShelves
 }
 
+/// Whether this search goes through all shelves in place of having them sorted, although they are many: some do in turn.
+pub fn goes_far(by_height: &ShelvesByHeight, pending: &mut PendingShelves) -> bool
+    ensures notes { pending.new.notes ≡ pending.old.notes }
+    ensures room { pending.new.room ≡ pending.old.room }
+{
+    are_many(pending.len(), by_height.len()) && pending.goes_far()
+}
+
 /// How many first shelves are looked at where so many have changed: that is less work than to make the list follow these.
 fn looked_at(changed: usize) -> u32 {
-    (LOOKED_AT + LOOKED_AT_FOR_ONE * changed.min(MOST_LOOKED_AT)) as u32
+    (LOOKED_AT + LOOKED_AT_FOR_ONE * changed.min(MOST_CHANGED)) as u32
 }
 
 /// Whether shelves are so few that all are gone through in a search, which may be one of the first since one has changed.
-/// Where some are parked, all records count.
 fn are_few(
     records: &Records,
     by_height: &ShelvesByHeight,
@@ -160,23 +169,17 @@ fn are_few(
     is_early: bool,
 ) -> bool {
     let changed = pending.len();
-    if changed > WALKED_CHANGES
-        || pending.has_parked() && records.shelves().len() > WALKED_AT_FIRST
-    {
+    let may_lack_many = changed > WALKED_CHANGES || pending.has_parked();
+    if may_lack_many && records.shelves().len() > WALKED_RECORDS {
         return false;
     }
     (by_height.len() <= WALKED || is_early)
         && (by_height.len() <= walked_in_place(changed) || have_moved(records, pending))
 }
 
-/// How many are gone through although none has moved of late, where so many have changed: to make the list follow one split or
-/// merge is less work.
+/// How many are gone through although none has moved of late, where so many have changed.
 fn walked_in_place(changed: usize) -> usize {
-    if changed <= CHANGED_BY_ONE {
-        WALKED_IN_PLACE
-    } else {
-        2 * WALKED_IN_PLACE
-    }
+    (WALKED_FOR_ONE * changed.min(MOST_CHANGED)).max(WALKED_IN_PLACE)
 }
 
 /// Whether one of the shelves that have changed last isn't listed where its height puts it: a merge may have undone a split.
