@@ -259,6 +259,37 @@ def drained_by_many(shelves, some, per_shelf=1):
     return make
 
 
+LABELS = (16, 24, 32, 40)
+"""How tall labels are, each of which has a shelf for itself."""
+
+
+def labels(count):
+    """A new atlas that gets so many labels, and what chose them."""
+    chooser = random.Random(count)
+    heights = [chooser.choice(LABELS) for _ in range(count)]
+    return [f"atlas 256 {sum(heights)} 1 1 1 h"] + [f"a 256 {height}" for height in heights], chooser
+
+
+def labels_filled(count):
+    return lambda _program: (labels(count)[0], [])
+
+
+def labels_drained(count, some):
+    """So many labels, of which again and again some go, in any order, and then one comes, until few are left."""
+
+    def make(_program):
+        filling, chooser = labels(count)
+        holders, lines = list(range(count)), []
+        while len(holders) > some:
+            for _ in range(some):
+                lines.append(f"r {holders.pop(chooser.randrange(len(holders)))}")
+            holders.append(count + len(lines))
+            lines.append(f"a 256 {chooser.choice(LABELS)}")
+        return filling, lines
+
+    return make
+
+
 def gaps_filled(_program):
     """200 shelves of four heights, of which every third went once two more were refused: an item of each height comes, and
     they go in any order.
@@ -331,6 +362,11 @@ ROWS = {
     "150 full shelves go in any order, after each an item comes to the first": Row(drained_beside_first(150), 163, before=334),
     "2000 full shelves go in any order, after each 100 an item comes": Row(drained_by_many(1000, 100), 144, before=2251),
     "250 shelves of four items, after each 12 that go one comes": Row(drained_by_many(125, 12, 4), 159, before=363),
+    "600 labels of four heights: eight go in any order, and then one comes": Row(
+        labels_drained(600, 8), 302, before=494
+    ),
+    "100 labels, the same with 16": Row(labels_drained(100, 16), 169, before=308),
+    "a new atlas gets 20 labels": Row(labels_filled(20), 702, "filling", 875),
     "200 shelves of four heights with gaps that are filled and emptied": Row(gaps_filled, 230, before=567),
     "eight sprites in four columns, and a clear": Row(frames_of_sprites, 402, before=510),
     "65535 columns, the same item": Row(in_columns(65535), 182, before=363),
