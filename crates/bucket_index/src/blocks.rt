@@ -130,18 +130,17 @@ impl PutOff {
         self.searches = 0;
     }
 
-    /// The number of the block that was left, once it has been so for some searches; it is left no more then.
-    fn due(&mut self) -> Option<usize> {
+    /// Counts a search where a block is left, and says whether that was so for some searches, so that it is to be lowered.
+    #[inline(always)]
+    fn is_due(&mut self) -> bool {
         if self.block >= MOST_SMALL {
-            return None;
+            return false;
         }
         if self.searches < LEFT_SEARCHES {
             self.searches += 1;
-            return None;
+            return false;
         }
-        let block = self.block;
-        self.block = MOST_SMALL;
-        Some(block)
+        true
     }
 }
 
@@ -724,31 +723,34 @@ impl Blocks {
         requires { spec.AreKnown self.old shelves.now }
         ensures { spec.AreKnown self.new shelves.now }
     {
-        if self.is_late || self.put_off.block < MOST_SMALL {
+        if self.is_late || self.put_off.is_due() {
             self.settle_all(shelves);
         }
     }
 
-    /// The same where either was put off.
+    /// The same where that shelf is yet to be lowered, or else that block.
     #[inline(never)]
     fn settle_all(&mut self, shelves: &[KeptShelf])
         requires { spec.AreKnown self.old shelves.now }
         ensures { spec.AreKnown self.new shelves.now }
     {
-        self.settle_late(shelves);
-        if let Some(block) = self.put_off.due() {
-            self.lower_block(shelves, block);
+        if self.is_late {
+            self.settle_beside(shelves, shelves.len());
+            if !self.put_off.is_due() {
+                return;
+            }
         }
+        self.lower_left(shelves);
     }
 
-    /// Lowers the blocks of the shelf that was raised last, where that was put off.
-    fn settle_late(&mut self, shelves: &[KeptShelf])
+    /// Knows the small block anew that was left as it is.
+    fn lower_left(&mut self, shelves: &[KeptShelf])
         requires { spec.AreKnown self.old shelves.now }
         ensures { spec.AreKnown self.new shelves.now }
     {
-        if self.is_late {
-            self.settle_beside(shelves, shelves.len());
-        }
+        let block = self.put_off.block;
+        self.put_off.block = MOST_SMALL;
+        self.lower_block(shelves, block);
     }
 
     /// Knows the small block of a number anew.
@@ -810,7 +812,10 @@ impl Blocks {
         requires others { spec.AreOthersKnown number self.old shelves.now }
         ensures { spec.AreKnown self.new shelves.now }
     {
-        if !self.follows_at_once(shelves, number, before) {
+        if self.follows_at_once(shelves, number, before) {
+            return;
+        }
+        if !self.leaves_again(number, before.widest_room, &shelves[number]) {
             self.follow_change(shelves, number, before);
         }
     }
@@ -900,13 +905,25 @@ impl Blocks {
         ensures { spec.AreKnown self.new shelves.now }
     {
         let room = before.widest_room;
-        if number == self.others.number || self.is_late {
+        let emptied = shelves[number].widest_room;
+        if number == self.others.number {
             self.follow_returned(shelves, number, before);
-        } else if self.knows_idle(number, shelves[number].widest_room) {
+        } else if self.takes_over(number, emptied) && self.knows_idle(number, emptied) {
             self.others.number = MOST_SHELVES;
+            self.is_late = false;
+        } else if self.is_late {
+            self.follow_late(shelves, number, before);
         } else {
             self.raise_beside(shelves, number, room);
         }
+    }
+
+    /// Whether a shelf with this room has all that is known of its small block, so that nothing is to be lowered.
+    #[inline(always)]
+    fn takes_over(&self, number: usize, room: u16) -> bool {
+        !self.is_late
+            || number / SHELVES_OF_BLOCK == self.others.number / SHELVES_OF_BLOCK
+                && room == self.others.own.widest_room
     }
 
     /// Whether the blocks of the shelf of a number know it with this room and nothing live.
@@ -952,21 +969,6 @@ impl Blocks {
     /// called, so that those who follow a shelf needn't keep what it uses.
     #[inline(never)]
     fn follow_change(&mut self, shelves: &[KeptShelf], number: usize, before: Block)
-        requires counted { self.old.are_counted ≡ true }
-        requires within { number < length shelves.now }
-        requires before { spec.IsFollowedUpTo number (spec.height_at shelves.now number)
-            before.widest_room self.old }
-        requires others { spec.AreOthersKnown number self.old shelves.now }
-        ensures { spec.AreKnown self.new shelves.now }
-    {
-        if !self.leaves_again(number, before.widest_room, &shelves[number]) {
-            self.follow_any(shelves, number, before);
-        }
-    }
-
-    /// The same where its small block isn't left as it is.
-    #[inline(never)]
-    fn follow_any(&mut self, shelves: &[KeptShelf], number: usize, before: Block)
         requires counted { self.old.are_counted ≡ true }
         requires within { number < length shelves.now }
         requires before { spec.IsFollowedUpTo number (spec.height_at shelves.now number)

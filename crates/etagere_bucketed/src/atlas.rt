@@ -214,9 +214,9 @@ impl BucketedAtlasAllocator {
     /// room, and behind the first 8 that it went through in vain over up to 256 that are too low. It looks only at buckets
     /// of shelves that are tall enough, have wide enough buckets and room. The first bucket that wastes nothing ends the
     /// search; none is looked for where no bucket has just the width. As the first item goes into a wider bucket of more
-    /// than 64, in more than one shelf, all are counted by their width. Of more than 16 shelves none is looked at for a
-    /// size that isn't smaller than one for which there was no place, but one that changed since, and the last ones: mostly
-    /// up to 16, and some more where few shelves became many since.
+    /// than 64, in more than one shelf, all are counted by their width, again where that was forgotten. Of more than 16
+    /// shelves none is looked at for a size that isn't smaller than one for which there was no place, but one that changed
+    /// since, and the last ones: mostly up to 16, and some more where few shelves became many since.
     pub fn allocate(&mut self, size: Size) -> Result<Option<Allocation>, AllocError>
         ensures placed { IfOk result
             (λ answer. IfSome answer (λ allocation. Allocates self.old size allocation self.new)) }
