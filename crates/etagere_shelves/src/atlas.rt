@@ -246,9 +246,9 @@ impl AtlasAllocator {
     /// change all shelves are gone through instead where no more than some dozen are listed, or a dozen for each that has
     /// changed, along no more than 128 free items; of more than 96 the first 16, and eight more for each that has changed,
     /// where more than two have or one of just the height was among these of late. Where all would be sorted anew, up to
-    /// three searches in turn go through all shelves instead, along no more than 1024 free items. Those whose free items are all narrower than what was asked for of late
-    /// stay out of a long list; where some do, what is as narrow has all shelves sorted anew, the more rarely the more
-    /// often it came.
+    /// three searches in turn go through all shelves instead, along no more than 1024 free items. Those whose free items
+    /// are all narrower than what was asked for of late stay out of a long list; where some do, what is as narrow has all
+    /// shelves sorted anew, the more rarely the more often it came.
     #[inline(always)]
     pub fn allocate(&mut self, size: Size) -> Result<Option<Allocation>, AllocError>
         ensures placed { IfOk result

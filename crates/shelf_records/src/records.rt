@@ -33,12 +33,6 @@ pub struct LinkedItem {
 /// A strip across a column, or an unused record for one. Lengths and places are in pixels.
 #[derive(Clone, Copy, Debug, PartialEq, Eq)]
 pub struct LinkedShelf {
-    /// Where its column begins along the shelves.
-    pub x: u16,
-    /// Where the shelf begins across.
-    pub y: u16,
-    /// How high it is.
-    pub height: u16,
     /// The shelf before it.
     pub prev: Link,
     /// The shelf after it; of an unused record, the one that became unused before it.
@@ -47,6 +41,13 @@ pub struct LinkedShelf {
     pub first_item: Link,
     /// The first of its free list.
     pub first_unallocated: Link,
+    // Where it begins across stands before where its column does: one number then, by which shelves of a height are ordered.
+    /// Where the shelf begins across.
+    pub y: u16,
+    /// Where its column begins along the shelves.
+    pub x: u16,
+    /// How high it is.
+    pub height: u16,
     /// Whether all of it is one free item.
     pub is_empty: bool,
 }

@@ -120,8 +120,8 @@ pub fn walk_many(records: &Records, width: u32, height: u32) -> Walked
 }
 
 /// Goes through so many first shelves, up to one of just the height that has room: none ranks lower. It is given up where
-/// that would go through more free items. Never inlined, since few searches do it.
-#[inline(never)]
+/// that would go through more free items. Always inlined: it mostly ends at one of the first, and a call took as much.
+#[inline(always)]
 pub fn look_at_first(records: &Records, width: u32, height: u32, most: u32) -> Walked
     requires linked { IsLinked records.now (walked_lists records.now) }
     requires short { height ≤ longest_side }

@@ -1,5 +1,6 @@
 -- Shelves of numbers and bounds: what edits of both make of them.
 use Rattle.std.proofs.Common.{◌≡◌, ℕ, zero, suc, ◌+◌, ◌<◌, ◌≤◌, Option, None, Some, List, [], ◌∷◌, ◌++◌, drop, get_or, length, map, set, take, refl, ap, arith, subst, ◌∙◌}
+use Rattle.std.proofs.Math.Seq.{take-append_seam}
 use Rattle.std.proofs.lemmas.List.{drop-map, length-map, take-map}
 use Rattle.std.specs.Prelude.{◌*◌, insert, remove, vec_capacity}
 use Rattle.std.specs.List.{AllByRecursion}
@@ -156,3 +157,7 @@ wide-shelves from width by_height (Some index) first = (
       (subst (AllByRecursion (λ bound. width ≤ bound))
       (ap (take 1) (drop-map (λ (one : BoundedShelf). one.widest) index by_height) ∙ take-map (λ (one : BoundedShelf). one.widest) 1 (drop index by_height)) first.3),
 )
+
+-- a list that is written over another as long is what stands there then
+pub written : (new old : List ℕ) (len : ℕ) → len ≡ length new → take len (new ++ drop (length new) old) ≡ new
+written new old len same = ap (λ (n : ℕ). take n (new ++ drop (length new) old)) same ∙ take-append_seam new (drop (length new) old)
