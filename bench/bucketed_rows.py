@@ -242,6 +242,16 @@ def first_ones_go(shelves, some, width=256):
     return make
 
 
+def first_two_in_turn(shelves):
+    """Full shelves of a bucket each, of which the first two go and come in turn."""
+
+    def make(_program):
+        filling = [f"bucketed 256 {8 * shelves} 1 1 1 h"] + ["a 256 8"] * shelves
+        return filling, goes_and_comes([0, 1] * (ROUNDS // 2), shelves, "a 256 8")
+
+    return make
+
+
 def grown(_program):
     """An atlas with three items grows by a pixel each time."""
     sizes = [f"g {101 + times} {66 + times}" for times in range(ROUNDS)]
@@ -298,6 +308,7 @@ ROWS = {
     "41 low or full shelves: an item comes, and its shelf goes with it": Row(low_and_tall, 436, before=668),
     "40 low or full shelves in four columns: three more come and go": Row(last_ones_go(40, 3), 466, before=554),
     "256 full shelves: the first two go, and two come": Row(first_ones_go(256, 2), 162, before=361),
+    "the same, one after the other": Row(first_two_in_turn(256), 161, before=314),
     "65 shelves with a little room: the first three go, and three come": Row(first_ones_go(65, 3, 192), 177, before=388),
     "three items: a grow": Row(grown, 128, before=6127),
     "3000 items that add a shelf each, since all are too tall": Row(shelves_too_tall, 24337, before=17944, most=MOST),

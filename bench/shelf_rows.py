@@ -230,14 +230,14 @@ def full_shelves(choose):
     return make
 
 
-def drained_beside_first(shelves):
+def drained_beside_first(shelves, later=("a 16 8", "a 4104 8")):
     """Full shelves that go in any order, while after each an item comes to the first shelf, and one is refused."""
 
     def make(_program):
         positions = list(range(1, shelves + 1))
         random.Random(1).shuffle(positions)
         filling = [f"atlas 4096 {8 * (shelves + 1)} 1 1 1 h", "a 16 8"] + ["a 4096 8"] * shelves
-        return filling, [line for position in positions for line in (f"r {position}", "a 16 8", "a 4104 8")]
+        return filling, [line for position in positions for line in (f"r {position}", *later)]
 
     return make
 
@@ -353,6 +353,7 @@ ROWS = {
     # Counted with plain geometry types, as the next two.
     "30 columns, the same item": Row(same_in_columns, 488),
     "25 columns, of which four split and merge": Row(columns_split(25, 4), 440, before=586),
+    "100 columns, of which six do": Row(columns_split(100, 6), 946, before=1169),
     "two columns with shelves of 30 heights: a bad fit": Row(bad_fits(30, 2), 713, before=2469),
     "low items of which half went, beside a shelf that splits and merges": Row(beside_low_ones, 304),
     "9 low shelves with two narrow gaps each, beside one that splits and merges": Row(
@@ -360,11 +361,13 @@ ROWS = {
     ),
     # Counted likewise, as the next two.
     "150 full shelves go in any order, after each an item comes to the first": Row(drained_beside_first(150), 163, before=334),
+    "300 full shelves, the same but that none is refused": Row(drained_beside_first(300, ["a 16 8"]), 213, before=337),
     "2000 full shelves go in any order, after each 100 an item comes": Row(drained_by_many(1000, 100), 144, before=2251),
     "250 shelves of four items, after each 12 that go one comes": Row(drained_by_many(125, 12, 4), 159, before=363),
     "600 labels of four heights: eight go in any order, and then one comes": Row(
         labels_drained(600, 8), 302, before=494
     ),
+    "200 labels, the same with three": Row(labels_drained(200, 3), 426, before=611),
     "100 labels, the same with 16": Row(labels_drained(100, 16), 169, before=308),
     "a new atlas gets 20 labels": Row(labels_filled(20), 702, "filling", 875),
     "200 shelves of four heights with gaps that are filled and emptied": Row(gaps_filled, 230, before=567),
