@@ -54,9 +54,9 @@ pub fn walk_or_settle(
     walked
 }
 
-/// Goes through all shelves where there are few, and few free items to look at, or through the first of many. Never inlined,
-/// so that a search after which nothing changed costs no call.
-#[inline(never)]
+/// Goes through all shelves where there are few, and few free items to look at, or through the first of many. Always inlined:
+/// what was found needn't go through memory then.
+#[inline(always)]
 fn walk_if_few(
     records: &Records,
     by_height: &ShelvesByHeight,
