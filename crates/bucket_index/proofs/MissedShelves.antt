@@ -182,6 +182,22 @@ missed-some one missed all shelves some is = by_sizes missed.sizes is
     by_sizes None h = h
     by_sizes (Some sizes) h = (of_size sizes.last h.0, some-mapped sizes.before of_size h.1)
 
+-- nothing is left to be said of a shelf that isn't there
+pub missed-past : (one : ℕ) (missed : Missed) (shelves : List KeptShelf) → length shelves ≤ one → IsMissedBeside one missed shelves → IsMissed missed shelves
+missed-past one missed shelves past is = by_sizes missed.sizes is
+  where
+    of_size : (sides : Sides) → IsMissedBy (λ number. number ≡ one → ⊥) missed.adds missed.except missed.tail sides shelves → IsMissedBy (λ number. Unit {0}) missed.adds missed.except missed.tail sides shelves
+    of_size sides h = record {
+      some = h.some;
+      without = λ number kept such low other there.
+          h.without number kept (λ (same : number ≡ one). omega (arith, same, past, slice_get_within shelves number kept there)) low other there;
+    }
+
+    by_sizes : (o : Option TwoSizes) → IfSome o (λ sizes. AreMissedBy (λ number. number ≡ one → ⊥) missed.adds missed.except missed.tail sizes shelves)
+        → IfSome o (λ sizes. AreMissedBy (λ number. Unit {0}) missed.adds missed.except missed.tail sizes shelves)
+    by_sizes None h = h
+    by_sizes (Some sizes) h = (of_size sizes.last h.0, some-mapped sizes.before of_size h.1)
+
 -- what is missed before a number is missed before a lower one
 pub sizes-before : (adds : Bool) (except tail lower : ℕ) (sizes : TwoSizes) (shelves : List KeptShelf) → lower ≤ tail → AreMissed adds except tail sizes shelves → AreMissed adds except lower sizes shelves
 sizes-before adds except tail lower sizes shelves less is = (of_size sizes.last is.0, some-mapped sizes.before of_size is.1)

@@ -535,14 +535,12 @@ impl Blocks {
     /// Where a search for a shelf that has a height and holds nothing live goes on that has come to the shelf of a number,
     /// one of so many: at that one, or behind blocks in which there is none.
     pub fn behind_busy(&self, from: usize, count: usize) -> usize
-        requires { count < 2 ^ 62 }
+        requires counted { self.now.are_counted ≡ true }
+        requires count { count < 2 ^ 62 }
         ensures on { from ≤ result }
         ensures busy { (shelves : spec.Shelves) → spec.AreKnown self.now shelves
             → spec.AreBusy from result shelves }
     {
-        if !self.are_counted {
-            return from;
-        }
         let large = behind_busy_of(&self.large, SHELVES_OF_LARGE, from, count);
         if large >= count {
             return large;
@@ -1127,25 +1125,26 @@ impl Blocks {
         requires { spec.AreOthersKnown number self.old shelves.now }
         ensures { spec.AreKnown self.new shelves.now }
     {
-        if self.are_counted {
+        if shelves.len() < FEW_SHELVES / 2 {
+            self.are_counted = false;
+        } else if number < shelves.len() {
             self.follow_left(shelves, number);
         }
     }
 
-    /// The same where they were counted.
+    /// The same where that shelf is left, and enough others.
     #[inline(never)]
     fn follow_left(&mut self, shelves: &[KeptShelf], number: usize)
-        requires counted { self.old.are_counted ≡ true }
+        requires within { number < length shelves.now }
         requires others { spec.AreOthersKnown number self.old shelves.now }
         ensures { spec.AreKnown self.new shelves.now }
     {
-        if shelves.len() < FEW_SHELVES / 2 {
-            self.are_counted = false;
-        } else if number < shelves.len() {
-            self.settle_beside(shelves, number);
-            let fresh = counted(shelves, first_of_block(number));
-            self.recount(shelves, number, fresh);
+        if !self.are_counted {
+            return;
         }
+        self.settle_beside(shelves, number);
+        let fresh = counted(shelves, first_of_block(number));
+        self.recount(shelves, number, fresh);
     }
 
     /// Knows the shelf of a number beside the others, which got a height.

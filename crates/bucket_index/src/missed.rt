@@ -252,6 +252,17 @@ impl Missed {
         }
     }
 
+    /// The same after some shelves were dropped: of one that isn't left nothing is to be known.
+    #[inline(always)]
+    pub fn follow_left(&mut self, shelves: &[KeptShelf], number: usize)
+        requires { spec.IsMissedBeside number self.old shelves.now }
+        ensures { spec.IsMissed self.new shelves.now }
+    {
+        if number < shelves.len() {
+            self.follow(shelves, number);
+        }
+    }
+
     /// The same where another one may have got a place before. If both are near the end, and that still has a place, nothing is
     /// said any more of the earlier one, nor of those from the later one on.
     #[inline(never)]

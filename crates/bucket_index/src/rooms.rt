@@ -189,7 +189,7 @@ impl Rooms {
     }
 
     /// Knows that a record can give another width than before.
-    #[inline(never)]
+    #[inline(always)]
     fn change(&mut self, before: u16, after: u16)
         ensures { (buckets : List LinkedBucket) (others : List LinkedBucket)
             → spec.AreCounted self.old buckets

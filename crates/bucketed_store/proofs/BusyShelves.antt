@@ -9,7 +9,7 @@ use Rattle.etagere_base.specs.declared.sides.Sides.{Sides}
 use Rattle.bucketed_records.specs.Private.Store.{is_kept_idle}
 use Rattle.bucketed_records.specs.declared.records.KeptShelf.{KeptShelf}
 use Rattle.bucket_index.proofs.Searched.{search-skip}
-use Rattle.bucketed_store.specs.Private.Placing.{is_kept_idle_in, kept_height, kept_mergeable, serves_at}
+use Rattle.bucketed_store.specs.Private.Placing.{AreBusyBefore, is_kept_idle_in, kept_height, kept_mergeable, serves_at}
 
 -- a shelf holds something live, if it has a height
 abbrev pub IsFlatOrBusy : KeptShelf → Type 0
@@ -102,3 +102,25 @@ mergeable-behind sides some shelves from behind on spent =
     (λ k x low high at.
     let each : (m : ℕ) → k ≤ m → m < k + 3 → IsSpent shelves m = λ m least most. spent (omega (arith, low, high, end)) m (omega (arith, low, least)) (omega (arith, high, end, most)) in
     mergeable-past sides k k shelves (slice_get_within shelves k x at) (serves-spent sides some 1 k shelves (omega arith) each) (serves-spent sides some 2 k shelves (omega arith) each)))
+
+-- a shelf that holds something live doesn't serve
+serves-busy : (sides : Sides) (others number : ℕ) (xs : List KeptShelf) (kept : KeptShelf) → slice_get xs number ≡ Some kept → is_kept_idle kept ≡ false → serves_at sides others (drop number xs) ≡ false
+serves-busy sides others number [] kept at busy = absurd (cc)
+serves-busy sides others zero (x ∷ xs) kept at busy =
+    by_test (length (take others xs) == others) (is_kept_idle x) _ _ (let same : x ≡ kept = cc in rw same busy)
+  where
+    by_test : (t u a b : Bool) → u ≡ false → (t && (u && a) && b) ≡ false
+    by_test true true a b h = absurd (cc)
+    by_test true false a b h = refl
+    by_test false u a b h = refl
+serves-busy sides others (suc number) (x ∷ xs) kept at busy = serves-busy sides others number xs kept at busy
+
+-- so that a search for some to be merged may begin behind those that do
+pub mergeable-busy : (sides : Sides) (shelves : List KeptShelf) (behind : ℕ) → AreBusyBefore behind shelves → kept_mergeable sides behind (drop behind shelves) ≡ kept_mergeable sides 0 shelves
+mergeable-busy sides shelves behind busy =
+    let end : 0 + behind ≡ behind = omega arith in
+    ap (λ (k : ℕ). kept_mergeable sides k (drop k shelves)) (sym end)
+    ∙ sym (search-skip (kept_mergeable sides) shelves 0 behind (λ m k. refl)
+    (λ k x low high at.
+    let busy_at : is_kept_idle x ≡ false = busy k x (omega (arith, high)) at in
+    mergeable-past sides k k shelves (slice_get_within shelves k x at) (serves-busy sides 1 k shelves x at busy_at) (serves-busy sides 2 k shelves x at busy_at)))

@@ -2,7 +2,7 @@
 //!
 //! Definitions: `Private/Returns`. The buckets of a dropped shelf are unused as a whole, in their order.
 
-ghost use Rattle.std.specs.Prelude.{◌≡◌, ◌<◌, ◌≤◌, ◌+◌, ◌^◌, Some, length, vec_len, vec_capacity};
+ghost use Rattle.std.specs.Prelude.{◌≡◌, ◌<◌, ◌≤◌, ◌+◌, ◌^◌, None, Some, length, vec_len, vec_capacity};
 ghost use Rattle.etagere_links.specs.Edits.{changed_by};
 ghost use Rattle.etagere_links.specs.Links.{no_link};
 ghost use Rattle.bucketed_model.specs.Picking.{or_else};
@@ -20,6 +20,18 @@ use etagere_links::Link;
 pub(crate) struct RowEnd {
     pub last: usize,
     pub count: u32,
+}
+
+/// What `number_or_none` answers for no link.
+const NO_NUMBER: usize = 65535;
+
+/// The number of the bucket that a link names, `NO_NUMBER` where it names none: where that is tested at once, a number that may
+/// be none takes more instructions.
+fn number_or_none(link: Link) -> usize
+    ensures none { result ≡ no_link → link ≡ None }
+    ensures some { (result ≡ no_link → ⊥) → link ≡ Some result }
+{
+    usize::from(link.bits())
 }
 
 /// The link to the bucket after the one of this number; none where there is no such bucket.
@@ -40,7 +52,7 @@ fn end_by(end: RowEnd, number: usize) -> RowEnd
     ensures some { (number ≡ no_link → ⊥)
         → result ≡ record { last = number; count = end.count + 1 } }
 {
-    if number == usize::from(u16::MAX) {
+    if number == NO_NUMBER {
         return end;
     }
     RowEnd {
@@ -98,10 +110,11 @@ fn make_row_unused(
     ensures spans { AreSpans spans.new buckets.new }
     ensures small { result ≤ most_buckets + 1 }
 {
-    let Some(number) = first.number() else {
+    let first_number = number_or_none(first);
+    if first_number == NO_NUMBER {
         return 0;
-    };
-    let end = row_end(buckets, number);
+    }
+    let end = row_end(buckets, first_number);
     link_to(buckets, end.last, *unused);
     spans.forget(end.last);
     *unused = first;
@@ -136,17 +149,17 @@ pub(crate) fn drop_idle_end(
     ensures capacity { vec_capacity shelves.new ≡ vec_capacity shelves.old }
     ensures spans { AreSpans spans.new buckets.new }
 {
+    let mut left = shelves.len();
     let mut dropped = 0;
-    for _shelf in 0..shelves.len() {
-        let Some(last) = shelves.last() else {
-            break;
-        };
-        let first = last.shelf.first_bucket;
+    while 0 < left {
+        let last = &shelves[left - 1];
         if last.live_items > 0 {
             break;
         }
+        let first = last.shelf.first_bucket;
         dropped += make_row_unused(buckets, spans, unused, first);
-        shelves.pop();
+        left -= 1;
     }
+    shelves.truncate(left);
     dropped
 }

@@ -2,7 +2,7 @@
 //!
 //! Definitions: `Placing` and `StoreEdits`, and `Merging` for what they mean.
 
-ghost use Rattle.std.specs.Prelude.{◌≡◌, ◌+◌, ◌<◌, ◌≤◌, ◌^◌, Some, length, drop};
+ghost use Rattle.std.specs.Prelude.{◌≡◌, ◌+◌, ◌<◌, ◌≤◌, ◌^◌, Some, true, length, drop};
 ghost use Rattle.std.specs.List.{list_all};
 ghost use Rattle.etagere_links.specs.Edits.{changed_by};
 ghost use Rattle.bucketed_model.specs.Picking.{or_else};
@@ -75,15 +75,56 @@ fn serves(sides: &Sides, shelves: &[KeptShelf], number: usize, others: usize) ->
         && sides.across <= u32::from(kept.shelf.height) + total_height(next)
 }
 
-/// The first shelf that serves these sides with the next one, or with the next two. Blocks are passed over in which each
-/// shelf holds something live or has no height, but for the last two shelves before another block.
-#[inline(never)]
+/// The first shelf that serves these sides with the next one, or with the next two. Where they are few, those before the first
+/// one that holds nothing live are passed over one by one.
+#[inline(always)]
 pub(crate) fn mergeable_shelves(
     sides: Sides,
     shelves: &[KeptShelf],
     blocks: &Blocks,
 ) -> Option<Group>
     requires across { 0 < sides.across }
+    requires known { AreKnown blocks.now shelves.now }
+    ensures { result ≡ spec.kept_mergeable sides 0 shelves.now }
+{
+    if blocks.are_counted {
+        return mergeable_by_blocks(sides, shelves, blocks);
+    }
+    let first = first_idle(shelves);
+    if first >= shelves.len() {
+        return None;
+    }
+    mergeable_from(&sides, shelves, first)
+}
+
+/// The number of the first shelf that holds nothing live; how many there are where each holds something.
+#[inline(always)]
+fn first_idle(shelves: &[KeptShelf]) -> usize
+    ensures within { result ≤ length shelves.now }
+    ensures busy { spec.AreBusyBefore result shelves.now }
+{
+    for number in 0..shelves.len() {
+        if shelves[number].is_idle() {
+            return number;
+        }
+    }
+    shelves.len()
+}
+
+/// The first shelf from a number on that serves these sides with the next one or two.
+#[inline(never)]
+fn mergeable_from(sides: &Sides, shelves: &[KeptShelf], from: usize) -> Option<Group>
+    requires { from ≤ length shelves.now }
+    ensures { result ≡ spec.kept_mergeable sides.now from (drop from shelves.now) }
+{
+    mergeable_between(sides, shelves, from, shelves.len())
+}
+
+/// The same where blocks are counted. They are passed over in which each shelf holds something live or has no height, but for the last two shelves before another block.
+#[inline(never)]
+fn mergeable_by_blocks(sides: Sides, shelves: &[KeptShelf], blocks: &Blocks) -> Option<Group>
+    requires across { 0 < sides.across }
+    requires counted { blocks.now.are_counted ≡ true }
     requires known { AreKnown blocks.now shelves.now }
     ensures { result ≡ spec.kept_mergeable sides 0 shelves.now }
 {

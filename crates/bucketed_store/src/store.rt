@@ -2,7 +2,7 @@
 //!
 //! Definitions: `Store`, `StoreEdits`. `Store` also says when records spell a state.
 
-ghost use Rattle.std.specs.Prelude.{IsFalse, IsTrue, List, ◌≡◌, ◌↔◌, ◌+◌, ◌-◌, ◌*◌, ◌<◌, ◌≤◌, ◌^◌, [], None, Some, IfOk, IfSome, IsSome, OnOk, OnErr, false, length, slice_get, vec_len, vec_capacity, map, nat_le};
+ghost use Rattle.std.specs.Prelude.{IsFalse, IsTrue, List, ◌≡◌, ◌↔◌, ◌+◌, ◌-◌, ◌*◌, ◌<◌, ◌≤◌, ◌^◌, [], None, Some, IfOk, IfSome, IfNone, IsSome, OnOk, OnErr, OnSome, false, length, slice_get, vec_len, vec_capacity, map, nat_le};
 ghost use Rattle.etagere_links.specs.Edits.{changed_by};
 ghost use Rattle.etagere_links.specs.Links.{no_link};
 ghost use Rattle.bucketed_model.specs.Adding as adding;
@@ -504,13 +504,6 @@ impl Store {
         ensures stays { result.drops ≡ false → length self.new.shelves ≡ length self.old.shelves }
         ensures area { result.area ≡ returns.returned_area number self.old.shelves self.old.buckets }
     {
-        if leaves_idle(&self.shelves, &self.buckets, number) {
-            return Returned {
-                area: self.return_only(number),
-                drops: false,
-                dropped: 0,
-            };
-        }
         let area = returned_area(&self.shelves, &self.buckets, number);
         let shelf = shelf_number(&self.buckets, number);
         let before = known_of_busy(&self.shelves[shelf]);
@@ -537,7 +530,7 @@ impl Store {
         );
         self.blocks.follow_dropped(&self.shelves, shelf);
         self.rest.forget();
-        self.missed.follow(&self.shelves, shelf);
+        self.missed.follow_left(&self.shelves, shelf);
         forget_where_none(&self.shelves, &mut self.spans, &mut self.heights);
         Returned {
             area,
@@ -546,10 +539,41 @@ impl Store {
         }
     }
 
-    /// Returns the only live item of its shelf, where no shelf is dropped then. Each bucket of that is free then, so that it
-    /// needn't be known what those beside this one can give.
+    /// Returns an item to the bucket of a number where that is the only live one of its shelf, and no shelf is dropped then, and
+    /// answers the area that it gives back. Else nothing changes. Each bucket of the shelf is free then, so that it needn't be
+    /// known what those beside this one can give.
     #[inline(always)]
-    fn return_only(&mut self, number: usize) -> u32
+    pub fn return_only(&mut self, number: usize) -> Option<u32>
+        requires number { number < length self.old.buckets }
+        requires shelf { shelf_of self.old.buckets number < length self.old.shelves }
+        requires free { free_of self.old.buckets number
+            ≤ returns.width_of self.old.shelves (shelf_of self.old.buckets number) }
+        ensures returned { OnSome result (self.new ≡ returns.item_returned number self.old) }
+        ensures stays { OnSome result (returns.end_dropped (length self.new.shelves)
+            (returns.dropping_from self.new 0) ≡ returns.dropping_from self.new 0) }
+        ensures area { IfSome result
+            (λ area. area ≡ returns.returned_area number self.old.shelves self.old.buckets) }
+        ensures same { IfNone result (self.new ≡ self.old) }
+    {
+        if !leaves_idle(&self.shelves, &self.buckets, number) {
+            return None;
+        }
+        if know_buckets(&self.spans, &self.rooms) {
+            return Some(self.return_followed(number));
+        }
+        let area = returned_area(&self.shelves, &self.buckets, number);
+        let shelf = shelf_number(&self.buckets, number);
+        let before = known_of_busy(&self.shelves[shelf]);
+        return_only(&mut self.shelves, &mut self.buckets, number);
+        self.blocks.follow_emptied(&self.shelves, shelf, before);
+        self.rest.forget();
+        self.missed.follow(&self.shelves, shelf);
+        Some(area)
+    }
+
+    /// The same, where spans or rooms are known, and follow.
+    #[inline(never)]
+    fn return_followed(&mut self, number: usize) -> u32
         requires number { number < length self.old.buckets }
         requires shelf { shelf_of self.old.buckets number < length self.old.shelves }
         requires free { free_of self.old.buckets number
@@ -561,7 +585,7 @@ impl Store {
         let area = returned_area(&self.shelves, &self.buckets, number);
         let shelf = shelf_number(&self.buckets, number);
         let before = known_of_busy(&self.shelves[shelf]);
-        return_followed(
+        return_known(
             &mut self.shelves,
             &mut self.buckets,
             &mut self.spans,
@@ -841,39 +865,7 @@ fn add_shelf(
     missed.follow(shelves, number);
 }
 
-/// Returns the only live item of a shelf to the bucket of a number, and has spans and rooms follow where they are known.
-#[inline(always)]
-fn return_followed(
-    shelves: &mut [KeptShelf],
-    buckets: &mut [LinkedBucket],
-    spans: &mut Spans,
-    rooms: &mut Rooms,
-    number: usize,
-)
-    requires number { number < length buckets.old }
-    requires shelf { shelf_of buckets.old number < length shelves.old }
-    requires only { returns.IsOnly number shelves.old buckets.old }
-    requires spans { AreSpans spans.old buckets.old }
-    requires rooms { AreCounted rooms.old buckets.old }
-    ensures shelves { shelves.new
-        ≡ changed_by (Some (shelf_of buckets.old number))
-        (returns.returned_kept (nat_le (live_of buckets.old number) 1)) shelves.old }
-    ensures buckets { buckets.new
-        ≡ changed_by (Some number)
-        (returns.returned_record (returns.width_of shelves.old (shelf_of buckets.old number)))
-        buckets.old }
-    ensures spans { AreSpans spans.new buckets.new }
-    ensures rooms { AreCounted rooms.new buckets.new }
-{
-    if spans.are_learned || rooms.are_counted {
-        return_known(shelves, buckets, spans, rooms, number);
-    } else {
-        return_only(shelves, buckets, number);
-    }
-}
-
-/// The same where one of them is known, or both.
-#[inline(never)]
+/// Returns the only live item of a shelf to the bucket of a number, and has spans and rooms follow.
 fn return_known(
     shelves: &mut [KeptShelf],
     buckets: &mut [LinkedBucket],
@@ -900,6 +892,15 @@ fn return_known(
     return_only(shelves, buckets, number);
     spans.track(buckets, number, room);
     rooms.follow_record(buckets, number, room);
+}
+
+/// Whether spans or rooms are known: else they are right for any buckets.
+#[inline(always)]
+fn know_buckets(spans: &Spans, rooms: &Rooms) -> bool
+    ensures { IsFalse result → (buckets : List LinkedBucket)
+        → AreSpans spans.now buckets × AreCounted rooms.now buckets }
+{
+    spans.are_learned | rooms.are_counted
 }
 
 /// Takes an item of this width from the bucket of a number.

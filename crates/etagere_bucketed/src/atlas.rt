@@ -290,7 +290,12 @@ impl BucketedAtlasAllocator {
         if !self.store.is_known(id) {
             return Err(UnknownId);
         }
-        let returned = self.store.return_item(bucket_number(id));
+        let number = bucket_number(id);
+        if let Some(area) = self.store.return_only(number) {
+            self.allocated_space -= area;
+            return Ok(());
+        }
+        let returned = self.store.return_item(number);
         self.allocated_space -= returned.area;
         if returned.drops {
             let end = self.store.end(&self.frame);
@@ -329,7 +334,10 @@ impl BucketedAtlasAllocator {
             return Err(GrowFault::Memory);
         };
         let end = self.store.end(&frame);
-        self.frame = frame;
+        self.frame.width = frame.width;
+        self.frame.height = frame.height;
+        self.frame.column_width = frame.column_width;
+        self.frame.columns = frame.columns;
         self.current_column = end.along;
         self.available_height = end.across;
         self.buckets_in_use += made;

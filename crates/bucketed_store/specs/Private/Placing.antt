@@ -1,5 +1,5 @@
 -- Where an item goes: what the private functions find among records.
-use Rattle.std.specs.Prelude.{ℕ, suc, ◌+◌, Bool, false, ◌&&◌, Option, None, Some, option_map, List, [], ◌∷◌, length, take, nat_le, ◌==◌, if◌then◌else◌}
+use Rattle.std.specs.Prelude.{ℕ, ◌≡◌, ◌<◌, suc, ◌+◌, Bool, false, ◌&&◌, Option, None, Some, option_map, List, [], ◌∷◌, length, take, slice_get, nat_le, ◌==◌, if◌then◌else◌}
 use Rattle.std.specs.List.{list_all}
 use Rattle.etagere_base.specs.declared.frames.Frame.{Frame}
 use Rattle.etagere_base.specs.declared.sides.Sides.{Sides}
@@ -52,6 +52,12 @@ kept_mergeable sides number (kept ∷ shelves) =
     if kept_serves sides 1 kept shelves then Some (record { first = number; others = 1 })
     else (if kept_serves sides 2 kept shelves then Some (record { first = number; others = 2 })
     else kept_mergeable sides (suc number) shelves)
+
+-- each shelf before a number holds something live
+abbrev pub AreBusyBefore : ℕ → List KeptShelf → Type 0
+AreBusyBefore number shelves =
+    (k : ℕ) (kept : KeptShelf) → k < number → slice_get shelves k ≡ Some kept
+    → is_kept_idle kept ≡ false
 
 -- the first of these shelves and as many after it serve these sides
 abbrev pub serves_at : Sides → ℕ → List KeptShelf → Bool

@@ -1,8 +1,4 @@
-use Rattle.bucket_index.proofs.KnownBlocks.{known-past}
 use Rattle.bucket_index.proofs.blocks.Blocks.follow_left.Goals as goal
-
-pub returns-else-number-shelves : goal.returns-else-number-shelves
-returns-else-number-shelves c = known-past c.args.number c.args.self.now c.args.shelves.now c.if-number-shelves.false c.requires.others
 
 pub recount-requires-clause-fresh : goal.recount-requires-clause-fresh
 recount-requires-clause-fresh c = rw (← c.first_of_block.ensures) c.counted-fresh.ensures

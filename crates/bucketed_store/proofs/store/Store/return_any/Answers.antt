@@ -1,11 +1,11 @@
-use Rattle.std.proofs.Common.{◌≡◌, ℕ, ◌+◌, ◌<◌, List, false, Some, length, ap, Option, None, refl, subst, sym, ◌∙◌, arith, ◌==◌}
+use Rattle.std.proofs.Common.{◌≡◌, ℕ, ◌<◌, List, false, Some, length, ap, Option, None, refl, subst, sym, ◌∙◌, arith, ◌==◌}
 use Rattle.std.proofs.lemmas.List.{with_items_is}
 use Rattle.std.proofs.lemmas.Option.{slice_get-get_or}
 use Rattle.std.specs.Option.{option_map_or}
 use Rattle.std.specs.Prelude.{nat_le, option_map, slice_get, vec_len}
 use Rattle.std.specs.Vec.{with_items}
 use Rattle.etagere_links.specs.Edits.{changed_by}
-use Rattle.etagere_links.proofs.RecordChanges.{get-changed_by, length-changed_by}
+use Rattle.etagere_links.proofs.RecordChanges.{get-changed_by}
 use Rattle.bucketed_records.specs.declared.records.LinkedBucket.{LinkedBucket}
 use Rattle.bucketed_records.specs.declared.records.KeptShelf.{KeptShelf}
 use Rattle.bucketed_records.specs.StandsFor.{live_of, shelf_of}
@@ -26,7 +26,7 @@ use Rattle.bucket_index.proofs.KnownSpans.{spans-changed-room}
 use Rattle.bucketed_store.specs.Private.Returns.{Dropping, dropping_from, dropping_of, ends_idle, item_returned, returned_kept, returned_record, width_of}
 use Rattle.bucketed_store.specs.Private.StoreEdits.{IsInRow, KnowsWidest, first_bucket_of}
 use Rattle.bucketed_store.proofs.KnownShelves.{height-kept, others-some, some-dropped}
-use Rattle.bucketed_store.proofs.LeftShelves.{ends-before, links-same, none-dropped, places-same, stored-returned}
+use Rattle.bucketed_store.proofs.LeftShelves.{links-same, none-dropped, places-same, stored-returned}
 use Rattle.bucketed_store.proofs.RoomsKept.{counted-same, dropped-kept, followed, is-there}
 use Rattle.bucketed_store.proofs.store.Store.return_any.Goals as goal
 use Rattle.bucketed_store.proofs.store.Store.return_any.Goals.{After-room_of-room}
@@ -40,12 +40,12 @@ track-requires-clause-others c =
     with_items_is inside.buckets c.return_item.new.buckets (omega (arith, c.return_item.auto.buckets, c.deref_mut-2.ensures.len)) in
     let returned : c.return_item.new.buckets ≡ changed_by (Some number) (returned_record width) inside.buckets.items =
     c.return_item.ensures.buckets ∙ ap (λ (bs : List LinkedBucket). changed_by (Some number) (returned_record width) bs) c.deref_mut-2.ensures.value in
-    subst (AreSpansExcept number inside.spans) (sym (c.deref-7.ensures.value ∙ items ∙ returned))
+    subst (AreSpansExcept number inside.spans) (sym (c.deref-5.ensures.value ∙ items ∙ returned))
     (spans-changed-room number (returned_record width) inside.spans inside.buckets.items (links-same width) c.self.invariant.1)
 
 -- the number of the shelf is that of the bucket
 shelf-is : (c : After-room_of-room) → c.shelf_number-shelf.result ≡ shelf_of c.self.inside.buckets.items c.args.number
-shelf-is c = c.shelf_number-shelf.ensures ∙ ap (λ (bs : List LinkedBucket). shelf_of bs c.args.number) c.deref-5.ensures.value
+shelf-is c = c.shelf_number-shelf.ensures ∙ ap (λ (bs : List LinkedBucket). shelf_of bs c.args.number) c.deref-3.ensures.value
 
 -- what was read is the shelf
 shelf-there : (c : After-room_of-room) → slice_get c.self.inside.shelves.items c.shelf_number-shelf.result ≡ Some c.index.result.now
@@ -96,7 +96,7 @@ follow_returned-requires-clause-others c =
     let inside = c.self.inside in
     let number = c.args.number in
     let shelf : c.shelf_number-shelf.result ≡ shelf_of inside.buckets.items number =
-    c.shelf_number-shelf.ensures ∙ ap (λ (bs : List LinkedBucket). shelf_of bs number) c.deref-5.ensures.value in
+    c.shelf_number-shelf.ensures ∙ ap (λ (bs : List LinkedBucket). shelf_of bs number) c.deref-3.ensures.value in
     let change = returned_kept (nat_le (live_of inside.buckets.items number) 1) in
     let items : (with_items inside.shelves c.return_item.new.shelves).items ≡ c.return_item.new.shelves =
     with_items_is inside.shelves c.return_item.new.shelves (omega (arith, c.return_item.auto.shelves, c.deref_mut.ensures.len)) in
@@ -113,7 +113,7 @@ follow-requires c =
     let inside = c.self.inside in
     let number = c.args.number in
     let shelf : c.shelf_number-shelf.result ≡ shelf_of inside.buckets.items number =
-    c.shelf_number-shelf.ensures ∙ ap (λ (bs : List LinkedBucket). shelf_of bs number) c.deref-5.ensures.value in
+    c.shelf_number-shelf.ensures ∙ ap (λ (bs : List LinkedBucket). shelf_of bs number) c.deref-3.ensures.value in
     let change = returned_kept (nat_le (live_of inside.buckets.items number) 1) in
     let items : (with_items inside.shelves c.return_item.new.shelves).items ≡ c.return_item.new.shelves =
     with_items_is inside.shelves c.return_item.new.shelves (omega (arith, c.return_item.auto.shelves, c.deref_mut.ensures.len)) in
@@ -135,7 +135,7 @@ invariant_of-self c =
     let number = c.args.number in
     let width = width_of c.deref_mut.result.now (shelf_of c.deref_mut-2.result.now number) in
     let shelf : c.shelf_number-shelf.result ≡ shelf_of inside.buckets.items number =
-    c.shelf_number-shelf.ensures ∙ ap (λ (bs : List LinkedBucket). shelf_of bs number) c.deref-5.ensures.value in
+    c.shelf_number-shelf.ensures ∙ ap (λ (bs : List LinkedBucket). shelf_of bs number) c.deref-3.ensures.value in
     let lowers = returned_kept (nat_le (live_of inside.buckets.items number) 1) in
     let shelves : (with_items inside.shelves c.return_item.new.shelves).items ≡ changed_by (Some c.shelf_number-shelf.result) lowers inside.shelves.items =
     with_items_is inside.shelves c.return_item.new.shelves (omega (arith, c.return_item.auto.shelves, c.deref_mut.ensures.len))
@@ -151,7 +151,7 @@ invariant_of-self c =
     with_items_is inside.buckets c.return_item.new.buckets (omega (arith, c.return_item.auto.buckets, c.deref_mut-2.ensures.len)) in
     let returned : c.return_item.new.buckets ≡ changed_by (Some number) (returned_record width) inside.buckets.items =
     c.return_item.ensures.buckets ∙ ap (λ (bs : List LinkedBucket). changed_by (Some number) (returned_record width) bs) c.deref_mut-2.ensures.value in
-    let room : c.room_of-room.result ≡ record_room one.bucket = c.room_of-room.ensures one.bucket (ap (λ (bs : List LinkedBucket). slice_get bs number) c.deref-6.ensures.value ∙ one.at) in
+    let room : c.room_of-room.result ≡ record_room one.bucket = c.room_of-room.ensures one.bucket (ap (λ (bs : List LinkedBucket). slice_get bs number) c.deref-4.ensures.value ∙ one.at) in
     let before = (goal.at.invariant_of-self c).After-room_of-room in
     let first : c.first_bucket-first.result ≡ c.index.result.now.shelf.first_bucket =
     c.first_bucket-first.ensures
@@ -166,11 +166,11 @@ invariant_of-self c =
     (known-beside (returned_record width) c.know.new.self inside.buckets.items (links-same width) (places-same width)
     (c.know.ensures.known inside.buckets.items one.bucket one.at room (ap (widest_from most_buckets inside.buckets.items) first ∙ widest-is before) (subst (λ (at : Option ℕ). IsIn inside.buckets.items at number) begin row) c.self.invariant.2)) in (
       subst (AreKnown c.follow_returned.new.self) c.deref-then-not-ends_idle.ensures.value c.follow_returned.ensures,
-      subst (AreSpans c.track.new.self) c.deref-7.ensures.value c.track.ensures,
+      subst (AreSpans c.track.new.self) c.deref-5.ensures.value c.track.ensures,
       subst (IsRest c.know.new.self) (sym (items ∙ returned)) known,
       subst (AreCounted c.follow_record.new.self) (sym (items ∙ returned))
-          (followed number c.room_of-room.result (returned_record width) inside.buckets.items c.deref-8.result.now one.bucket inside.rooms c.follow_record.new.self (c.deref-8.ensures.value ∙ items ∙ returned) one.at
-          (c.room_of-room.ensures one.bucket (ap (λ (bs : List LinkedBucket). slice_get bs number) c.deref-6.ensures.value ∙ one.at)) c.self.invariant.3 c.follow_record.ensures),
+          (followed number c.room_of-room.result (returned_record width) inside.buckets.items c.deref-6.result.now one.bucket inside.rooms c.follow_record.new.self (c.deref-6.ensures.value ∙ items ∙ returned) one.at
+          (c.room_of-room.ensures one.bucket (ap (λ (bs : List LinkedBucket). slice_get bs number) c.deref-4.ensures.value ∙ one.at)) c.self.invariant.3 c.follow_record.ensures),
       below,
       subst (IsMissed c.follow.new.self) c.deref-then-not-ends_idle-3.ensures.value c.follow.ensures,
     )
@@ -180,7 +180,7 @@ follow_dropped-requires c =
     let inside = c.self.inside in
     let number = c.args.number in
     let shelf : c.shelf_number-shelf.result ≡ shelf_of inside.buckets.items number =
-    c.shelf_number-shelf.ensures ∙ ap (λ (bs : List LinkedBucket). shelf_of bs number) c.deref-5.ensures.value in
+    c.shelf_number-shelf.ensures ∙ ap (λ (bs : List LinkedBucket). shelf_of bs number) c.deref-3.ensures.value in
     let change = returned_kept (nat_le (live_of inside.buckets.items number) 1) in
     let items : (with_items inside.shelves c.return_item.new.shelves).items ≡ c.return_item.new.shelves =
     with_items_is inside.shelves c.return_item.new.shelves (omega (arith, c.return_item.auto.shelves, c.deref_mut.ensures.len)) in
@@ -197,15 +197,15 @@ follow_dropped-requires c =
     let known : AreOthersKnown c.shelf_number-shelf.result inside.blocks (with_items inside.shelves c.return_item.new.shelves).items =
     subst (AreOthersKnown c.shelf_number-shelf.result inside.blocks) (sym (items ∙ returned))
     (known-others c.shelf_number-shelf.result change inside.blocks inside.shelves.items (λ x. refl) c.self.invariant.0) in
-    subst (AreOthersKnown c.shelf_number-shelf.result inside.blocks) (sym c.deref-10.ensures.value)
+    subst (AreOthersKnown c.shelf_number-shelf.result inside.blocks) (sym c.deref-8.ensures.value)
     (others-some c.shelf_number-shelf.result inside.blocks (with_items inside.shelves c.return_item.new.shelves).items c.drop_idle_end-dropped.new.shelves.items some known)
 
-pub follow-requires-2 : goal.follow-requires-2
-follow-requires-2 c =
+pub follow_left-requires : goal.follow_left-requires
+follow_left-requires c =
     let inside = c.self.inside in
     let number = c.args.number in
     let shelf : c.shelf_number-shelf.result ≡ shelf_of inside.buckets.items number =
-    c.shelf_number-shelf.ensures ∙ ap (λ (bs : List LinkedBucket). shelf_of bs number) c.deref-5.ensures.value in
+    c.shelf_number-shelf.ensures ∙ ap (λ (bs : List LinkedBucket). shelf_of bs number) c.deref-3.ensures.value in
     let change = returned_kept (nat_le (live_of inside.buckets.items number) 1) in
     let items : (with_items inside.shelves c.return_item.new.shelves).items ≡ c.return_item.new.shelves =
     with_items_is inside.shelves c.return_item.new.shelves (omega (arith, c.return_item.auto.shelves, c.deref_mut.ensures.len)) in
@@ -222,7 +222,7 @@ follow-requires-2 c =
     let missed : IsMissedBeside c.shelf_number-shelf.result inside.missed (with_items inside.shelves c.return_item.new.shelves).items =
     subst (IsMissedBeside c.shelf_number-shelf.result inside.missed) (sym (items ∙ returned))
     (missed-beside c.shelf_number-shelf.result change inside.missed inside.shelves.items c.self.invariant.5) in
-    subst (IsMissedBeside c.shelf_number-shelf.result inside.missed) (sym c.deref-11.ensures.value)
+    subst (IsMissedBeside c.shelf_number-shelf.result inside.missed) (sym c.deref-9.ensures.value)
     (missed-some c.shelf_number-shelf.result inside.missed (with_items inside.shelves c.return_item.new.shelves).items c.drop_idle_end-dropped.new.shelves.items some missed)
 
 pub invariant_of-self-2 : goal.invariant_of-self-2
@@ -231,7 +231,7 @@ invariant_of-self-2 c =
     let number = c.args.number in
     let width = width_of c.deref_mut.result.now (shelf_of c.deref_mut-2.result.now number) in
     let shelf : c.shelf_number-shelf.result ≡ shelf_of inside.buckets.items number =
-    c.shelf_number-shelf.ensures ∙ ap (λ (bs : List LinkedBucket). shelf_of bs number) c.deref-5.ensures.value in
+    c.shelf_number-shelf.ensures ∙ ap (λ (bs : List LinkedBucket). shelf_of bs number) c.deref-3.ensures.value in
     let lowers = returned_kept (nat_le (live_of inside.buckets.items number) 1) in
     let shelves : (with_items inside.shelves c.return_item.new.shelves).items ≡ changed_by (Some c.shelf_number-shelf.result) lowers inside.shelves.items =
     with_items_is inside.shelves c.return_item.new.shelves (omega (arith, c.return_item.auto.shelves, c.deref_mut.ensures.len))
@@ -249,11 +249,11 @@ invariant_of-self-2 c =
     c.return_item.ensures.buckets ∙ ap (λ (bs : List LinkedBucket). changed_by (Some number) (returned_record width) bs) c.deref_mut-2.ensures.value in
     let counted : AreCounted c.follow_record.new.self (with_items inside.buckets c.return_item.new.buckets).items =
     subst (AreCounted c.follow_record.new.self) (sym (items ∙ returned))
-    (followed number c.room_of-room.result (returned_record width) inside.buckets.items c.deref-8.result.now one.bucket inside.rooms c.follow_record.new.self (c.deref-8.ensures.value ∙ items ∙ returned) one.at
-    (c.room_of-room.ensures one.bucket (ap (λ (bs : List LinkedBucket). slice_get bs number) c.deref-6.ensures.value ∙ one.at)) c.self.invariant.3 c.follow_record.ensures) in
+    (followed number c.room_of-room.result (returned_record width) inside.buckets.items c.deref-6.result.now one.bucket inside.rooms c.follow_record.new.self (c.deref-6.ensures.value ∙ items ∙ returned) one.at
+    (c.room_of-room.ensures one.bucket (ap (λ (bs : List LinkedBucket). slice_get bs number) c.deref-4.ensures.value ∙ one.at)) c.self.invariant.3 c.follow_record.ensures) in
     let buckets : (with_items (with_items inside.buckets c.return_item.new.buckets) c.drop_idle_end-dropped.new.buckets).items ≡ c.drop_idle_end-dropped.new.buckets =
     with_items_is (with_items inside.buckets c.return_item.new.buckets) c.drop_idle_end-dropped.new.buckets (omega (arith, c.drop_idle_end-dropped.auto.buckets, c.deref_mut-3.ensures.len)) in (
-      subst (AreKnown c.follow_dropped.new.self) c.deref-10.ensures.value c.follow_dropped.ensures,
+      subst (AreKnown c.follow_dropped.new.self) c.deref-8.ensures.value c.follow_dropped.ensures,
       c.forget_where_none.ensures.kept _ (subst (AreSpans c.drop_idle_end-dropped.new.spans) (sym buckets) c.drop_idle_end-dropped.ensures.spans),
       c.forget.ensures _,
       subst (AreCounted c.follow_record.new.self) (sym buckets)
@@ -265,7 +265,7 @@ invariant_of-self-2 c =
           (below-some inside.heights (with_items inside.shelves c.return_item.new.shelves).items c.drop_idle_end-dropped.new.shelves.items
           (subst (AreSome (with_items inside.shelves c.return_item.new.shelves).items) (sym (ap (λ (done : Dropping). done.stored.shelves) c.drop_idle_end-dropped.ensures.dropped))
           (some-dropped (vec_len (with_items inside.shelves c.return_item.new.shelves)) (dropping_of (with_items inside.shelves c.return_item.new.shelves).items c.deref_mut-3.result.now inside.unused 0))) below),
-      subst (IsMissed c.follow-2.new.self) c.deref-11.ensures.value c.follow-2.ensures,
+      subst (IsMissed c.follow_left.new.self) c.deref-9.ensures.value c.follow_left.ensures,
     )
 
 -- nothing is dropped where the last shelf holds something
@@ -286,25 +286,6 @@ returns-then-not-ends_idle-clause-records c =
     let after = stored-returned number _ _ inside.shelves.items inside.buckets.items inside.unused shelves buckets ∙ ap (item_returned number) c.self.view_is in
     let last : ends_idle (item_returned number c.args.self.now).shelves ≡ false =
     subst (λ (stored : Stored). ends_idle stored.shelves ≡ false) after
-    (ap ends_idle (sym c.deref-9.ensures.value) ∙ sym c.ends_idle.ensures ∙ c.if-not-ends_idle.true) in
+    (ap ends_idle (sym c.deref-7.ensures.value) ∙ sym c.ends_idle.ensures ∙ c.if-not-ends_idle.true) in
     ap (λ (stored : Stored). dropping_from stored 0) after
     ∙ sym (none-dropped (length (item_returned number c.args.self.now).shelves) (dropping_from (item_returned number c.args.self.now) 0) last)
-
-pub returns-then-leaves_idle-clause-records : goal.returns-then-leaves_idle-clause-records
-returns-then-leaves_idle-clause-records c =
-    let old = c.args.self.now in
-    let number = c.args.number in
-    let yes = c.if-leaves_idle.true in
-    let shelves : c.deref.result.now ≡ old.shelves = c.deref.ensures.value ∙ ap (λ (stored : Stored). stored.shelves) c.self.view_is in
-    let buckets : c.deref-2.result.now ≡ old.buckets = c.deref-2.ensures.value ∙ ap (λ (stored : Stored). stored.buckets) c.self.view_is in
-    let before : shelf_of old.buckets number + 1 < length old.shelves = rw (← shelves, ← buckets) (c.leaves_idle.ensures.before yes) in
-    let end : ends_idle old.shelves ≡ false = rw (← shelves) (c.leaves_idle.ensures.last yes) in
-    let last : ends_idle (item_returned number old).shelves ≡ false = ends-before (shelf_of old.buckets number) (returned_kept (nat_le (live_of old.buckets number) 1)) old.shelves before end in
-    ap (λ (stored : Stored). dropping_from stored 0) c.return_only.ensures.returned ∙ sym (none-dropped (length (item_returned number old).shelves) (dropping_from (item_returned number old) 0) last)
-
-pub returns-then-leaves_idle-clause-stays : goal.returns-then-leaves_idle-clause-stays
-returns-then-leaves_idle-clause-stays c = λ _.
-    let old = c.args.self.now in
-    let number = c.args.number in
-    ap (λ (stored : Stored). length stored.shelves) c.return_only.ensures.returned
-    ∙ length-changed_by (returned_kept (nat_le (live_of old.buckets number) 1)) old.shelves (Some (shelf_of old.buckets number))

@@ -1,6 +1,9 @@
-use Rattle.std.proofs.Common.{◌+◌, refl, ap, arith, sym, ◌∙◌, subst}
+use Rattle.std.proofs.Common.{◌≡◌, ◌+◌, refl, ap, arith, sym, ◌∙◌, subst}
 use Rattle.etagere_base.proofs.GrownFrames.{frame-weaken}
+use Rattle.etagere_base.specs.declared.frames.Frame.{Frame}
+use Rattle.etagere_base.specs.declared.geometry.Size.{Size}
 use Rattle.etagere_base.specs.declared.sides.Sides.{Sides}
+use Rattle.etagere_base.specs.Growing.{grown_frame}
 use Rattle.bucketed_model.specs.Atlas.{Grows, KeepsPromises, NeedsBuckets}
 use Rattle.bucketed_model.specs.Frames.{longest_bucketed_side}
 use Rattle.bucketed_model.specs.State.{BucketedState}
@@ -8,13 +11,28 @@ use Rattle.bucketed_model.proofs.Shelving.GrownFrames.{grow-fits}
 use Rattle.bucketed_model.proofs.Promises.{valid-promises}
 use Rattle.bucketed_model.proofs.Ledger.KnownBusy.{grows-known}
 use Rattle.bucketed_model.proofs.Ledger.TiedGrown.{grows-tied}
-use Rattle.bucketed_records.specs.Private.Store.{stored_state}
+use Rattle.bucketed_records.specs.Private.Store.{Stored, stored_state}
 use Rattle.bucketed_records.specs.Private.Witnessed.{HasTotals, Witnessed}
 use Rattle.bucketed_store.proofs.Emptying.EndTotals.{tells-end}
 use Rattle.bucketed_store.proofs.Widening.Grown.{width-grows}
 use Rattle.etagere_bucketed.specs.Private.Consistent.{state_in}
 use Rattle.etagere_bucketed.proofs.AtlasGrows.{after-grow, atlas-grown, grow-needs, grow-uses}
 use Rattle.etagere_bucketed.proofs.atlas.BucketedAtlasAllocator.grow.Goals as goal
+
+-- a frame with what a grow changes
+abbrev written : Frame → Frame → Frame
+written frame grown =
+    record frame {
+      width = grown.width;
+      height = grown.height;
+      column_width = grown.column_width;
+      columns = grown.columns;
+    }
+
+-- that is the grown one
+written-read : (frame grown : Frame) (size : Size) (stored : Stored) (state : BucketedState) → grown ≡ grown_frame frame size → stored_state grown stored ≡ state → stored_state (written frame grown) stored ≡ state
+written-read frame grown size stored state is read =
+    ap (λ (one : Frame). stored_state one stored) (subst (λ (one : Frame). written frame one ≡ one) (sym is) refl) ∙ read
 
 pub returns-in-Some-clause-promises : goal.returns-in-Some-clause-promises
 returns-in-Some-clause-promises c = subst KeepsPromises c.self.view_is (valid-promises (state_in c.self.inside) c.self.invariant.witnessed.valid)
@@ -73,8 +91,8 @@ invariant_of-self-2 c =
     c.grown_frame-frame.ensures c.in-Ok.ensures.ok c.in-Ok.ensures.made in
     record {
       unused = a.unused;
-      witnessed = subst (Witnessed c.widen.new.self a.unused) (sym a.tells.read) a.witnessed;
-      totals = subst (HasTotals c.end-end.result.along c.end-end.result.across (c.self.inside.buckets_in_use + c.in-Ok.made) c.self.inside.allocated_space) (sym a.tells.read)
+      witnessed = subst (Witnessed c.widen.new.self a.unused) (sym (written-read c.self.inside.frame c.grown_frame-frame.result c.args.size c.widen.new.self a.state c.grown_frame-frame.ensures a.tells.read)) a.witnessed;
+      totals = subst (HasTotals c.end-end.result.along c.end-end.result.across (c.self.inside.buckets_in_use + c.in-Ok.made) c.self.inside.allocated_space) (sym (written-read c.self.inside.frame c.grown_frame-frame.result c.args.size c.widen.new.self a.state c.grown_frame-frame.ensures a.tells.read))
           (record {
             column = ap (λ (s : Sides). s.along) c.end-end.ensures ∙ a.tells.column;
             height = ap (λ (s : Sides). s.across) c.end-end.ensures ∙ a.tells.height;
@@ -87,14 +105,14 @@ pub returns-clause-ok : goal.returns-clause-ok
 returns-clause-ok c =
     let a = after-grow c.self.inside c.args.size c.grown_frame-frame.result c.widen.new.self c.in-Ok.made c.self.invariant (sym c.grow_fault.ensures ∙ c.in_default.is)
     c.grown_frame-frame.ensures c.in-Ok.ensures.ok c.in-Ok.ensures.made in
-    subst (λ (new : BucketedState). Grows c.args.self.now c.args.size new) (sym a.tells.read)
+    subst (λ (new : BucketedState). Grows c.args.self.now c.args.size new) (sym (written-read c.self.inside.frame c.grown_frame-frame.result c.args.size c.widen.new.self a.state c.grown_frame-frame.ensures a.tells.read))
     (subst (λ (old : BucketedState). Grows old c.args.size a.state) c.self.view_is a.grows)
 
 pub returns-clause-promises : goal.returns-clause-promises
 returns-clause-promises c =
     let a = after-grow c.self.inside c.args.size c.grown_frame-frame.result c.widen.new.self c.in-Ok.made c.self.invariant (sym c.grow_fault.ensures ∙ c.in_default.is)
     c.grown_frame-frame.ensures c.in-Ok.ensures.ok c.in-Ok.ensures.made in
-    subst KeepsPromises (sym a.tells.read) (valid-promises a.state a.witnessed.valid)
+    subst KeepsPromises (sym (written-read c.self.inside.frame c.grown_frame-frame.result c.args.size c.widen.new.self a.state c.grown_frame-frame.ensures a.tells.read)) (valid-promises a.state a.witnessed.valid)
 
 pub returns-clause-allocated : goal.returns-clause-allocated
 returns-clause-allocated c = λ entries tied. grows-tied entries c.args.self.now c.args.size _ tied (returns-clause-ok c)

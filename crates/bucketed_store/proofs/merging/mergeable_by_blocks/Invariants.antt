@@ -1,7 +1,7 @@
 use Rattle.std.proofs.Common.{◌≡◌, ◌≤◌, drop}
 use Rattle.bucket_index.specs.Private.Blocks.{AreBusy}
 use Rattle.bucketed_store.specs.Private.Placing.{kept_mergeable}
-use Rattle.bucketed_store.proofs.merging.mergeable_shelves.Given as goal
+use Rattle.bucketed_store.proofs.merging.mergeable_by_blocks.Given as goal
 
 -- what is sought among all shelves is what is sought from one on, behind which each is busy or flat up to here
 abbrev pub invariant-loop-block : goal.invariant-loop-block
