@@ -111,6 +111,55 @@ def emptied(shelves):
     return make
 
 
+def emptied_from_last(shelves):
+    """Full shelves of a bucket each, which all but the first go, from the last on."""
+
+    def make(_program):
+        filling = [f"bucketed 16 {8 * shelves} 1 1 1 h"] + ["a 16 8"] * shelves
+        return filling, [f"r {position}" for position in reversed(range(1, shelves))]
+
+    return make
+
+
+def last_of_two_go(shelves):
+    """Shelves of two items, of which the first went: the others go, from the last on."""
+
+    def make(_program):
+        filling = [f"bucketed 16 {8 * shelves} 1 1 1 h"] + ["a 8 8"] * (2 * shelves)
+        filling += [f"r {2 * shelf}" for shelf in range(shelves)]
+        return filling, [f"r {2 * shelf + 1}" for shelf in reversed(range(1, shelves))]
+
+    return make
+
+
+def some_left_go(shelves, apart):
+    """Shelves of two items, of which one in so many holds one: these go from the last on, and the empty ones behind with them."""
+
+    def make(_program):
+        filling = [f"bucketed 160 {8 * shelves} 1 1 1 h"] + ["a 80 8"] * (2 * shelves)
+        filling += [f"r {item}" for item in range(2 * shelves) if item % (2 * apart)]
+        return filling, [f"r {item}" for item in reversed(range(2 * apart, 2 * shelves, 2 * apart))]
+
+    return make
+
+
+def labels_from_last(count):
+    """Labels of three heights, which go from the last on."""
+
+    def make(_program):
+        chooser = random.Random(7)
+        sizes = [(chooser.randint(100, 250), chooser.choice((16, 20, 24))) for _ in range(count)]
+        filling = ["bucketed 256 8000 1 1 1 h"] + [f"a {width} {height}" for width, height in sizes]
+        return filling, [f"r {position}" for position in reversed(range(1, count))]
+
+    return make
+
+
+def grown_in_columns(_program):
+    """An atlas of six columns that grows again and again to the size that it has."""
+    return ["bucketed 1000 64 1 1 6 h"] + ["a 2 1"] * 160, ["g 1000 64"] * ROUNDS
+
+
 def any_go(shelves):
     """Full shelves of a bucket each, of which any two go and two come."""
 
@@ -296,6 +345,10 @@ ROWS = {
     "16 full shelves that are emptied in any order": Row(emptied(16), 80, before=136),
     "40 such shelves": Row(emptied(40), 80, before=194),
     "4095 such shelves": Row(emptied(BUCKETS), 80, before=245),
+    "1000 such shelves, from the last on": Row(emptied_from_last(1000), 143, before=257),
+    "200 labels that go from the last on": Row(labels_from_last(200), 132, before=250),
+    "4095 shelves of two items, of which one went: the others go, from the last on": Row(last_of_two_go(BUCKETS), 143, before=281),
+    "1600 shelves, of which each eighth has an item: these go, from the last on": Row(some_left_go(1600, 8), 416, before=594),
     "17 full shelves: any two go and two come": Row(any_go(17), 322, before=353),
     "64 full shelves, the same": Row(any_go(64), 868, before=370),
     "4095 full shelves: a refused size": Row(refused, 311351, before=82013, most=MOST),
@@ -311,6 +364,7 @@ ROWS = {
     "the same, one after the other": Row(first_two_in_turn(256), 161, before=314),
     "65 shelves with a little room: the first three go, and three come": Row(first_ones_go(65, 3, 192), 177, before=388),
     "three items: a grow": Row(grown, 128, before=6127),
+    "six columns: a grow again and again": Row(grown_in_columns, 68, before=109),
     "3000 items that add a shelf each, since all are too tall": Row(shelves_too_tall, 24337, before=17944, most=MOST),
     "4000 empty shelves: a narrower item comes and goes": Row(empty_shelves, 94132, before=88714, most=MOST),
     "4094 empty shelves: each item has two of them merged": Row(merges, 154910, before=118894, most=MOST),

@@ -230,6 +230,30 @@ def full_shelves(choose):
     return make
 
 
+def second_half_drained(shelves):
+    """Full shelves, of which every second went: the others go, from the last on."""
+
+    def make(_program):
+        filling = [f"atlas 16 {8 * shelves} 1 1 1 h"] + ["a 16 8"] * shelves
+        filling += [f"r {position}" for position in range(0, shelves, 2)]
+        return filling, [f"r {position}" for position in reversed(range(1, shelves, 2))]
+
+    return make
+
+
+def first_search(shelves):
+    """Full shelves of two heights in turn, of which every third went, and then an item of either height that comes and goes."""
+
+    def make(_program):
+        heights = [8 * (1 + shelf % 2) for shelf in range(shelves)]
+        filling = [f"atlas 112 {sum(heights)} 1 1 1 h"] + [f"a 112 {height}" for height in heights]
+        filling += [f"r {position}" for position in range(0, shelves, 3)]
+        count = len(filling) - 1
+        return filling, [line for n in range(ROUNDS) for line in (f"a 16 {8 * (1 + n % 2)}", f"r {count + 2 * n}")]
+
+    return make
+
+
 def drained_beside_first(shelves, later=("a 16 8", "a 4104 8")):
     """Full shelves that go in any order, while after each an item comes to the first shelf, and one is refused."""
 
@@ -344,6 +368,8 @@ ROWS = {
     # Counted likewise, as the next two.
     "100 shelves drained in any order": Row(drained(100, False), 136, before=242),
     "100 shelves of five heights, the same": Row(drained_of_heights(100), 135, before=260),
+    "1600 full shelves of which every second went: the others go, from the last on": Row(second_half_drained(1600), 159),
+    "3000 shelves of two heights, of which every third went: an item of either comes and goes": Row(first_search(3000), 236),
     "an atlas without items is cleared": Row(cleared_empty, 115, before=201),
     "an atlas of 13 columns is cleared and gets four items": Row(columns_anew, 422, before=579),
     "4096 shelves, half of them empty: a split and a merge": Row(half_empty(16, 256), 26893, before=1754),
