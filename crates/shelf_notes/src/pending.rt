@@ -15,8 +15,8 @@ use shelf_records::LinkedShelf;
 use std::alloc::{AllocError, Global};
 use std::marker::Model;
 
-/// No more searches than this are counted.
-pub const MOST_SEARCHES: u32 = 16;
+/// No more searches than this are counted: more than twice as many as there can be shelves.
+const MOST_SEARCHES: u32 = 1 << 18;
 
 /// So many searches count as the last of them once going through all shelves was given up, where that is rare.
 const RESTED_BRIEFLY: u32 = 1;
@@ -107,6 +107,8 @@ pub struct PendingShelves {
     walks: u32,
     /// How many searches do once the next look is in vain. Nothing rests on it.
     in_vain: u32,
+    /// Whether the last look at the first shelves was enough. Nothing rests on it.
+    looks_serve: bool,
     /// How many searches in turn went far. Nothing rests on it.
     far: u32,
     /// What was asked for of late. Nothing rests on it.
@@ -159,6 +161,7 @@ impl PendingShelves {
             rested: 0,
             walks: RARELY_GIVEN_UP,
             in_vain: 1,
+            looks_serve: false,
             far: 0,
             watch: UNWATCHED,
         })
@@ -201,6 +204,7 @@ impl PendingShelves {
             rested: self.rested,
             walks: self.walks,
             in_vain: self.in_vain,
+            looks_serve: self.looks_serve,
             far: self.far,
             watch: self.watch,
         };
@@ -270,6 +274,7 @@ impl PendingShelves {
         ensures room { self.new.room ≡ self.old.room }
     {
         self.in_vain = self.in_vain.max(2) - 1;
+        self.looks_serve = true;
     }
 
     /// Has some searches count as the last that are counted, since a look at the first shelves was in vain: four times as many
@@ -280,6 +285,12 @@ impl PendingShelves {
     {
         self.rested = self.in_vain;
         self.in_vain = 4 * self.in_vain.min(RESTED_FROM_LOOKS / 4);
+        self.looks_serve = false;
+    }
+
+    /// Whether the last look at the first shelves was enough.
+    pub fn looks_serve(&self) -> bool {
+        self.looks_serve
     }
 
     /// Whether a search may go far in place of having all shelves sorted: some in turn may, and the one after them may not.

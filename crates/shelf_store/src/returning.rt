@@ -4,11 +4,11 @@
 //! record of the earlier place. It looks only at the neighbours of the item and of its shelf, moves none in the list by
 //! height, and takes no memory: all have to stay so.
 
-ghost use Rattle.std.specs.Prelude.{◌≡◌, ℕ, ◌<◌, ◌≤◌, false, None, Some, IfSome, length};
+ghost use Rattle.std.specs.Prelude.{◌≡◌, ℕ, ◌<◌, ◌≤◌, false, None, Some, IfSome, is_some, length};
 ghost use Rattle.etagere_base.specs.Lists.{times};
 ghost use Rattle.shelf_records.specs.AtlasRecords.{shelf_of};
 ghost use Rattle.shelf_store.specs.Private.ItemReturned as returned;
-ghost use Rattle.shelf_store.specs.Private.ItemReturned.{CanMergeItem, CanMergeShelves, CanReturn, FreeNextIsThere, HeightsFit, AreThere, WidthsFit};
+ghost use Rattle.shelf_store.specs.Private.ItemReturned.{CanMergeItem, CanMergeShelves, CanReturn, FreeNextIsThere, HeightsFit, IsShelfThere, AreThere, WidthsFit};
 ghost use Rattle.shelf_heights.specs.Private.ByHeight.{AreInOrder, numbers_by_height};
 ghost use Rattle.shelf_notes.specs.Private.Pending.{is_noted};
 ghost use Rattle.shelf_store.specs.Private.ReturnedNotes as noting;
@@ -17,6 +17,7 @@ ghost use Rattle.shelf_store.specs.Private.ReturnedNotes.{freed_width, CanMergeA
 ghost use Rattle.etagere_links.specs.Edits.{link_at};
 ghost use Rattle.etagere_links.specs.Links.{no_link};
 ghost use Rattle.shelf_records.specs.Neighbours.{HasNeighbours, NamesOneOf};
+ghost use Rattle.shelf_records.specs.RecordLists.{first_item_of};
 ghost use Rattle.shelf_records.specs.Records.{shelf_chain};
 
 use etagere_links::Link;
@@ -243,10 +244,70 @@ fn merge_shelves(records: &mut Records, pending: &mut PendingShelves, shelf: usi
     ensures few { result < 3 }
     ensures room { pending.new.room ≡ pending.old.room }
 {
-    let next = empty_behind(records.shelves(), shelf);
-    let one = merge_shelf(records, pending, shelf, next);
+    match empty_behind(records.shelves(), shelf) {
+        Some(next) => absorb_around(records, pending, shelf, next),
+        None => merge_into_previous(records, pending, shelf),
+    }
+}
+
+/// An empty shelf takes the place of the next one, which has this number and is empty too; then the one before takes its
+/// place, where it is empty and stands in one column with it. Never inlined, so that a return that merges no shelves doesn't
+/// carry it.
+#[inline(never)]
+fn absorb_around(
+    records: &mut Records,
+    pending: &mut PendingShelves,
+    shelf: usize,
+    next: usize,
+) -> u32
+    requires next { returned.empty_next records.old.shelves shelf ≡ Some next }
+    requires small { next < no_link }
+    requires fits { CanMergeShelves shelf records.old }
+    requires notes { CanMergeAllNotes shelf records.old pending.old.notes }
+    ensures records { records.new ≡ (returned.shelves_merged shelf records.old).records }
+    ensures notes { pending.new.notes
+        ≡ noting.shelves_merged_notes shelf records.old pending.old.notes }
+    ensures made_unused { result ≡ (returned.shelves_merged shelf records.old).made_unused }
+    ensures few { result < 3 }
+    ensures room { pending.new.room ≡ pending.old.room }
+{
+    if !absorb_records(records, shelf, next) {
+        return merge_into_previous(records, pending, shelf);
+    }
+    pending.note(next, false);
+    if let Some(previous) = empty_before(records.shelves(), shelf) {
+        if absorb_records(records, previous, shelf) {
+            // That it changed before needn't be noted: of a shelf the last note counts.
+            pending.note(shelf, false);
+            pending.note(previous, true);
+            return 2;
+        }
+    }
+    pending.note(shelf, true);
+    1
+}
+
+/// The shelf before one, if any, takes its place, where both are empty and stand in one column.
+fn merge_into_previous(records: &mut Records, pending: &mut PendingShelves, shelf: usize) -> u32
+    requires there { shelf < length records.old.shelves }
+    requires fits { (n : ℕ) → link_at shelf_chain.previous records.old.shelves shelf ≡ Some n
+        → HeightsFit n records.old.shelves }
+    requires notes { CanMergeNamedNotes (link_at shelf_chain.previous records.old.shelves shelf)
+        records.old pending.old.notes }
+    ensures records { records.new
+        ≡ (returned.named_shelf_merged (link_at shelf_chain.previous records.old.shelves shelf)
+        records.old).records }
+    ensures notes { pending.new.notes
+        ≡ noting.named_shelf_merged_notes (link_at shelf_chain.previous records.old.shelves shelf)
+        records.old pending.old.notes }
+    ensures made_unused { result
+        ≡ (returned.named_shelf_merged (link_at shelf_chain.previous records.old.shelves shelf)
+        records.old).made_unused }
+    ensures few { result < 2 }
+    ensures room { pending.new.room ≡ pending.old.room }
+{
     let previous = previous_link(records.shelves(), shelf);
-    one + merge_named_shelf(records, pending, previous)
+    merge_named_shelf(records, pending, previous)
 }
 
 /// The link to the shelf before one that is there.
@@ -320,16 +381,50 @@ fn absorb_shelf(
     ensures few { result < 2 }
     ensures room { pending.new.room ≡ pending.old.room }
 {
+    let absorbed = absorb_records(records, shelf, next);
+    if absorbed {
+        pending.note(next, false);
+        pending.note(shelf, true);
+    }
+    u32::from(absorbed)
+}
+
+/// The records of two shelves that are empty and stand in one column become one, if the later has an item, and this says whether
+/// they did. Always inlined: what is known of the one before needn't be read anew then.
+#[inline(always)]
+fn absorb_records(records: &mut Records, shelf: usize, next: usize) -> bool
+    requires next { returned.empty_next records.old.shelves shelf ≡ Some next }
+    requires small { next < no_link }
+    requires fits { HeightsFit shelf records.old.shelves }
+    requires there { IsShelfThere shelf records.old }
+    ensures records { records.new ≡ (returned.shelf_merged shelf records.old).records }
+    ensures item { result ≡ is_some (first_item_of records.old.shelves next) }
+{
     let absorbed = &records.shelves()[next];
     let item = number_or_none(absorbed.first_item);
     if item == NO_NUMBER {
-        return 0;
+        return false;
     }
     let height = records.shelves()[shelf].height + absorbed.height;
     records.absorb_shelf(shelf, next, item, height);
-    pending.note(next, false);
-    pending.note(shelf, true);
-    1
+    true
+}
+
+/// The shelf before one that is empty, where it is empty too and they stand in one column. Both are there.
+fn empty_before(shelves: &[LinkedShelf], shelf: usize) -> Option<usize>
+    requires here { shelf < length shelves.now }
+    requires previous { NamesOneOf shelves.now (link_at shelf_chain.previous shelves.now shelf) }
+    ensures { result ≡ returned.empty_previous shelves.now shelf }
+{
+    let previous = number_or_none(shelves[shelf].prev);
+    if previous == NO_NUMBER || !shelves[previous].is_empty {
+        return None;
+    }
+    if are_both_empty(shelves, previous, shelf) {
+        Some(previous)
+    } else {
+        None
+    }
 }
 
 /// The shelf after one, where both are empty and stand in one column. Both are there.

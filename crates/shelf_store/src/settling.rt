@@ -24,7 +24,7 @@ use crate::settling::noting::settle_notes;
 use crate::starting::sort_shelves;
 use etagere_base::Frame;
 use shelf_heights::by_height::ShelvesByHeight;
-use shelf_notes::pending::{MOST_SEARCHES, PendingShelves};
+use shelf_notes::pending::PendingShelves;
 use shelf_records::{LinkedShelf, Records};
 
 /// Where no more than so many have changed, each is moved by itself.
@@ -63,6 +63,13 @@ const WALKED_RECORDS: usize = 112;
 const LOOKED_AT: usize = 16;
 
 const LOOKED_AT_FOR_ONE: usize = 8;
+
+/// After so many searches since a shelf has changed the list follows, but where all would be sorted and looks serve.
+const FEW_SEARCHES: u32 = 16;
+
+/// So many first shelves are looked at then: in twice as many searches as there are shelves, which is no more work than to
+/// sort these.
+const LOOKED_AT_LATE: u32 = 32;
 
 /// No more count as changed than there can be.
 const MOST_CHANGED: usize = 65535;
@@ -131,8 +138,8 @@ pub fn by_place(
     ensures room { pending.new.room ≡ pending.old.room }
 {
     let searches = pending.count_search();
-    if searches >= MOST_SEARCHES {
-        return ByPlace::NoShelves;
+    if searches >= FEW_SEARCHES {
+        return by_late_place(records, by_height, pending, searches);
     }
     if records.shelves().len() <= WALKED_IN_PLACE {
         return ByPlace::All;
@@ -146,6 +153,24 @@ pub fn by_place(
         return ByPlace::First(looked_at(pending.len()));
     }
     ByPlace::NoShelves
+}
+
+/// Which shelves a search goes through by place after so many since one has changed: some first ones, where the list would
+/// have to sort all to follow, and looks at the first ones have served so far. Never inlined, so that what calls it is short.
+#[inline(never)]
+fn by_late_place(
+    records: &Records,
+    by_height: &ShelvesByHeight,
+    pending: &PendingShelves,
+    searches: u32,
+) -> ByPlace {
+    let changed = pending.len();
+    let may_wait = pending.looks_serve() && searches as usize / 2 <= records.shelves().len();
+    if may_wait && changed > MANY && are_many(changed, by_height.len()) {
+        ByPlace::First(LOOKED_AT_LATE)
+    } else {
+        ByPlace::NoShelves
+    }
 }
 
 /// Whether this search goes through all shelves in place of having them sorted, although they are many: some do in turn.

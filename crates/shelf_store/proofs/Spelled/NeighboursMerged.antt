@@ -167,7 +167,8 @@ can-merge-shelves {atlas} around entry low flagged =
       next = heights-fit atlas around.before around.after entry around.unused_items around.unused_shelves low flagged;
       previous =
           by_end (λ (xs : List Entry). AreLow (map (spelled_shelf atlas) (xs ++ entry ∷ around.after)) → MergesShelf atlas one (shelf_merged_notes entry.number atlas.records) (record around { before = xs }) entry → (n : ℕ) → link ≡ Some n → HeightsFit n one.records.shelves)
-          first some around.before low (merges-shelf atlas around.before around.after entry around.unused_items around.unused_shelves flagged);
+          first some around.before low merged;
+      linked = shelf-before (around_of around.before merged.rest merged.left_unused merged.gone) entry merged.flagged;
     }
   where
     one : Step
@@ -175,6 +176,9 @@ can-merge-shelves {atlas} around entry low flagged =
 
     middle : AtlasRecords
     middle = with_records atlas one.records
+
+    merged : MergesShelf atlas one (shelf_merged_notes entry.number atlas.records) around entry
+    merged = merges-shelf atlas around.before around.after entry around.unused_items around.unused_shelves flagged
 
     link : Option ℕ
     link = link_at shelf_chain.previous one.records.shelves entry.number

@@ -91,6 +91,17 @@ empty_named shelves shelf (Some next) =
 abbrev pub empty_next : List LinkedShelf → ℕ → Option ℕ
 empty_next shelves shelf = empty_named shelves shelf (link_at shelf_chain.next shelves shelf)
 
+-- the shelf that a link names, where it and the one after it are empty and stand in one column
+abbrev pub empty_named_before : List LinkedShelf → ℕ → Option ℕ → Option ℕ
+empty_named_before shelves shelf None = None
+empty_named_before shelves shelf (Some previous) =
+    if are_both_empty shelves previous shelf then Some previous else None
+
+-- the shelf before one, where both are empty and stand in one column
+abbrev pub empty_previous : List LinkedShelf → ℕ → Option ℕ
+empty_previous shelves shelf =
+    empty_named_before shelves shelf (link_at shelf_chain.previous shelves shelf)
+
 -- an empty shelf takes the place of the next one, if any, whose item is the one named
 abbrev pub shelf_of_item_absorbed : ℕ → ℕ → Option ℕ → Records → Step
 shelf_of_item_absorbed shelf next None records = record { records = records; made_unused = 0 }
@@ -220,19 +231,20 @@ pub record IsRemaining (shelf number : ℕ) (records : Records) : Type 0 where
       ≡ is_alone (item_merged shelf number records).records.items (remaining_in shelf number records)
   pub in_use : is_empty_at (item_merged shelf number records).records.shelves shelf ≡ false
 
--- what merging a shelf with its neighbours adds up fits 16 bits
+-- the shelf before one links to it
+abbrev pub IsLinkedBack : ℕ → List LinkedShelf → Type 0
+IsLinkedBack shelf shelves =
+    (n : ℕ) → link_at shelf_chain.previous shelves shelf ≡ Some n
+    → link_at shelf_chain.next shelves n ≡ Some shelf
+
+-- what merging a shelf with its neighbours adds up fits 16 bits, and once the next one is merged the one before links to it
 pub record CanMergeShelves (shelf : ℕ) (records : Records) : Type 0 where
   pub next : HeightsFit shelf records.shelves
   pub previous :
       (let one = shelf_merged shelf records in
       (n : ℕ) → link_at shelf_chain.previous one.records.shelves shelf ≡ Some n
       → HeightsFit n one.records.shelves)
-
--- the shelf before one links to it
-abbrev pub IsLinkedBack : ℕ → List LinkedShelf → Type 0
-IsLinkedBack shelf shelves =
-    (n : ℕ) → link_at shelf_chain.previous shelves shelf ≡ Some n
-    → link_at shelf_chain.next shelves n ≡ Some shelf
+  pub linked : (let one = shelf_merged shelf records in IsLinkedBack shelf one.records.shelves)
 
 -- what a return adds up fits 16 bits, and all that it reads is there
 pub record CanReturn (number : ℕ) (records : Records) : Type 0 where

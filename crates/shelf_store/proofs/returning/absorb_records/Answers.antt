@@ -1,4 +1,4 @@
-use Rattle.std.proofs.Common.{◌≡◌, ◌≢◌, ℕ, ◌<◌, false, None, Some, List, ap, arith, get_or, length, refl, sym, ◌∙◌}
+use Rattle.std.proofs.Common.{◌≡◌, ◌≢◌, ℕ, ◌<◌, None, Some, List, is_some, ap, arith, get_or, length, refl, sym, ◌∙◌}
 use Rattle.etagere_links.specs.Links.{no_link}
 use Rattle.etagere_links.specs.Edits.{field_at}
 use Rattle.shelf_records.specs.Neighbours.{HasNeighbours}
@@ -7,13 +7,12 @@ use Rattle.shelf_records.specs.AtlasRecords.{height_of}
 use Rattle.shelf_records.specs.declared.records.LinkedShelf.{LinkedShelf}
 use Rattle.shelf_records.specs.RecordLists.{first_item_of}
 use Rattle.shelf_records.specs.Records.{shelf_chain}
-use Rattle.shelf_notes.proofs.NotedShelves.{noted-known}
-use Rattle.shelf_store.proofs.returning.absorb_shelf.Goals as goal
-use Rattle.shelf_store.proofs.returning.absorb_shelf.Goals.{After-number_or_none-item, Start}
+use Rattle.shelf_store.proofs.returning.absorb_records.Goals as goal
+use Rattle.shelf_store.proofs.returning.absorb_records.Goals.{After-number_or_none-item, Start}
 
 -- both shelves are there
 both-there : (c : Start) → (c.args.shelf < length c.args.records.now.shelves) × HasNeighbours shelf_chain c.args.records.now.shelves c.args.next
-both-there c = (c.requires.notes.there.here.here, c.requires.notes.there.next c.args.next c.requires.next)
+both-there c = (c.requires.there.here.here, c.requires.there.next c.args.next c.requires.next)
 
 -- a field of a shelf that was read, and is there
 read : {X : Type 0} (field : LinkedShelf → X) (other : X) (shelves found : List LinkedShelf) (shelf : ℕ) (here : LinkedShelf) → found ≡ shelves → shelf < length shelves → field_at field other shelves shelf ≡ field (get_or found shelf here)
@@ -46,28 +45,12 @@ returns-clause-records c =
       next_height,
     ) refl
 
-pub returns-clause-notes : goal.returns-clause-notes
-returns-clause-notes c =
-    let at = goal.at.returns-clause-notes c in
-    let item = first at.After-number_or_none-item (both-there at.Start).1.here c.if-item-eq-NO_NUMBER.false in
-    rw (c.note-2.ensures.notes, c.note.ensures.notes, c.requires.next, item) refl
-
-pub note-requires : goal.note-requires
-note-requires c = omega (arith, (both-there (goal.at.note-requires c).Start).1.here, c.requires.notes.known)
-
-pub note-requires-2 : goal.note-requires-2
-note-requires-2 c =
-    let there = both-there (goal.at.note-requires-2 c).Start in
-    rw c.note.ensures.notes
-    (omega (arith, there.0, c.requires.notes.known, noted-known c.args.pending.now.notes c.args.next false (omega (arith, there.1.here, c.requires.notes.known))))
-
-pub absorb_shelf-requires-clause-shelf : goal.absorb_shelf-requires-clause-shelf
-absorb_shelf-requires-clause-shelf c = (both-there (goal.at.absorb_shelf-requires-clause-shelf c).Start).0
-
-pub absorb_shelf-requires-clause-next : goal.absorb_shelf-requires-clause-next
-absorb_shelf-requires-clause-next c = (both-there (goal.at.absorb_shelf-requires-clause-next c).Start).1
+pub returns-clause-item : goal.returns-clause-item
+returns-clause-item c =
+    let at = goal.at.returns-clause-item c in
+    sym (ap is_some (first at.After-number_or_none-item (both-there at.Start).1.here c.if-item-eq-NO_NUMBER.false))
 
 pub absorb_shelf-requires-clause-item : goal.absorb_shelf-requires-clause-item
 absorb_shelf-requires-clause-item c =
     let at = goal.at.absorb_shelf-requires-clause-item c in
-    c.requires.notes.there.item c.args.next c.requires.next c.number_or_none-item.result (first at.After-number_or_none-item (both-there at.Start).1.here c.if-item-eq-NO_NUMBER.false)
+    c.requires.there.item c.args.next c.requires.next c.number_or_none-item.result (first at.After-number_or_none-item (both-there at.Start).1.here c.if-item-eq-NO_NUMBER.false)
