@@ -120,7 +120,8 @@ fn mergeable_from(sides: &Sides, shelves: &[KeptShelf], from: usize) -> Option<G
     mergeable_between(sides, shelves, from, shelves.len())
 }
 
-/// The same where blocks are counted. They are passed over in which each shelf holds something live or has no height, but for the last two shelves before another block.
+/// The same where blocks are counted. They are passed over in which each shelf holds something live or has no height, but for
+/// the last two shelves before another block.
 #[inline(never)]
 fn mergeable_by_blocks(sides: Sides, shelves: &[KeptShelf], blocks: &Blocks) -> Option<Group>
     requires across { 0 < sides.across }

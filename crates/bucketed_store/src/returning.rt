@@ -146,6 +146,7 @@ pub(crate) fn return_only(shelves: &mut [KeptShelf], buckets: &mut [LinkedBucket
 pub(crate) fn leaves_idle(shelves: &[KeptShelf], buckets: &[LinkedBucket], number: usize) -> bool
     requires number { number < length buckets.now }
     requires shelf { shelf_of buckets.now number < length shelves.now }
+    ensures exact { result ≡ spec.leaves_idle number shelves.now buckets.now }
     ensures only { IsTrue result → spec.IsOnly number shelves.now buckets.now }
     ensures before { IsTrue result → shelf_of buckets.now number + 1 < length shelves.now }
     ensures last { IsTrue result → spec.ends_idle shelves.now ≡ false }

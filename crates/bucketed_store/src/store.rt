@@ -2,7 +2,7 @@
 //!
 //! Definitions: `Store`, `StoreEdits`. `Store` also says when records spell a state.
 
-ghost use Rattle.std.specs.Prelude.{IsFalse, IsTrue, List, ◌≡◌, ◌↔◌, ◌+◌, ◌-◌, ◌*◌, ◌<◌, ◌≤◌, ◌^◌, [], None, Some, IfOk, IfSome, IfNone, IsSome, OnOk, OnErr, OnSome, false, length, slice_get, vec_len, vec_capacity, map, nat_le};
+ghost use Rattle.std.specs.Prelude.{IsFalse, IsTrue, List, ◌≡◌, ◌↔◌, ◌+◌, ◌-◌, ◌*◌, ◌<◌, ◌≤◌, ◌^◌, [], None, Some, IfOk, IfSome, IfNone, IsSome, is_some, OnOk, OnErr, OnSome, false, length, slice_get, vec_len, vec_capacity, map, nat_le};
 ghost use Rattle.etagere_links.specs.Edits.{changed_by};
 ghost use Rattle.etagere_links.specs.Links.{no_link};
 ghost use Rattle.bucketed_model.specs.Adding as adding;
@@ -553,6 +553,7 @@ impl Store {
             (returns.dropping_from self.new 0) ≡ returns.dropping_from self.new 0) }
         ensures area { IfSome result
             (λ area. area ≡ returns.returned_area number self.old.shelves self.old.buckets) }
+        ensures some { is_some result ≡ returns.leaves_idle number self.old.shelves self.old.buckets }
         ensures same { IfNone result (self.new ≡ self.old) }
     {
         if !leaves_idle(&self.shelves, &self.buckets, number) {

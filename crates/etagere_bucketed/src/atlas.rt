@@ -334,6 +334,7 @@ impl BucketedAtlasAllocator {
             return Err(GrowFault::Memory);
         };
         let end = self.store.end(&frame);
+        // The other fields stay, so that they aren't written anew.
         self.frame.width = frame.width;
         self.frame.height = frame.height;
         self.frame.column_width = frame.column_width;

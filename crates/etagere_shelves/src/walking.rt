@@ -70,8 +70,9 @@ fn walk_if_few(
     ensures notes { pending.new.notes ≡ pending.old.notes }
     ensures room { pending.new.room ≡ pending.old.room }
 {
-    match by_place(records, by_height, pending) {
+    match by_place(records, by_height, pending, width) {
         ByPlace::All => {}
+        ByPlace::Many => return walk_all(records, pending, width, height),
         ByPlace::First(most) => return look_first(records, by_height, pending, width, height, most),
         ByPlace::NoShelves => return Walked::NotThrough,
     }
@@ -83,8 +84,23 @@ fn walk_if_few(
     walked
 }
 
-/// Goes through so many of the first shelves, for one of just the height; through all where there is none, and all would be
-/// sorted anew, in some searches in turn.
+/// Goes through all shelves, although they are many, up to one of just the height.
+fn walk_all(records: &Records, pending: &mut PendingShelves, width: u32, height: u32) -> Walked
+    requires linked { IsLinked records.now (walked_lists records.now) }
+    requires short { height ≤ longest_side }
+    ensures through { IsThrough records.now width height result }
+    ensures notes { pending.new.notes ≡ pending.old.notes }
+    ensures room { pending.new.room ≡ pending.old.room }
+{
+    let walked = walk_many(records, width, height);
+    if let Some(shelf) = walked.exact_shelf(height) {
+        pending.count_exact(shelf);
+    }
+    walked
+}
+
+/// Goes through so many of the first shelves, for one of just the height, and in some searches in turn through all where there is
+/// none and all would be listed anew.
 fn look_first(
     records: &Records,
     by_height: &ShelvesByHeight,
@@ -104,8 +120,9 @@ fn look_first(
         pending.count_look();
         return walked;
     }
-    if goes_far(by_height, pending) {
-        return walk_many(records, width, height);
+    pending.count_look_in_vain();
+    if goes_far(by_height, pending, width) {
+        return walk_all(records, pending, width, height);
     }
     pending.rest_from_looks();
     walked

@@ -394,7 +394,7 @@ fn position_by_halves(
     ensures same { by_height.new ≡ by_height.old }
 {
     let index = start_of(shelves, by_height, shelf).index;
-    by_height.keep_position(shelf, index);
+    by_height.keep_sought(shelf, index);
     index
 }
 

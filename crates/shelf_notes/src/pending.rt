@@ -16,7 +16,7 @@ use std::alloc::{AllocError, Global};
 use std::marker::Model;
 
 /// No more searches than this are counted: more than twice as many as there can be shelves.
-const MOST_SEARCHES: u32 = 1 << 18;
+pub const MOST_SEARCHES: u32 = 1 << 18;
 
 /// So many searches count as the last of them once going through all shelves was given up, where that is rare.
 const RESTED_BRIEFLY: u32 = 1;
@@ -30,8 +30,14 @@ const RARELY_GIVEN_UP: u32 = 6;
 /// So many searches do at most once a look at the first shelves was in vain.
 const RESTED_FROM_LOOKS: u32 = 64;
 
+/// No more do once a parked shelf has room again: it may be one of the first.
+const RESTED_WITH_ROOM: u32 = 8;
+
 /// As many searches in turn may go far in place of having all shelves sorted.
-const FAR_IN_TURN: u32 = 3;
+const FAR_IN_TURN: u32 = 64;
+
+/// The shelves of so many numbers are mostly the first.
+const FIRST_SHELVES: usize = 16;
 
 /// Where more have changed than this, the list has much to follow, and no search counts as the last.
 const RESTED_WITH: usize = 2;
@@ -285,6 +291,13 @@ impl PendingShelves {
     {
         self.rested = self.in_vain;
         self.in_vain = 4 * self.in_vain.min(RESTED_FROM_LOOKS / 4);
+    }
+
+    /// Counts that a look at the first shelves was in vain.
+    pub fn count_look_in_vain(&mut self)
+        ensures notes { self.new.notes ≡ self.old.notes }
+        ensures room { self.new.room ≡ self.old.room }
+    {
         self.looks_serve = false;
     }
 
@@ -301,6 +314,18 @@ impl PendingShelves {
         let goes = self.far < FAR_IN_TURN;
         self.far = if goes { self.far + 1 } else { 0 };
         goes
+    }
+
+    /// Counts that a search that goes far found this shelf to be just as high. Where it is one of the first, a look at these would
+    /// have been enough, and as many in turn may go far as at first.
+    pub fn count_exact(&mut self, shelf: usize)
+        ensures notes { self.new.notes ≡ self.old.notes }
+        ensures room { self.new.room ≡ self.old.room }
+    {
+        if shelf < FIRST_SHELVES {
+            self.far = 0;
+            self.looks_serve = true;
+        }
     }
 
     /// The number of one of them, in the order in which they changed.
@@ -372,6 +397,7 @@ impl PendingShelves {
         ensures notes { self.new.notes ≡ spec.noted_as shelf true self.old.notes }
         ensures room { self.new.room ≡ self.old.room }
     {
+        self.rested = self.rested.min(RESTED_WITH_ROOM);
         self.note(shelf, true);
     }
 
@@ -535,6 +561,7 @@ impl PendingShelves {
         self.parked_below = 0;
         self.narrow_below = 0;
         self.searches = MOST_SEARCHES;
+        self.rested = 0;
         self.noted.clear();
         copy_all(&mut self.kept, shelves);
         know_all(&mut self.standing, shelves.len(), known);

@@ -27,7 +27,7 @@ use shelf_records::{LinkedShelf, Records};
 const WALKED_ITEMS: u32 = 64;
 
 /// Nor does a search that is made in place of sorting many shelves.
-const MANY_ITEMS: u32 = 1024;
+const MANY_ITEMS: u32 = 16384;
 
 /// What going through all shelves came to.
 #[derive(Clone, Copy)]
@@ -36,6 +36,16 @@ pub enum Walked {
     Through(Option<Candidate>),
     /// Not all were gone through.
     NotThrough,
+}
+
+impl Walked {
+    /// The shelf that has the place that was found, where it is of just this height.
+    pub fn exact_shelf(self, height: u32) -> Option<usize> {
+        match self {
+            Walked::Through(Some(found)) if found.rank <= height => Some(found.shelf),
+            _ => None,
+        }
+    }
 }
 
 /// What a look at a shelf came to.

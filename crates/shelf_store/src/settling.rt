@@ -24,7 +24,7 @@ use crate::settling::noting::settle_notes;
 use crate::starting::sort_shelves;
 use etagere_base::Frame;
 use shelf_heights::by_height::ShelvesByHeight;
-use shelf_notes::pending::PendingShelves;
+use shelf_notes::pending::{MOST_SEARCHES, PendingShelves};
 use shelf_records::{LinkedShelf, Records};
 
 /// Where no more than so many have changed, each is moved by itself.
@@ -64,12 +64,15 @@ const LOOKED_AT: usize = 16;
 
 const LOOKED_AT_FOR_ONE: usize = 8;
 
-/// After so many searches since a shelf has changed the list follows, but where all would be sorted and looks serve.
+/// After so many searches since a shelf has changed the list follows, but where all shelves would be listed anew.
 const FEW_SEARCHES: u32 = 16;
 
-/// So many first shelves are looked at then: in twice as many searches as there are shelves, which is no more work than to
-/// sort these.
-const LOOKED_AT_LATE: u32 = 32;
+/// There all are gone through in some more searches where they are few.
+const MORE_SEARCHES: u32 = 64;
+
+/// Else first ones are looked at while that serves, as if so many had changed at least, or all are gone through in some
+/// searches in turn: in no more than twice as many searches as there are shelves.
+const LATE_CHANGED: usize = 2;
 
 /// No more count as changed than there can be.
 const MOST_CHANGED: usize = 65535;
@@ -122,68 +125,101 @@ pub fn settle_for(
 pub enum ByPlace {
     /// All, since they are few: to make the list follow would be more work.
     All,
+    /// All, although they are many: to have all listed anew would be more work.
+    Many,
     /// So many first ones: where one of just the height has room, the list needn't follow.
     First(u32),
     /// None.
     NoShelves,
 }
 
-/// Which shelves this search goes through by place. It is counted as one since a shelf has changed.
+/// Which shelves this search for something so wide goes through by place. It is counted as one since a shelf has changed.
 pub fn by_place(
     records: &Records,
     by_height: &ShelvesByHeight,
     pending: &mut PendingShelves,
+    width: u32,
 ) -> ByPlace
     ensures notes { pending.new.notes ≡ pending.old.notes }
     ensures room { pending.new.room ≡ pending.old.room }
 {
     let searches = pending.count_search();
-    if searches >= FEW_SEARCHES {
-        return by_late_place(records, by_height, pending, searches);
-    }
-    if records.shelves().len() <= WALKED_IN_PLACE {
-        return ByPlace::All;
-    }
-    let is_early = searches < FIRST_SEARCHES || 2 * searches as usize <= pending.len();
-    if by_height.len() <= WALKED_AT_FIRST {
-        if are_few(records, by_height, pending, is_early) {
+    if searches < FEW_SEARCHES {
+        if records.shelves().len() <= WALKED_IN_PLACE {
             return ByPlace::All;
         }
-    } else if is_early {
-        return ByPlace::First(looked_at(pending.len()));
+        let is_early = searches < FIRST_SEARCHES || 2 * searches as usize <= pending.len();
+        if lists_most(records, by_height, pending) {
+            if are_few(records, by_height, pending, is_early) {
+                return ByPlace::All;
+            }
+        } else if pending.looks_serve() || (is_early && !lists_anew(by_height, pending, width)) {
+            return ByPlace::First(looked_at(pending.len()));
+        }
+    }
+    if lists_anew(by_height, pending, width) {
+        return by_late_place(records, by_height, pending, searches);
     }
     ByPlace::NoShelves
 }
 
-/// Which shelves a search goes through by place after so many since one has changed: some first ones, where the list would
-/// have to sort all to follow, and looks at the first ones have served so far. Never inlined, so that what calls it is short.
+/// Whether the list would have to list all shelves anew to follow, for a search of something so wide, and these are many.
+#[inline(always)]
+fn lists_anew(by_height: &ShelvesByHeight, pending: &PendingShelves, width: u32) -> bool {
+    let changed = pending.len();
+    width < pending.parked_below() || (changed > MANY && are_many(changed, by_height.len()))
+}
+
+/// Which shelves a search goes through by place, where the list would have to list all anew to follow, and so many searches were
+/// made since a shelf has changed. Never inlined, so that what calls it is short.
 #[inline(never)]
 fn by_late_place(
     records: &Records,
     by_height: &ShelvesByHeight,
-    pending: &PendingShelves,
+    pending: &mut PendingShelves,
     searches: u32,
-) -> ByPlace {
-    let changed = pending.len();
-    let may_wait = pending.looks_serve() && searches as usize / 2 <= records.shelves().len();
-    if may_wait && changed > MANY && are_many(changed, by_height.len()) {
-        ByPlace::First(LOOKED_AT_LATE)
+) -> ByPlace
+    ensures notes { pending.new.notes ≡ pending.old.notes }
+    ensures room { pending.new.room ≡ pending.old.room }
+{
+    if searches < MORE_SEARCHES
+        && lists_most(records, by_height, pending)
+        && are_few(records, by_height, pending, true)
+    {
+        return ByPlace::All;
+    }
+    if searches as usize / 2 > records.shelves().len() && searches < MOST_SEARCHES {
+        return ByPlace::NoShelves;
+    }
+    if pending.looks_serve() {
+        ByPlace::First(looked_at(pending.len().max(LATE_CHANGED)))
+    } else if pending.goes_far() {
+        ByPlace::Many
     } else {
         ByPlace::NoShelves
     }
 }
 
-/// Whether this search goes through all shelves in place of having them sorted, although they are many: some do in turn.
-pub fn goes_far(by_height: &ShelvesByHeight, pending: &mut PendingShelves) -> bool
+/// Whether this search for something so wide goes through all shelves, although they are many, since a look at the first ones
+/// was in vain and all would be listed anew: some in turn do.
+pub fn goes_far(by_height: &ShelvesByHeight, pending: &mut PendingShelves, width: u32) -> bool
     ensures notes { pending.new.notes ≡ pending.old.notes }
     ensures room { pending.new.room ≡ pending.old.room }
 {
-    are_many(pending.len(), by_height.len()) && pending.goes_far()
+    lists_anew(by_height, pending, width) && pending.goes_far()
 }
 
-/// How many first shelves are looked at where so many have changed: that is less work than to make the list follow these.
+/// How many first shelves are looked at where so many have changed: that is less work than to make the list follow these. There
+/// is a most, so that no search in turn goes through more and more.
 fn looked_at(changed: usize) -> u32 {
-    (LOOKED_AT + LOOKED_AT_FOR_ONE * changed.min(MOST_CHANGED)) as u32
+    (LOOKED_AT + LOOKED_AT_FOR_ONE * changed.min(MANY)) as u32
+}
+
+/// Whether few shelves are listed, and the list doesn't lack many more.
+fn lists_most(records: &Records, by_height: &ShelvesByHeight, pending: &PendingShelves) -> bool {
+    let may_lack_many = pending.len() > WALKED_CHANGES || pending.has_parked();
+    by_height.len() <= WALKED_AT_FIRST
+        && !(may_lack_many && records.shelves().len() > WALKED_RECORDS)
 }
 
 /// Whether shelves are so few that all are gone through in a search, which may be one of the first since one has changed.
@@ -194,10 +230,6 @@ fn are_few(
     is_early: bool,
 ) -> bool {
     let changed = pending.len();
-    let may_lack_many = changed > WALKED_CHANGES || pending.has_parked();
-    if may_lack_many && records.shelves().len() > WALKED_RECORDS {
-        return false;
-    }
     (by_height.len() <= WALKED || is_early)
         && (by_height.len() <= walked_in_place(changed) || have_moved(records, pending))
 }

@@ -1,5 +1,5 @@
 -- What a return does to records: a bucket has one item less, and shelves at the end are dropped.
-use Rattle.std.specs.Prelude.{ℕ, zero, suc, ◌≡◌, ◌<◌, ◌+◌, ◌-◌, ◌*◌, ◌/◌, ◌%◌, Bool, false, true, ◌&&◌, Option, None, Some, List, length, take, slice_get, nat_le, nat_lt, ◌==◌, if◌then◌else◌}
+use Rattle.std.specs.Prelude.{ℕ, zero, suc, ◌≡◌, ◌<◌, ◌+◌, ◌-◌, ◌*◌, ◌/◌, ◌%◌, Bool, false, true, ◌&&◌, not, Option, None, Some, List, length, take, slice_get, nat_le, nat_lt, ◌==◌, if◌then◌else◌}
 use Rattle.std.specs.Option.{option_map_or}
 use Rattle.etagere_links.specs.Edits.{changed_by, field_at}
 use Rattle.bucketed_model.specs.Picking.{or_else}
@@ -137,6 +137,15 @@ ends_idle shelves = option_map_or (λ (kept : KeptShelf). kept.live_items == 0) 
 pub record IsOnly (number : ℕ) (shelves : List KeptShelf) (buckets : List LinkedBucket) : Type 0 where
   pub bucket : nat_le (live_of buckets number) 1 ≡ true
   pub shelf : live_items_of shelves (shelf_of buckets number) ≡ 1
+
+-- the only live item of a shelf stands in this bucket, if one does, and no shelf can be dropped once it goes: another one is
+-- the last, and holds something live
+abbrev pub leaves_idle : ℕ → List KeptShelf → List LinkedBucket → Bool
+leaves_idle number shelves buckets =
+    nat_le (live_of buckets number) 1
+    && (live_items_of shelves (shelf_of buckets number) == 1)
+    && nat_lt (shelf_of buckets number + 1) (length shelves)
+    && not (ends_idle shelves)
 
 -- a bucket and its shelf each have more than one live item, and the last shelf has some
 pub record LeavesOthers (number : ℕ) (shelves : List KeptShelf) (buckets : List LinkedBucket) : Type 0 where

@@ -4,7 +4,7 @@ use Rattle.shelf_heights.proofs.ByHeight.Positions.{StandsAt, stands-found, stan
 use Rattle.shelf_heights.proofs.heights.position_by_halves.Goals as goal
 
 -- the shelf stands where halving finds it
-found : (c : goal.After-keep_position) → StandsAt c.args.shelf c.start_of-index.result.index c.args.by_height.now.items
+found : (c : goal.After-keep_sought) → StandsAt c.args.shelf c.start_of-index.result.index c.args.by_height.now.items
 found c = stands-found c.args.shelves.now c.args.shelf c.start_of-index.result.index c.start_of-index.result.probes c.args.by_height.now.items c.requires.order c.requires.stands c.start_of-index.ensures
 
 pub start_of-index-requires-clause-within : goal.start_of-index-requires-clause-within
