@@ -254,6 +254,58 @@ def first_search(shelves):
     return make
 
 
+def first_of_each_goes(shelves, columns):
+    """Full shelves of two heights in turn and two items each, of which the first goes, of one shelf after the other."""
+
+    def make(_program):
+        heights = [32 + 16 * (shelf % 2) for shelf in range(shelves)]
+        across = sum(heights) // columns + 48
+        filling = [f"atlas {112 * columns} {across} 1 1 {columns} h"]
+        filling += [f"a 56 {height}" for height in heights for _ in range(2)]
+        return filling, [f"r {2 * shelf}" for shelf in range(shelves)]
+
+    return make
+
+
+def first_of_heights_in_turn(shelves, count):
+    """Full shelves of so many heights in turn, of which as many first ones go and come, one after the other."""
+
+    def make(_program):
+        heights = [8 * (1 + shelf % count) for shelf in range(shelves)]
+        filling = [f"atlas 64 {sum(heights)} 1 1 1 h"] + [f"a 64 {height}" for height in heights]
+        items, lines = list(range(count)), []
+        for turn in range(ROUNDS):
+            shelf = turn % count
+            lines.append(f"r {items[shelf]}")
+            items[shelf] = shelves + len(lines)
+            lines.append(f"a 64 {heights[shelf]}")
+        return filling, lines
+
+    return make
+
+
+def narrower_just_after(shelves):
+    """Shelves of five heights that were just filled but for a gap each, and an item for the first gap that comes and goes."""
+
+    def make(_program):
+        heights = [(8, 12, 16, 24, 40)[shelf % 5] for shelf in range(shelves)]
+        filling = [f"atlas 64 {sum(heights) + 4 * shelves} 1 1 1 h"] + [f"a 54 {height}" for height in heights]
+        return filling, [line for n in range(50) for line in ("a 10 8", f"r {shelves + 2 * n}")]
+
+    return make
+
+
+def cleared_after(shelves):
+    """Full shelves of three heights, and then a clear and nine items, again and again."""
+
+    def make(_program):
+        heights = [8 * (1 + shelf % 3) for shelf in range(shelves)]
+        filling = [f"atlas 64 {sum(heights)} 1 1 1 h"] + [f"a 64 {height}" for height in heights]
+        return filling, [line for _ in range(10) for line in ["c"] + [f"a 64 {8 * (1 + n % 3)}" for n in range(9)]]
+
+    return make
+
+
 def drained_beside_first(shelves, later=("a 16 8", "a 4104 8")):
     """Full shelves that go in any order, while after each an item comes to the first shelf, and one is refused."""
 
@@ -370,6 +422,12 @@ ROWS = {
     "100 shelves of five heights, the same": Row(drained_of_heights(100), 135, before=260),
     "1600 full shelves of which every second went: the others go, from the last on": Row(second_half_drained(1600), 159),
     "3000 shelves of two heights, of which every third went: an item of either comes and goes": Row(first_search(3000), 236),
+    # Counted with plain geometry types, as the four behind it.
+    "600 full shelves of two heights and two items each: the first of each goes": Row(first_of_each_goes(600, 1), 95, before=224),
+    "1000 such shelves in 16 columns": Row(first_of_each_goes(1000, 16), 95, before=324),
+    "500 full shelves of three heights: the first three go and come, in turn": Row(first_of_heights_in_turn(500, 3), 181, before=291),
+    "1000 shelves that were just filled but for a gap each: an item comes and goes": Row(narrower_just_after(1000), 164, before=3364),
+    "500 full shelves that are cleared, for nine items: again and again": Row(cleared_after(500), 403, before=589),
     "an atlas without items is cleared": Row(cleared_empty, 115, before=201),
     "an atlas of 13 columns is cleared and gets four items": Row(columns_anew, 422, before=579),
     "4096 shelves, half of them empty: a split and a merge": Row(half_empty(16, 256), 26893, before=1754),
