@@ -306,6 +306,27 @@ def cleared_after(shelves):
     return make
 
 
+def first_among_holes(shelves, columns):
+    """Full shelves of three heights in turn, of which every second went, and then the first one goes and comes."""
+
+    def make(_program):
+        heights = [(80, 64, 48)[shelf % 3] for shelf in range(shelves)]
+        across = sum(heights) // columns + 80
+        filling = [f"atlas {64 * columns} {across} 1 1 {columns} h"] + [f"a 64 {height}" for height in heights]
+        filling += [f"r {shelf}" for shelf in range(1, shelves, 2)]
+        count = len(filling) - 1
+        return filling, goes_and_comes([0] * ROUNDS, count, f"a 64 {heights[0]}")
+
+    return make
+
+
+def cleared_in_columns(columns, some):
+    """A clear of an atlas of columns, and so many items of six heights, again and again."""
+    heights = (8, 16, 24, 32, 48, 64)
+    lines = [line for _ in range(ROUNDS // some) for line in ["c"] + [f"a {heights[n % 6]} 13" for n in range(some)]]
+    return lambda _program: ([f"atlas 74 {48 * columns} 2 2 {columns} v"], lines)
+
+
 def drained_beside_first(shelves, later=("a 16 8", "a 4104 8")):
     """Full shelves that go in any order, while after each an item comes to the first shelf, and one is refused."""
 
@@ -427,6 +448,11 @@ ROWS = {
     "1000 such shelves in 16 columns": Row(first_of_each_goes(1000, 16), 95, before=324),
     "500 full shelves of three heights: the first three go and come, in turn": Row(first_of_heights_in_turn(500, 3), 181, before=291),
     "1000 shelves that were just filled but for a gap each: an item comes and goes": Row(narrower_just_after(1000), 164, before=3364),
+    # Counted with its own types, as the next one.
+    "3000 full shelves of three heights in 16 columns, of which every second went: the first goes and comes": Row(
+        first_among_holes(3000, 16), 213, before=479
+    ),
+    "64 columns that are cleared for 18 items: again and again": Row(cleared_in_columns(64, 18), 757, before=996),
     "500 full shelves that are cleared, for nine items: again and again": Row(cleared_after(500), 403, before=589),
     "an atlas without items is cleared": Row(cleared_empty, 115, before=201),
     "an atlas of 13 columns is cleared and gets four items": Row(columns_anew, 422, before=579),

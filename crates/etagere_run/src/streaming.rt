@@ -96,7 +96,9 @@ fn stream_on_new<A: Beginning, W: Write>(
 }
 
 /// Writes the lines of the replies of an atlas to the commands, one after another. Where the writer fails, the atlas is
-/// as the command left it whose line was being written.
+/// as the command left it whose line was being written. Always inlined: where the atlas is the caller's own, no command goes
+/// through a reference to it then.
+#[inline(always)]
 pub fn stream_all<A: Answering, W: Write>(
     atlas: &mut A,
     ledger: Ledger,

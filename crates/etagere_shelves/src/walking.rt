@@ -76,7 +76,7 @@ fn walk_if_few(
         ByPlace::First(most) => return look_first(records, by_height, pending, width, height, most),
         ByPlace::NoShelves => return Walked::NotThrough,
     }
-    let walked = walk_shelves(records, width, height, height, WALKED_ITEMS);
+    let walked = walk_shelves(records, width, height, height, WALKED_ITEMS, &mut 0);
     match walked {
         Walked::Through(_) => pending.count_walk(),
         Walked::NotThrough => pending.rest_from_walks(),
@@ -84,7 +84,7 @@ fn walk_if_few(
     walked
 }
 
-/// Goes through all shelves, although they are many, up to one of just the height.
+/// Goes through all shelves, although they are many, up to one of just the height, and counts how many it passed.
 fn walk_all(records: &Records, pending: &mut PendingShelves, width: u32, height: u32) -> Walked
     requires linked { IsLinked records.now (walked_lists records.now) }
     requires short { height ≤ longest_side }
@@ -92,15 +92,14 @@ fn walk_all(records: &Records, pending: &mut PendingShelves, width: u32, height:
     ensures notes { pending.new.notes ≡ pending.old.notes }
     ensures room { pending.new.room ≡ pending.old.room }
 {
-    let walked = walk_many(records, width, height);
-    if let Some(shelf) = walked.exact_shelf(height) {
-        pending.count_exact(shelf);
-    }
+    let mut passed = 0;
+    let walked = walk_many(records, width, height, &mut passed);
+    pending.count_far(passed);
     walked
 }
 
-/// Goes through so many of the first shelves, for one of just the height, and in some searches in turn through all where there is
-/// none and all would be listed anew.
+/// Goes through so many of the first shelves, for one of just the height, and through all where there is none, all would be listed
+/// anew, and that is more work.
 fn look_first(
     records: &Records,
     by_height: &ShelvesByHeight,
@@ -121,7 +120,7 @@ fn look_first(
         return walked;
     }
     pending.count_look_in_vain();
-    if goes_far(by_height, pending, width) {
+    if goes_far(records, by_height, pending, width) {
         return walk_all(records, pending, width, height);
     }
     pending.rest_from_looks();

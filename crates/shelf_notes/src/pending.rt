@@ -33,11 +33,11 @@ const RESTED_FROM_LOOKS: u32 = 64;
 /// No more do once a parked shelf has room again: it may be one of the first.
 const RESTED_WITH_ROOM: u32 = 8;
 
-/// As many searches in turn may go far in place of having all shelves sorted.
-const FAR_IN_TURN: u32 = 64;
+/// So many shelves for each one that there is may be gone through in place of having all sorted.
+const FAR_FOR_EACH: usize = 32;
 
-/// The shelves of so many numbers are mostly the first.
-const FIRST_SHELVES: usize = 16;
+/// So many shelves are among the first ones that are looked at.
+const FIRST_SHELVES: usize = 32;
 
 /// Where more have changed than this, the list has much to follow, and no search counts as the last.
 const RESTED_WITH: usize = 2;
@@ -115,8 +115,8 @@ pub struct PendingShelves {
     in_vain: u32,
     /// Whether the last look at the first shelves was enough. Nothing rests on it.
     looks_serve: bool,
-    /// How many searches in turn went far. Nothing rests on it.
-    far: u32,
+    /// How many shelves were gone through by searches that went far, since all were listed. Nothing rests on it.
+    far: usize,
     /// What was asked for of late. Nothing rests on it.
     watch: Watch,
 }
@@ -306,24 +306,20 @@ impl PendingShelves {
         self.looks_serve
     }
 
-    /// Whether a search may go far in place of having all shelves sorted: some in turn may, and the one after them may not.
-    pub fn goes_far(&mut self) -> bool
-        ensures notes { self.new.notes ≡ self.old.notes }
-        ensures room { self.new.room ≡ self.old.room }
-    {
-        let goes = self.far < FAR_IN_TURN;
-        self.far = if goes { self.far + 1 } else { 0 };
-        goes
+    /// Whether a search may go far among so many shelves, in place of having all sorted: while what was gone through so is less work
+    /// than that.
+    pub fn goes_far(&self, shelves: usize) -> bool {
+        self.far / FAR_FOR_EACH < shelves
     }
 
-    /// Counts that a search that goes far found this shelf to be just as high. Where it is one of the first, a look at these would
-    /// have been enough, and as many in turn may go far as at first.
-    pub fn count_exact(&mut self, shelf: usize)
+    /// Counts that a search went through so many shelves in place of having all sorted. Where they are few, a look at the first ones
+    /// would have been enough.
+    pub fn count_far(&mut self, shelves: usize)
         ensures notes { self.new.notes ≡ self.old.notes }
         ensures room { self.new.room ≡ self.old.room }
     {
-        if shelf < FIRST_SHELVES {
-            self.far = 0;
+        self.far = self.far.saturating_add(shelves);
+        if shelves <= FIRST_SHELVES {
             self.looks_serve = true;
         }
     }
@@ -562,6 +558,7 @@ impl PendingShelves {
         self.narrow_below = 0;
         self.searches = MOST_SEARCHES;
         self.rested = 0;
+        self.far = 0;
         self.noted.clear();
         copy_all(&mut self.kept, shelves);
         know_all(&mut self.standing, shelves.len(), known);

@@ -38,16 +38,6 @@ pub enum Walked {
     NotThrough,
 }
 
-impl Walked {
-    /// The shelf that has the place that was found, where it is of just this height.
-    pub fn exact_shelf(self, height: u32) -> Option<usize> {
-        match self {
-            Walked::Through(Some(found)) if found.rank <= height => Some(found.shelf),
-            _ => None,
-        }
-    }
-}
-
 /// What a look at a shelf came to.
 enum Looked {
     /// What it offers, which ranks lower than what was found.
@@ -59,9 +49,16 @@ enum Looked {
 }
 
 /// Goes through all shelves for the first of least rank, where none that has room ranks below the least rank, and through
-/// no more than so many items of their free lists.
+/// no more than so many items of their free lists. Counts those that it passed.
 #[inline(always)]
-pub fn walk_shelves(records: &Records, width: u32, height: u32, least: u32, most: u32) -> Walked
+pub fn walk_shelves(
+    records: &Records,
+    width: u32,
+    height: u32,
+    least: u32,
+    most: u32,
+    passed: &mut usize,
+) -> Walked
     requires linked { IsLinked records.now (walked_lists records.now) }
     requires short { height ≤ longest_side }
     requires least { searching.RanksFrom records.now width height least }
@@ -73,6 +70,7 @@ pub fn walk_shelves(records: &Records, width: u32, height: u32, least: u32, most
     let mut left = most;
     let mut shelf = usize::from(records.first_shelf().bits());
     while shelf < NO_NUMBER {
+        *passed = passed.wrapping_add(1);
         let next = usize::from(next_link(records.shelves(), shelf).bits());
         match look_at(records, width, height, shelf, limit, &mut left) {
             Looked::Lower(candidate) => {
@@ -102,7 +100,7 @@ pub(crate) fn first_of_least_rank(records: &Records, width: u32, height: u32) ->
     requires short { height ≤ longest_side }
     ensures { result ≡ searching.best_candidate records.now width height }
 {
-    match walk_shelves(records, width, height, height, u32::MAX) {
+    match walk_shelves(records, width, height, height, u32::MAX, &mut 0) {
         Walked::Through(best) => best,
         Walked::NotThrough => None,
     }
@@ -116,17 +114,17 @@ pub(crate) fn walk_bad_fits(records: &Records, width: u32, height: u32) -> Walke
     requires bad { searching.RanksFrom records.now width height bad_fit_rank }
     ensures through { searching.IsThrough records.now width height result }
 {
-    walk_shelves(records, width, height, BAD_FIT_RANK, WALKED_ITEMS)
+    walk_shelves(records, width, height, BAD_FIT_RANK, WALKED_ITEMS, &mut 0)
 }
 
-/// Goes through all shelves, although they are many. Never inlined, since few searches do it.
+/// Goes through all shelves, although they are many, and counts those that it passed. Never inlined, since few searches do it.
 #[inline(never)]
-pub fn walk_many(records: &Records, width: u32, height: u32) -> Walked
+pub fn walk_many(records: &Records, width: u32, height: u32, passed: &mut usize) -> Walked
     requires linked { IsLinked records.now (walked_lists records.now) }
     requires short { height ≤ longest_side }
     ensures through { searching.IsThrough records.now width height result }
 {
-    walk_shelves(records, width, height, height, MANY_ITEMS)
+    walk_shelves(records, width, height, height, MANY_ITEMS, passed)
 }
 
 /// Goes through so many first shelves, up to one of just the height that has room: none ranks lower. It is given up where

@@ -34,7 +34,7 @@ const FEW: usize = 4;
 const MANY: usize = 32;
 
 /// To go through so many listed shelves in the first searches after one has changed is less work than to make the list
-/// follow: in as many searches as half of those that have changed, and in so many at least.
+/// follow: in twice as many searches as shelves have changed, and in so many at least.
 const WALKED_AT_FIRST: usize = 96;
 
 /// In so many searches after one has changed that many are gone through, however few have.
@@ -65,13 +65,13 @@ const LOOKED_AT: usize = 16;
 const LOOKED_AT_FOR_ONE: usize = 8;
 
 /// After so many searches since a shelf has changed the list follows, but where all shelves would be listed anew.
-const FEW_SEARCHES: u32 = 16;
+const FEW_SEARCHES: u32 = 32;
 
 /// There all are gone through in some more searches where they are few.
 const MORE_SEARCHES: u32 = 64;
 
-/// Else first ones are looked at while that serves, as if so many had changed at least, or all are gone through in some
-/// searches in turn: in no more than twice as many searches as there are shelves.
+/// Else first ones are looked at while that serves, as if so many had changed at least, or all are gone through while that is less
+/// work than to list all: in no more than twice as many searches as there are shelves.
 const LATE_CHANGED: usize = 2;
 
 /// No more count as changed than there can be.
@@ -148,7 +148,7 @@ pub fn by_place(
         if records.shelves().len() <= WALKED_IN_PLACE {
             return ByPlace::All;
         }
-        let is_early = searches < FIRST_SEARCHES || 2 * searches as usize <= pending.len();
+        let is_early = searches < FIRST_SEARCHES || searches as usize / 2 <= pending.len();
         if lists_most(records, by_height, pending) {
             if are_few(records, by_height, pending, is_early) {
                 return ByPlace::All;
@@ -193,7 +193,7 @@ fn by_late_place(
     }
     if pending.looks_serve() {
         ByPlace::First(looked_at(pending.len().max(LATE_CHANGED)))
-    } else if pending.goes_far() {
+    } else if pending.goes_far(records.shelves().len()) {
         ByPlace::Many
     } else {
         ByPlace::NoShelves
@@ -201,12 +201,14 @@ fn by_late_place(
 }
 
 /// Whether this search for something so wide goes through all shelves, although they are many, since a look at the first ones
-/// was in vain and all would be listed anew: some in turn do.
-pub fn goes_far(by_height: &ShelvesByHeight, pending: &mut PendingShelves, width: u32) -> bool
-    ensures notes { pending.new.notes ≡ pending.old.notes }
-    ensures room { pending.new.room ≡ pending.old.room }
-{
-    lists_anew(by_height, pending, width) && pending.goes_far()
+/// was in vain and all would be listed anew.
+pub fn goes_far(
+    records: &Records,
+    by_height: &ShelvesByHeight,
+    pending: &PendingShelves,
+    width: u32,
+) -> bool {
+    lists_anew(by_height, pending, width) && pending.goes_far(records.shelves().len())
 }
 
 /// How many first shelves are looked at where so many have changed: that is less work than to make the list follow these. There
@@ -290,7 +292,7 @@ pub fn settle_shelves(
     }
 }
 
-/// Lists all shelves in use anew. None is parked then.
+/// Lists all shelves in use anew, and keeps their positions, so that a return finds its own. None is parked then.
 fn list_all(
     frame: &Frame,
     records: &Records,
@@ -306,11 +308,11 @@ fn list_all(
     ensures room { pending.new.room ≡ pending.old.room }
 {
     sort_shelves(frame, records, by_height);
+    by_height.keep_positions();
     settle_notes(records, by_height, pending);
 }
 
-/// Makes the list follow what was noted. Where all shelves are listed anew their positions are kept, so that a return finds its
-/// own. Never inlined, so that a search after which nothing changed costs no call.
+/// Makes the list follow what was noted. Never inlined, so that a search after which nothing changed costs no call.
 #[inline(never)]
 fn settle_noted(
     frame: &Frame,
@@ -331,7 +333,6 @@ fn settle_noted(
 {
     if are_many(pending.len(), by_height.len()) {
         list_all(frame, records, by_height, pending);
-        by_height.keep_positions();
     } else {
         take_out_moved(records, by_height, pending);
         settle_each(frame, records, by_height, pending);

@@ -14,4 +14,7 @@ sort_shelves-requires-clause-room c =
     )
 
 pub settle_notes-requires-clause-list : goal.settle_notes-requires-clause-list
-settle_notes-requires-clause-list c = record { frame = c.args.frame.now; kept = c.requires.kept; by_height = c.sort_shelves.ensures.by_height }
+settle_notes-requires-clause-list c = record { frame = c.args.frame.now; kept = c.requires.kept; by_height = rw c.keep_positions.ensures c.sort_shelves.ensures.by_height }
+
+pub returns-clause-by_height : goal.returns-clause-by_height
+returns-clause-by_height c = rw c.keep_positions.ensures c.sort_shelves.ensures.by_height

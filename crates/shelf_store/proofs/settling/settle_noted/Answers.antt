@@ -7,7 +7,7 @@ take_out_moved-requires c = record { list = record { frame = c.args.frame.now; k
 
 pub returns-then-are_many-clause-by_height : goal.returns-then-are_many-clause-by_height
 returns-then-are_many-clause-by_height c =
-    rw c.keep_positions.ensures (settled-holds c.args.frame.now c.args.records.now c.list_all.new.pending.notes c.list_all.new.by_height.items c.requires.kept c.list_all.ensures.by_height c.list_all.ensures.settled)
+    settled-holds c.args.frame.now c.args.records.now c.list_all.new.pending.notes c.list_all.new.by_height.items c.requires.kept c.list_all.ensures.by_height c.list_all.ensures.settled
 
 pub returns-then-are_many-clause-none_waits : goal.returns-then-are_many-clause-none_waits
 returns-then-are_many-clause-none_waits c = settled-none c.args.records.now c.list_all.new.pending.notes c.list_all.ensures.settled
