@@ -96,13 +96,15 @@ impl GlyphCache {
         }
     }
 
-    /// The keys at the front of the buffer, which goes with them where there are any, so that this takes no memory.
+    /// A copy of the keys at the front of the buffer. Where there is no memory for one, the buffer itself goes with them.
     fn taken_evicted(&mut self, count: usize) -> Vec<u64> {
-        if count == 0 {
-            return Vec::new();
+        let mut evicted = Vec::new();
+        if evicted.try_reserve_exact(count).is_ok() {
+            evicted.extend_from_slice(&self.evicted[..count]);
+        } else {
+            evicted = mem::take(&mut self.evicted);
+            evicted.truncate(count);
         }
-        let mut evicted = mem::take(&mut self.evicted);
-        evicted.truncate(count);
         evicted
     }
 

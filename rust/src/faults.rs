@@ -97,12 +97,12 @@ faults! {
         Counts = 2, "there are too few or too many records of a kind";
         /// A link names no record or not the one that it must.
         Link = 3, "a link names no record or another one than it must";
-        /// The shelves don't fill each column, column after column.
-        Shelves = 4, "the shelves don't fill each column";
+        /// The shelves don't stand column after column, from the column's begin on; those of a shelf atlas fill each.
+        Shelves = 4, "the shelves don't stand in their columns as they must";
         /// The items of a shelf, or its buckets, don't fill it as they must.
         Runs = 5, "the items or buckets of a shelf don't fill it";
-        /// Two free items stand side by side, or two empty shelves of a column.
-        Neighbours = 6, "two free items or two empty shelves are neighbours";
+        /// Two free items stand side by side, or two empty shelves of a column; the last shelf of buckets holds nothing.
+        Neighbours = 6, "two free items or empty shelves are neighbours, or the last shelf of buckets is empty";
         /// The free list of a shelf hasn't each of its free items once.
         FreeList = 7, "a free list hasn't each free item once";
         /// A record is in no list or in two, or a list doesn't end.

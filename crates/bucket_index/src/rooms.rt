@@ -20,12 +20,23 @@ const FEW_RECORDS: usize = 64;
 /// that has told nothing of late.
 const EXACT_IN_TURN: usize = 32;
 
+/// Where so many items in turn came back, and one for each eight records, nothing is counted any more: it may be long until
+/// one is placed. After each time it takes twice as many, up to this often.
+const RETURNED_IN_TURN: usize = 32;
+
+const MOST_PATIENCE: u32 = 6;
+
 /// How many records can give a width of each slot. What is counted as 65535 may be more.
 #[derive(Clone, Copy)]
 pub struct Rooms {
     pub are_counted: bool,
     /// How many items in turn got just the room that was found, since they are counted.
     pub exact: usize,
+    /// How many items may come back in turn before nothing is counted any more, and how many more may.
+    pub in_turn: usize,
+    pub left: usize,
+    /// How often many came back in turn.
+    pub patience: u32,
     pub counts: [u16; SLOTS],
 }
 
@@ -91,17 +102,24 @@ impl Rooms {
         Rooms {
             are_counted: false,
             exact: 0,
+            in_turn: 0,
+            left: 0,
+            patience: 0,
             counts: [0; SLOTS],
         }
     }
 
-    /// Counts all of these records.
-    fn of(buckets: &[LinkedBucket]) -> Rooms
+    /// Counts all of these records, where many items came back in turn so often before.
+    fn of(buckets: &[LinkedBucket], patience: u32) -> Rooms
         ensures { spec.AreCounted result buckets.now }
     {
+        let in_turn = (RETURNED_IN_TURN + buckets.len() / 8) << patience.min(MOST_PATIENCE);
         let mut rooms = Rooms {
             are_counted: true,
             exact: 0,
+            in_turn,
+            left: in_turn,
+            patience,
             counts: [0; SLOTS],
         };
         for number in 0..buckets.len() {
@@ -135,6 +153,7 @@ impl Rooms {
         let are_many = buckets.len() > FEW_RECORDS && shelves > 1;
         let is_exact = u32::from(room) == width;
         if self.are_counted {
+            self.left = self.in_turn;
             self.count_exact(is_exact, buckets.len());
         } else if !is_exact && are_many {
             self.count(buckets);
@@ -161,7 +180,7 @@ impl Rooms {
     fn count(&mut self, buckets: &[LinkedBucket])
         ensures { spec.AreCounted self.new buckets.now }
     {
-        *self = Rooms::of(buckets);
+        *self = Rooms::of(buckets, self.patience);
     }
 
     /// Whether a record may give just this width.
@@ -186,6 +205,36 @@ impl Rooms {
         if self.are_counted {
             self.change(before, room_at(buckets, number));
         }
+    }
+
+    /// The same where an item came back. Where many do in turn, what was counted is forgotten.
+    #[inline(always)]
+    pub fn follow_return(&mut self, buckets: &[LinkedBucket], number: usize, before: u16)
+        requires { number < length buckets.now }
+        ensures { (others : List LinkedBucket) (bucket : LinkedBucket)
+            → slice_get buckets.now number ≡ Some bucket
+            → spec.AreCounted self.old others
+            → spec.IsOneChanged before (spec.record_room bucket) others buckets.now
+            → spec.AreCounted self.new buckets.now }
+    {
+        if !self.are_counted {
+            return;
+        }
+        if self.left == 0 {
+            self.give_up();
+            return;
+        }
+        self.left -= 1;
+        self.change(before, room_at(buckets, number));
+    }
+
+    /// Forgets what was counted, since many items came back in turn.
+    #[inline(never)]
+    fn give_up(&mut self)
+        ensures { (buckets : List LinkedBucket) → spec.AreCounted self.new buckets }
+    {
+        self.patience = self.patience.saturating_add(1);
+        self.are_counted = false;
     }
 
     /// Knows that a record can give another width than before.

@@ -510,7 +510,7 @@ impl Store {
         let room = room_of(&self.buckets, number);
         return_item(&mut self.shelves, &mut self.buckets, number);
         self.spans.track(&self.buckets, number, room);
-        self.rooms.follow_record(&self.buckets, number, room);
+        self.rooms.follow_return(&self.buckets, number, room);
         if !ends_idle(&self.shelves) {
             self.blocks.follow_returned(&self.shelves, shelf, before);
             let first = first_bucket(&self.shelves, shelf);
@@ -892,7 +892,7 @@ fn return_known(
     let room = room_of(buckets, number);
     return_only(shelves, buckets, number);
     spans.track(buckets, number, room);
-    rooms.follow_record(buckets, number, room);
+    rooms.follow_return(buckets, number, room);
 }
 
 /// Whether spans or rooms are known: else they are right for any buckets.

@@ -126,7 +126,7 @@ pub extern "C" fn etagere_bucketed_deallocate(atlas: &mut EtagereBucketed, id: u
 
 /// Takes everything back at once: the atlas is as new, with its present size and columns.
 ///
-/// Answers ETAGERE_OK; ETAGERE_NULL_HANDLE. Takes no memory, and constant time.
+/// Answers ETAGERE_OK; ETAGERE_NULL_HANDLE. Takes no memory, and constant time with up to 32 shelves, else a step for each 8.
 #[unsafe(no_mangle)]
 pub extern "C" fn etagere_bucketed_clear(atlas: &mut EtagereBucketed) -> u32
     ensures null { (result ≡ statuses.null_handle) ↔ (atlas.old.state ≡ None) }

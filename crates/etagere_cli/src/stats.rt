@@ -12,6 +12,9 @@ use tool_answers::{plot_text, series_of};
 
 /// What is told of a script or a snapshot, in the form that the arguments ask for.
 pub fn stats(alloc: Global, input: &[u8], given: &ArgMatches<'_>) -> Result<Answer, Failure> {
+    if given.get_flag("plot") && given.get_flag("json") {
+        return Err(Failure::Misused("--json and --plot exclude each other"));
+    }
     let text = if given.get_flag("plot") {
         plot(alloc, input)?
     } else {

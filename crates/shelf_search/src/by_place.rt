@@ -183,6 +183,9 @@ fn look_at(
     if own < height || limit <= own {
         return Looked::NotLower;
     }
+    if limit <= BAD_FIT_RANK && is_bad_fit(records, height, shelf) {
+        return Looked::NotLower;
+    }
     let rank = rank_of(records, height, shelf);
     if limit <= rank {
         return Looked::NotLower;
@@ -192,6 +195,16 @@ fn look_at(
         Some(Searched::Widest(_)) => Looked::NotLower,
         None => Looked::Unknown,
     }
+}
+
+/// Whether a shelf is in use and too tall for a good fit. Tested by branches, since many of those that are passed are.
+fn is_bad_fit(records: &Records, height: u32, shelf: usize) -> bool
+    requires within { shelf < length records.now.shelves }
+    requires short { height ≤ longest_side }
+    ensures { result ≡ true → searching.rank_of records.now.shelves height shelf ≡ bad_fit_rank }
+{
+    let record = &records.shelves()[shelf];
+    !record.is_empty && u32::from(record.height) > height + height / 2
 }
 
 /// Whether no item of a shelf is free: then it offers nothing.

@@ -277,6 +277,9 @@ fn first_of_rest(
     ensures by_height { AreSearchable records.now by_height.new.items }
     ensures capacity { by_height.old.capacity ≤ by_height.new.capacity }
 {
+    if rest == by_height.len() {
+        return None;
+    }
     let empty = first_empty(records, by_height, rest, column_width, width, height);
     if empty.is_some() {
         return empty;

@@ -22,6 +22,6 @@ returns-clause-rooms c =
     let number = c.args.number in
     let width = width_of c.args.shelves.now (shelf_of buckets number) in
     let one = is-there number buckets c.requires.number in
-    subst (λ (bs : List LinkedBucket). AreCounted c.follow_record.new.self bs) (sym c.return_only.ensures.buckets)
-    (followed number c.room_of-room.result (returned_record width) buckets c.return_only.new.buckets one.bucket c.args.rooms.now c.follow_record.new.self c.return_only.ensures.buckets one.at
-    (c.room_of-room.ensures one.bucket one.at) c.requires.rooms c.follow_record.ensures)
+    subst (λ (bs : List LinkedBucket). AreCounted c.follow_return.new.self bs) (sym c.return_only.ensures.buckets)
+    (followed number c.room_of-room.result (returned_record width) buckets c.return_only.new.buckets one.bucket c.args.rooms.now c.follow_return.new.self c.return_only.ensures.buckets one.at
+    (c.room_of-room.ensures one.bucket one.at) c.requires.rooms c.follow_return.ensures)

@@ -168,9 +168,9 @@ invariant_of-self c =
       subst (AreKnown c.follow_returned.new.self) c.deref-then-not-ends_idle.ensures.value c.follow_returned.ensures,
       subst (AreSpans c.track.new.self) c.deref-5.ensures.value c.track.ensures,
       subst (IsRest c.know.new.self) (sym (items ∙ returned)) known,
-      subst (AreCounted c.follow_record.new.self) (sym (items ∙ returned))
-          (followed number c.room_of-room.result (returned_record width) inside.buckets.items c.deref-6.result.now one.bucket inside.rooms c.follow_record.new.self (c.deref-6.ensures.value ∙ items ∙ returned) one.at
-          (c.room_of-room.ensures one.bucket (ap (λ (bs : List LinkedBucket). slice_get bs number) c.deref-4.ensures.value ∙ one.at)) c.self.invariant.3 c.follow_record.ensures),
+      subst (AreCounted c.follow_return.new.self) (sym (items ∙ returned))
+          (followed number c.room_of-room.result (returned_record width) inside.buckets.items c.deref-6.result.now one.bucket inside.rooms c.follow_return.new.self (c.deref-6.ensures.value ∙ items ∙ returned) one.at
+          (c.room_of-room.ensures one.bucket (ap (λ (bs : List LinkedBucket). slice_get bs number) c.deref-4.ensures.value ∙ one.at)) c.self.invariant.3 c.follow_return.ensures),
       below,
       subst (IsMissed c.follow.new.self) c.deref-then-not-ends_idle-3.ensures.value c.follow.ensures,
     )
@@ -247,17 +247,17 @@ invariant_of-self-2 c =
     with_items_is inside.buckets c.return_item.new.buckets (omega (arith, c.return_item.auto.buckets, c.deref_mut-2.ensures.len)) in
     let returned : c.return_item.new.buckets ≡ changed_by (Some number) (returned_record width) inside.buckets.items =
     c.return_item.ensures.buckets ∙ ap (λ (bs : List LinkedBucket). changed_by (Some number) (returned_record width) bs) c.deref_mut-2.ensures.value in
-    let counted : AreCounted c.follow_record.new.self (with_items inside.buckets c.return_item.new.buckets).items =
-    subst (AreCounted c.follow_record.new.self) (sym (items ∙ returned))
-    (followed number c.room_of-room.result (returned_record width) inside.buckets.items c.deref-6.result.now one.bucket inside.rooms c.follow_record.new.self (c.deref-6.ensures.value ∙ items ∙ returned) one.at
-    (c.room_of-room.ensures one.bucket (ap (λ (bs : List LinkedBucket). slice_get bs number) c.deref-4.ensures.value ∙ one.at)) c.self.invariant.3 c.follow_record.ensures) in
+    let counted : AreCounted c.follow_return.new.self (with_items inside.buckets c.return_item.new.buckets).items =
+    subst (AreCounted c.follow_return.new.self) (sym (items ∙ returned))
+    (followed number c.room_of-room.result (returned_record width) inside.buckets.items c.deref-6.result.now one.bucket inside.rooms c.follow_return.new.self (c.deref-6.ensures.value ∙ items ∙ returned) one.at
+    (c.room_of-room.ensures one.bucket (ap (λ (bs : List LinkedBucket). slice_get bs number) c.deref-4.ensures.value ∙ one.at)) c.self.invariant.3 c.follow_return.ensures) in
     let buckets : (with_items (with_items inside.buckets c.return_item.new.buckets) c.drop_idle_end-dropped.new.buckets).items ≡ c.drop_idle_end-dropped.new.buckets =
     with_items_is (with_items inside.buckets c.return_item.new.buckets) c.drop_idle_end-dropped.new.buckets (omega (arith, c.drop_idle_end-dropped.auto.buckets, c.deref_mut-3.ensures.len)) in (
       subst (AreKnown c.follow_dropped.new.self) c.deref-8.ensures.value c.follow_dropped.ensures,
       c.forget_where_none.ensures.kept _ (subst (AreSpans c.drop_idle_end-dropped.new.spans) (sym buckets) c.drop_idle_end-dropped.ensures.spans),
       c.forget.ensures _,
-      subst (AreCounted c.follow_record.new.self) (sym buckets)
-          (counted-same c.follow_record.new.self (with_items inside.buckets c.return_item.new.buckets).items c.drop_idle_end-dropped.new.buckets counted
+      subst (AreCounted c.follow_return.new.self) (sym buckets)
+          (counted-same c.follow_return.new.self (with_items inside.buckets c.return_item.new.buckets).items c.drop_idle_end-dropped.new.buckets counted
           (λ slot. ap (λ (done : Dropping). tally slot done.stored.buckets) c.drop_idle_end-dropped.ensures.dropped
           ∙ dropped-kept slot (vec_len (with_items inside.shelves c.return_item.new.shelves)) (dropping_of (with_items inside.shelves c.return_item.new.shelves).items c.deref_mut-3.result.now inside.unused 0)
           ∙ ap (tally slot) c.deref_mut-3.ensures.value)),
