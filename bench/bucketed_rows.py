@@ -111,6 +111,16 @@ def emptied(shelves):
     return make
 
 
+def every_second_goes(shelves):
+    """Shelves of a bucket each, whose items leave a little room, of which every second goes."""
+
+    def make(_program):
+        filling = [f"bucketed 64 {16 * shelves} 1 1 1 h"] + ["a 60 16"] * shelves
+        return filling, [f"r {position}" for position in range(1, shelves - 1, 2)]
+
+    return make
+
+
 def emptied_from_last(shelves):
     """Full shelves of a bucket each, which all but the first go, from the last on."""
 
@@ -345,7 +355,9 @@ ROWS = {
     "16 full shelves that are emptied in any order": Row(emptied(16), 80, before=136),
     "40 such shelves": Row(emptied(40), 80, before=194),
     "4095 such shelves": Row(emptied(BUCKETS), 80, before=245),
-    "1000 such shelves, from the last on": Row(emptied_from_last(1000), 143, before=257),
+    # Counted with plain geometry types.
+    "1100 shelves with a little room, of which every second goes": Row(every_second_goes(1100), 80, before=176),
+    "1000 full shelves, from the last on": Row(emptied_from_last(1000), 143, before=257),
     "200 labels that go from the last on": Row(labels_from_last(200), 132, before=250),
     "4095 shelves of two items, of which one went: the others go, from the last on": Row(last_of_two_go(BUCKETS), 143, before=281),
     "1600 shelves, of which each eighth has an item: these go, from the last on": Row(some_left_go(1600, 8), 416, before=594),

@@ -79,6 +79,11 @@ def too_tall(shelves, height, taller=None):
     return make
 
 
+def refused_full(shelves):
+    """Full shelves, and an item that is refused again and again."""
+    return lambda _program: ([f"atlas 64 {8 * shelves} 1 1 1 h"] + ["a 64 8"] * shelves, ["a 64 8"] * ROUNDS)
+
+
 def drained(shelves, in_order):
     """Shelves of one item each, of which all go."""
 
@@ -435,6 +440,9 @@ ROWS = {
     "1600 shelves with room that are too tall": Row(too_tall(1600, 40), 13902, before=213654),
     "8000 such shelves": Row(too_tall(8000, 16), 68318, before=1112996),
     "8000 such shelves, and an empty taller one": Row(too_tall(8000, 16, 1000), 68318, before=486340),
+    # Counted with plain geometry types, as the next one.
+    "64 such shelves of 40, and an empty taller one": Row(too_tall(64, 40, 1000), 844, before=1013, most=1012),
+    "one full shelf: an item is refused": Row(refused_full(1), 152, before=211),
     "8000 shelves drained in order": Row(drained(8000, True), 134, before=4954),
     "16000 shelves drained in any order": Row(drained(16000, False), 134, before=7947),
     "32000 shelves drained in any order": Row(drained(32000, False), before=14068, most=600),
