@@ -35,6 +35,9 @@
 extern "C" {
 #endif
 
+/* The release that this header belongs to, as is its libetagere.a. */
+#define ETAGERE_VERSION "0.9.33"
+
 /* One of the numbers below. */
 typedef uint32_t EtagereStatus;
 
