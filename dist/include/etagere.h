@@ -35,6 +35,9 @@
 extern "C" {
 #endif
 
+/* The release that this header belongs to, as is its libetagere.a. */
+#define ETAGERE_VERSION "0.9.33"
+
 /* One of the numbers below. */
 typedef uint32_t EtagereStatus;
 
@@ -358,8 +361,8 @@ EtagereStatus etagere_atlas_largest_free(EtagereAtlas *atlas, EtagereSize *size)
 
 /* Makes the atlas larger. What is allocated keeps its place, its id and its index.
  * Answers ETAGERE_OK; ETAGERE_NULL_HANDLE; ETAGERE_GROW_.., the first fault, ETAGERE_GROW_MEMORY only where there is
- * no other, the grow needs records and there was no memory. Goes through all shelves, for wider columns through
- * all items too, and sorts the shelves. */
+ * no other, the grow needs records and there was no memory. Takes constant time where columns stay as they are; else
+ * it goes through all shelves, for wider columns through all items too, and sorts the shelves. */
 EtagereStatus etagere_atlas_grow(EtagereAtlas *atlas, EtagereSize size);
 
 /* Fills a null handle with an atlas that equals this one, its ids and later answers too. The atlas stays, and shares
@@ -450,7 +453,8 @@ EtagereStatus etagere_bucketed_allocate(EtagereBucketed *atlas, EtagereSize size
 EtagereStatus etagere_bucketed_deallocate(EtagereBucketed *atlas, uint32_t id);
 
 /* Takes everything back at once: the atlas is as new, with its present size and columns.
- * Answers ETAGERE_OK; ETAGERE_NULL_HANDLE. Takes no memory, and constant time. */
+ * Answers ETAGERE_OK; ETAGERE_NULL_HANDLE. Takes no memory, and constant time with up to 32 shelves, else a step for
+ * each 8. */
 EtagereStatus etagere_bucketed_clear(EtagereBucketed *atlas);
 
 /* Gives the size of the atlas, as it was made or has grown. The atlas stays.
